@@ -1,0 +1,50 @@
+use mathlib.Core.Path.{_≡_, ap, _∙_}
+use Prim.Native.Nat.{_+_, _%_, _<_}
+use native.Mathlib.Omega.{arith}
+use mir.Syntax.{w32}
+use mir.ValLaws.{toZ-ofZ}
+use Rattle.metrics.specs.Lanes.{bitsOf}
+use Rattle.metrics.proofs.LaneLaws.{apart-code}
+use borrow.Author.Needs.{needs}
+use Rattle.metrics.proofs.apart.Statement.{statement}
+use Rattle.metrics.proofs.apart.Tie as tie
+use Rattle.metrics.proofs.apart.Reads as reads
+use Rattle.metrics.proofs.apart.Lts as lts
+use Rattle.metrics.proofs.bits.Reads as bits-reads
+use Rattle.metrics.proofs.fold.Reads as fold-reads
+use Rattle.std.proofs.num.wrapping_sub_u32.Reads as wrapping-sub-u32-reads
+
+-- src/lib.rt:89:37
+bits-requires : tie.Need-bits-requires
+bits-requires c κs = search needs
+
+-- src/lib.rt:89:46
+bits-requires-2 : tie.Need-bits-requires-2
+bits-requires-2 c κs = search needs
+
+-- src/lib.rt:89:10
+wrapping-sub-u32-requires : tie.Need-wrapping-sub-u32-requires
+wrapping-sub-u32-requires c κs = search needs
+
+-- src/lib.rt:89:5
+fold-requires : tie.Need-fold-requires
+fold-requires c κs = search needs
+
+-- src/lib.rt:86:1
+returns : tie.Need-returns
+returns c =
+    λ h.
+    let s = c .before .before .before .before in
+    let x = s .args .x in
+    let y = s .args .y in
+    let ex = rw (toZ-ofZ w32 x (s .fits .x)) at (c .before .before .before .bits .ensures) in
+    let ey = rw (toZ-ofZ w32 y (s .fits .y)) at (c .before .before .bits2 .ensures) in
+    let w = c .before .wrapping-sub-u32 .result in
+    let hw : w < 4294967296 = omega (arith, c .before .wrapping-sub-u32 .ok) in
+    let e : (w + bitsOf y) % 4294967296 ≡ bitsOf x = rw (← ex, ← ey) (c .before .wrapping-sub-u32 .ensures) in
+    (c .fold .ensures) ∙ apart-code x y w hw e h
+
+pub apart-spec : {M : Type 1} → statement M
+apart-spec =
+    tie.close
+    (tie.spec bits-requires bits-requires-2 wrapping-sub-u32-requires fold-requires returns)

@@ -1,0 +1,38 @@
+-- What the parts of the fast pass over two rows promise. No public promise cites this file.
+use Prim.Native.Nat.{ℕ, _+_, _-_, _*_, _≤_, _<_}
+use mathlib.Core.Bool.{cond}
+use mathlib.Core.Path.{_≡_}
+use mathlib.Core.List.{List}
+use lib.Dec.{leb, ltb}
+use lib.ListN.{length, getD}
+use lib.IntN.{ℤ, pos, negsuc}
+use Rattle.metrics.specs.declared.Sums.{Sums}
+use Rattle.metrics.specs.Letters.{codeOf}
+use Rattle.metrics.specs.Similarity.{magnitudeSum, sumD, sumN}
+
+-- the bits of a signed number of 32 bits, and the magnitude of the number that has these bits
+abbrev pub bitsOf : ℤ → ℕ
+bitsOf (pos n) = n
+bitsOf (negsuc n) = 4294967295 - n
+
+abbrev pub foldOf : ℕ → ℕ
+foldOf u = cond (ltb u 2147483648) u (4294967296 - u)
+
+-- one turn
+pub record Turned (m p q z : ℕ) (s r : Sums) : Type 0 where
+  pub grows : s .most ≤ r .most
+  pub holds-p : p ≤ r .most
+  pub holds-q : q ≤ r .most
+  pub more-d : p + q < 2147483648 → s .d + (p + q) < 4294967296 → r .d ≡ s .d + cond (leb m (p + q)) (p + q) 0
+  pub more-n : p + q < 2147483648 → s .n + z < 4294967296 → r .n ≡ s .n + cond (leb m (p + q)) z 0
+
+-- a whole pass: `most` bounds each entry, and where the rows are within their limit and `most` below top the sums are right
+pub record Summed (top m : ℕ) (a b : List ℤ) (r : Sums) : Type 0 where
+  pub room-a : magnitudeSum a ≤ length a * r .most
+  pub room-b : magnitudeSum b ≤ length b * r .most
+  pub exact-d : magnitudeSum a ≤ 8388608 → magnitudeSum b ≤ 8388608 → r .most < top → r .d ≡ sumD m a b
+  pub exact-n : magnitudeSum a ≤ 8388608 → magnitudeSum b ≤ 8388608 → r .most < top → r .n ≡ sumN m a b
+
+-- a table that has the code of each byte
+pub record Coded (t : List ℕ) : Type 0 where
+  pub at : (b : ℕ) → b < 256 → getD t b 0 ≡ codeOf b

@@ -1,0 +1,3 @@
+pub mod Similarity
+pub mod Letters
+pub mod Lanes

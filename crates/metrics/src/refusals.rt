@@ -1,0 +1,44 @@
+// The numbers of document 01's refusals, each with the table's words. 0 is an accepted call.
+pub const ACCEPTED: u32 = 0;
+// k not 1 to 6
+pub const BAD_K: u32 = 1;
+// a float setting is NaN or outside its range
+pub const BAD_FLOAT: u32 = 2;
+// a whole-number setting over its limit
+pub const BAD_NUMBER: u32 = 3;
+// no variants
+pub const NO_VARIANTS: u32 = 4;
+// over 64 variants or over 64 parts
+pub const TOO_MANY: u32 = 5;
+// lent lengths disagree with V, m or 4^k
+pub const BAD_LENGTHS: u32 = 6;
+// a start is greater than its end
+pub const START_AFTER_END: u32 = 7;
+// a start is less than the row before's
+pub const FALLING_START: u32 = 8;
+// a size over its limit
+pub const BAD_SIZE: u32 = 9;
+// a feature row over its limit
+pub const BAD_ROW: u32 = 10;
+// search mode, and queue room under 1 + (maxpaths + 1) × V entries
+pub const QUEUE_ROOM: u32 = 11;
+// answer room under V rows
+pub const ANSWER_ROOM: u32 = 12;
+// a sequence over its letter limit
+pub const TOO_MANY_LETTERS: u32 = 13;
+// unknown kind
+pub const UNKNOWN_KIND: u32 = 20;
+// input ends inside a record or without 0x00
+pub const CUT_SHORT: u32 = 21;
+// out of place
+pub const OUT_OF_PLACE: u32 = 22;
+// padding not zero
+pub const BAD_PADDING: u32 = 23;
+// a flag not 0 or 1
+pub const BAD_FLAG: u32 = 24;
+// bytes after 0x00
+pub const BYTES_AFTER_END: u32 = 25;
+// over the program's own limits
+pub const TOO_LARGE: u32 = 26;
+// too little room
+pub const LITTLE_ROOM: u32 = 30;
