@@ -1,0 +1,142 @@
+-- Laws of chains and of their chainsFrom. Assumes nothing.
+use mathlib.Core.Path.{_≡_, refl, sym, ap, _∙_}
+use Prim.Native.Nat.{ℕ, zero, suc, _+_, _*_, _-_, _≤_, _<_}
+use native.Mathlib.Omega.{arith}
+use mathlib.Core.Bool.{Bool, true, false, _&&_, cond}
+use mathlib.Core.List.{List, [], _∷_, _++_}
+use lib.Dec.{leb, ltb, eqb}
+use lib.ListN.{length}
+use borrow.Author.Tests.{leb-true, leb-false, ltb-true, ltb-false, eqb-true, eqb-false, eq-eqb, lt-ltb, le-ltb, ne-eqb}
+use Rattle.paths.specs.Sums.{sumBy, bit, sameRows, timesIn}
+use Rattle.paths.specs.Chains.{endNode, extends, extensions, step, chain, chainsWithin, chainsFrom}
+use Rattle.paths.specs.Search.{scored, left}
+use Rattle.paths.proofs.SumLaws.{sum-append, sum-one, bit-and, bit-le, sameRows-eq, sameRows-refl}
+use Rattle.paths.proofs.SearchLaws.{conserve}
+
+and-left : (a b : Bool) → (a && b) ≡ true → a ≡ true
+and-left true b h = refl
+and-left false b h = h
+
+module _ (follows : List ℕ → ℕ → Bool) where
+  -- an extending row is later
+  pub extends-endNode : (c : List ℕ) (s : ℕ) → extends follows c s ≡ true → endNode c ≤ s
+  unfolding extends
+  extends-endNode c s h = leb-true (endNode c) s (and-left (leb (endNode c) s) (follows c s) h)
+
+  -- two weights that agree on c's extensions have one sum there
+  pub sum-extensions : (w w′ : List ℕ → ℕ) (c : List ℕ) (k : ℕ) → ((s : ℕ) → s < k → extends follows c s ≡ true → w (s ∷ c) ≡ w′ (s ∷ c))
+      → sumBy w (extensions follows k c) ≡ sumBy w′ (extensions follows k c)
+  unfolding extensions
+  sum-extensions w w′ c zero h = refl
+  sum-extensions w w′ c (suc k) h = go (extends follows c k) refl (sum-extensions w w′ c k (λ s l e. h s (omega arith) e))
+    where
+      go : (t : Bool) → extends follows c k ≡ t → sumBy w (extensions follows k c) ≡ sumBy w′ (extensions follows k c)
+          → sumBy w (cond t ((k ∷ c) ∷ extensions follows k c) (extensions follows k c)) ≡ sumBy w′ (cond t ((k ∷ c) ∷ extensions follows k c) (extensions follows k c))
+      go true e ih = omega (arith, h k (omega arith) e)
+      go false e ih = ih
+
+  -- no room, no extension
+  pub no-extensions : (w : List ℕ → ℕ) (c : List ℕ) (k : ℕ) → k ≤ endNode c → sumBy w (extensions follows k c) ≡ 0
+  no-extensions w c k h = sum-extensions w (λ _. 0) c k (λ s l e. absurd (omega (arith, extends-endNode c s e))) ∙ zeros (extensions follows k c)
+    where
+      zeros : (l : List (List ℕ)) → sumBy (λ _. 0) l ≡ 0
+      zeros [] = refl
+      zeros (x ∷ l) = omega (arith, zeros l)
+
+  module _ (n : ℕ) where
+    -- any fuel that is enough counts alike
+    enough : (f g : ℕ) (c : List ℕ) → n - endNode c ≤ f → n - endNode c ≤ g → chainsWithin follows n f c ≡ chainsWithin follows n g c
+    unfolding chainsWithin
+    enough zero zero c p q = refl
+    enough zero (suc g) c p q = omega (arith, no-extensions (λ e. chainsWithin follows n g e) c n (omega arith))
+    enough (suc f) zero c p q = omega (arith, no-extensions (λ e. chainsWithin follows n f e) c n (omega arith))
+    enough (suc f) (suc g) c p q =
+        ap suc (sum-extensions (λ e. chainsWithin follows n f e) (λ e. chainsWithin follows n g e) c n (λ s l e. enough f g (s ∷ c) (omega (arith, extends-endNode c s e)) (omega (arith, extends-endNode c s e))))
+
+    -- document 01's recursion: c itself, and the counts of its extensions
+    pub chainsFrom-step : (c : List ℕ) → chainsFrom follows n c ≡ 1 + sumBy (λ e. chainsFrom follows n e) (extensions follows n c)
+    unfolding chainsFrom chainsWithin
+    chainsFrom-step c =
+        let a : chainsWithin follows n (n - endNode c) c ≡ chainsWithin follows n (suc (n - endNode c)) c = enough (n - endNode c) (suc (n - endNode c)) c (omega arith) (omega arith) in
+        let b = sum-extensions (λ e. chainsWithin follows n (n - endNode c) e) (λ e. chainsFrom follows n e) c n (λ s l e. enough (n - endNode c) (n - suc s) (s ∷ c) (omega (arith, extends-endNode c s e)) (omega arith)) in
+        omega (arith, a, b)
+
+    -- how often x stands in the tree below c: at most once, as the recursion on x makes plain
+    pub inTree : List ℕ → List ℕ → ℕ
+    inTree [] c = bit (sameRows [] c)
+    inTree (s ∷ x) c = bit (sameRows (s ∷ x) c) + inTree x c * step follows n x s
+
+    -- how often s is the row of an extension of c below k
+    hits : List ℕ → ℕ → ℕ → ℕ
+    hits c s k = bit (ltb s k && extends follows c s)
+
+    hits-suc : (c : List ℕ) (s k : ℕ) → hits c s (suc k) ≡ bit (extends follows c k) * bit (eqb s k) + hits c s k
+    unfolding hits
+    hits-suc c s k = go (eqb s k) refl
+      where
+        bits : (t : Bool) → bit (true && t) ≡ bit t * 1 + bit (false && t)
+        bits true = refl
+        bits false = refl
+
+        go : (t : Bool) → eqb s k ≡ t → bit (ltb s (suc k) && extends follows c s) ≡ bit (extends follows c k) * bit t + bit (ltb s k && extends follows c s)
+        go true e =
+            let p : s ≡ k = eqb-true s k e in
+            rw (lt-ltb s (suc k) (omega arith), le-ltb s k (omega arith), p) (bits (extends follows c k))
+        go false e =
+            let p : s ≡ k → ⊥ = eqb-false s k e in
+            go2 (ltb s k) refl p
+          where
+            go2 : (t : Bool) → ltb s k ≡ t → (s ≡ k → ⊥) → bit (ltb s (suc k) && extends follows c s) ≡ bit (extends follows c k) * 0 + bit (t && extends follows c s)
+            go2 true e p = rw (lt-ltb s (suc k) (omega (arith, ltb-true s k e))) (omega arith)
+            go2 false e p = rw (le-ltb s (suc k) (omega (arith, ltb-false s k e))) (omega arith)
+
+    hits-none : (c : List ℕ) (s : ℕ) → hits c s 0 ≡ 0
+    unfolding hits
+    hits-none c s = rw (le-ltb s 0 (omega arith))
+
+    hits-all : (s : ℕ) (x c : List ℕ) (t : Bool) → sameRows x c ≡ t → bit t * hits c s n ≡ bit t * step follows n x s
+    unfolding hits step
+    hits-all s x c true e = rw (← sameRows-eq x c e)
+    hits-all s x c false e = omega arith
+
+    tree-extensions-nil : (c : List ℕ) (k : ℕ) → sumBy (λ e. inTree [] e) (extensions follows k c) ≡ 0
+    unfolding inTree
+    tree-extensions-nil c k = sum-extensions (λ e. inTree [] e) (λ _. 0) c k (λ s l e. refl) ∙ zeros (extensions follows k c)
+      where
+        zeros : (l : List (List ℕ)) → sumBy (λ _. 0) l ≡ 0
+        zeros [] = refl
+        zeros (x ∷ l) = omega (arith, zeros l)
+
+    tree-extensions : (s : ℕ) (x c : List ℕ) (k : ℕ)
+        → sumBy (λ e. inTree (s ∷ x) e) (extensions follows k c) ≡ bit (sameRows x c) * hits c s k + sumBy (λ e. inTree x e) (extensions follows k c) * step follows n x s
+    unfolding inTree extensions
+    tree-extensions s x c zero = rw (hits-none c s) (omega arith)
+    tree-extensions s x c (suc k) = go (extends follows c k) (hits-suc c s k) (tree-extensions s x c k)
+      where
+        go : (t : Bool) → hits c s (suc k) ≡ bit t * bit (eqb s k) + hits c s k
+            → sumBy (λ e. inTree (s ∷ x) e) (extensions follows k c) ≡ bit (sameRows x c) * hits c s k + sumBy (λ e. inTree x e) (extensions follows k c) * step follows n x s
+            → sumBy (λ e. inTree (s ∷ x) e) (cond t ((k ∷ c) ∷ extensions follows k c) (extensions follows k c))
+            ≡ bit (sameRows x c) * hits c s (suc k) + sumBy (λ e. inTree x e) (cond t ((k ∷ c) ∷ extensions follows k c) (extensions follows k c)) * step follows n x s
+        go true h ih = rw h (omega (arith, bit-and (eqb s k) (sameRows x c), ih))
+        go false h ih = rw h (omega (arith, ih))
+
+    -- x below c is c itself or stands below one extension of c
+    pub tree-step : (x c : List ℕ) → inTree x c ≡ bit (sameRows x c) + sumBy (λ e. inTree x e) (extensions follows n c)
+    unfolding inTree
+    tree-step [] c = omega (arith, tree-extensions-nil c n)
+    tree-step (s ∷ x) c = omega (arith, tree-extensions s x c n, tree-step x c, hits-all s x c (sameRows x c) refl, ap (λ (m : ℕ). m * step follows n x s) (tree-step x c))
+
+    -- below the empty chain stands each chain once, and nothing else
+    pub tree-top : (x : List ℕ) → inTree x [] ≡ chain follows n x
+    unfolding inTree chain
+    tree-top [] = refl
+    tree-top (s ∷ x) = omega (arith, ap (λ (m : ℕ). m * step follows n x s) (tree-top x))
+
+    pub chain-le : (x : List ℕ) → chain follows n x ≤ 1
+    unfolding chain step
+    chain-le [] = omega arith
+    chain-le (s ∷ x) = go (ltb s n && extends follows x s) (chain-le x)
+      where
+        go : (t : Bool) → chain follows n x ≤ 1 → chain follows n x * bit t ≤ 1
+        go true h = omega arith
+        go false h = omega arith

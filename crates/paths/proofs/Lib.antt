@@ -1,0 +1,8 @@
+-- What the proofs of several functions use.
+pub mod SumLaws
+pub mod SearchLaws
+pub mod ChainLaws
+pub mod BestLaws
+pub mod Demand
+pub mod CountLaws
+pub mod FloatOrder

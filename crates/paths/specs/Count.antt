@@ -1,0 +1,34 @@
+-- Document 01's graph and its count, word for word: c(r) = 1 + the sum of c(s) over later s with an edge from r; N = 1 + the sum of c(r) over the rows, 1 in a bare graph.
+use Prim.Native.Nat.{ℕ, zero, suc, _+_, _-_}
+use mathlib.Core.Bool.{Bool, true, false, cond, _&&_}
+use mathlib.Core.List.{List, [], _∷_}
+use lib.Dec.{ltb}
+
+-- only the last row is asked
+abbrev pub mayFollow : (ℕ → ℕ → Bool) → Bool → List ℕ → ℕ → Bool
+mayFollow edge full [] s = full
+mayFollow edge full (r ∷ c) s = full && edge r s
+
+-- the sum of w over the rows below k at which p holds
+unfoldable pub sumRows : (ℕ → Bool) → (ℕ → ℕ) → ℕ → ℕ
+sumRows p w zero = 0
+sumRows p w (suc k) = cond (p k) (w k + sumRows p w k) (sumRows p w k)
+
+module _ (edge : ℕ → ℕ → Bool) (n : ℕ) where
+  -- c(r), by a number f that is at least that of the later rows
+  unfoldable pub rowCountWithin : ℕ → ℕ → ℕ
+  rowCountWithin zero r = 1
+  rowCountWithin (suc f) r = suc (sumRows (λ s. ltb r s && edge r s) (λ s. rowCountWithin f s) n)
+
+  unfoldable pub chainCount : Bool → ℕ
+  chainCount true = suc (sumRows (λ s. true) (λ s. rowCountWithin (n - suc s) s) n)
+  chainCount false = 1
+
+-- the sum of w over the k rows from s on at which p holds
+unfoldable pub sumRowsFrom : (ℕ → Bool) → (ℕ → ℕ) → ℕ → ℕ → ℕ
+sumRowsFrom p w zero s = 0
+sumRowsFrom p w (suc k) s = cond (p s) (w s + sumRowsFrom p w k (suc s)) (sumRowsFrom p w k (suc s))
+
+-- c(r)
+unfoldable pub rowCount : (ℕ → ℕ → Bool) → ℕ → ℕ → ℕ
+rowCount edge n r = rowCountWithin edge n (n - suc r) r

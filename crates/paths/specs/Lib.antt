@@ -1,0 +1,5 @@
+pub mod Sums
+pub mod Chains
+pub mod Search
+pub mod Best
+pub mod Count
