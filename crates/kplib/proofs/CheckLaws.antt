@@ -1,6 +1,6 @@
 -- A loop that has found none so far and finds none here has found none up to the next; a row whose test holds gives its number, and
 -- one whose test fails hands on to the next; and what one group of rows found, the whole list finds. Assumes nothing.
-use mathlib.Core.Path.{_≡_, refl, sym, ap, _∙_}
+use mathlib.Core.Path.{_≡_, refl}
 use Prim.Native.Nat.{ℕ, zero, suc, _+_, _*_, _^_, _≤_, _<_}
 use native.Mathlib.Omega.{arith}
 use native.Mathlib.Numerals.{add-one}

@@ -1,19 +1,19 @@
 -- What an accepted call is known to be. A list of rows that gives 0 has no row whose test holds, and each test that fails is a fact
 -- about the settings, the table or the parts; a row past the end of a table is empty, so that its limit holds too. Assumes nothing.
-use mathlib.Core.Path.{_≡_, refl, sym, ap, _∙_}
-use Prim.Native.Nat.{ℕ, zero, suc, _+_, _*_, _^_, _≤_, _<_}
+use mathlib.Core.Path.{_≡_, refl}
+use Prim.Native.Nat.{ℕ, zero, suc, _*_, _^_, _≤_}
 use native.Mathlib.Omega.{arith}
 use native.Mathlib.Nat.{mul-le-mul-right}
-use mathlib.Core.Bool.{Bool, true, false, not, cond, _&&_, _||_}
-use mathlib.Core.List.{List, [], _∷_, _++_}
+use mathlib.Core.Bool.{Bool, true, false, not, _&&_}
+use mathlib.Core.List.{List, [], _∷_}
 use borrow.Author.Tests.{ltb-true, ltb-false, leb-true, eqb-true, eqb-false, not-false}
 use lib.Dec.{leb, ltb, eqb}
 use lib.IntN.{ℤ, pos, natAbs}
-use lib.ListN.{length, getD, take, drop, drop-of-length-le}
+use lib.ListN.{length, getD, take, drop-of-length-le}
 use Rattle.metrics.specs.Similarity.{magnitudeSum}
 use Rattle.kplib.specs.declared.graphparams.Settings.{Settings}
-use Rattle.kplib.specs.Checked.{rowAt, Flat, Sized, Checked}
-use Rattle.kplib.specs.Numbers.{Table, Parts, Rule, firstOf, badK, badNumber, badSize, badRow, searchMode, queueNeeds, littleQueueRoom, settingsRules, lengthRules, boundRules, limitRules, roomRules, callRules, firstFault}
+use Rattle.kplib.specs.Checked.{rowAt, Flat, Checked}
+use Rattle.kplib.specs.Numbers.{Table, Parts, badK, badNumber, badSize, badRow, searchMode, queueNeeds, littleQueueRoom, settingsRules, lengthRules, roomRules, callRules, firstFault}
 use Rattle.kplib.proofs.CheckLaws.{Passed, none-given, or-no, and-yes, any-where, few-entries}
 
 agreed : (a b : ℕ) → not (eqb a b) ≡ false → a ≡ b

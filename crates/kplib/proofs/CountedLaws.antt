@@ -2,15 +2,25 @@
 use mathlib.Core.Path.{_≡_, refl, sym, _∙_}
 use Prim.Native.Nat.{ℕ, zero, suc}
 use native.Mathlib.Omega.{arith}
+use mathlib.Core.Bool.{cond}
 use mathlib.Core.List.{List}
 use lib.Dec.{eqb}
 use lib.ListN.{length}
-use borrow.Author.Tests.{ltb-false, eqb-true, not-false}
+use borrow.Author.Tests.{ltb-false, eqb-true, ne-eqb, not-false}
 use Rattle.kplib.specs.declared.vargraph.ChainCount.the-variants.{Chains, Refused}
 use Rattle.kplib.specs.Numbers.{chainCountRules, chainCountFault}
-use Rattle.kplib.specs.Graph.{countCase}
+use Rattle.kplib.specs.Graph.{countCase, countNumber, countValue}
 use Rattle.kplib.specs.GraphWalk.{Walk}
 use Rattle.kplib.proofs.CheckLaws.{none-given}
+
+-- the paper's number and value of each case
+pub number-is : (fault n : ℕ) → countNumber (countCase fault n) ≡ fault
+number-is zero n = refl
+number-is (suc f) n = refl
+
+pub value-is : (fault n : ℕ) → countValue (countCase fault n) ≡ cond (eqb fault 0) n 0
+value-is zero n = refl
+value-is (suc f) n = rw (ne-eqb (suc f) 0 (λ e. omega arith))
 
 pub refused-case : (found fault n : ℕ) → found ≡ fault → (found ≡ 0 → ⊥) → Refused found ≡ countCase fault n
 refused-case found zero n e h = absurd (h e)

@@ -14,8 +14,7 @@ use metrics::refusals::QUEUE_ROOM;
 use metrics::refusals::START_AFTER_END;
 use metrics::refusals::TOO_MANY;
 ghost use mathlib.Core.Path.{_≡_};
-ghost use mathlib.Core.Bool.{true};
-ghost use Prim.Native.Nat.{_+_, _*_, _^_, _≤_, _<_};
+ghost use Prim.Native.Nat.{_*_, _^_, _≤_};
 ghost use lib.Dec.{ltb};
 ghost use lib.IntN.{natAbs};
 ghost use lib.ListN.{length};
@@ -231,23 +230,16 @@ pub(crate) fn call_fault(
     if settings != ACCEPTED {
         return settings;
     }
-    let lengths = length_fault(
-        s.k,
-        starts,
-        ends,
-        sizes,
-        features,
-        part_sizes,
-        part_features,
-    );
-    if lengths != ACCEPTED {
-        return lengths;
+    let k = s.k;
+    let shape = length_fault(k, starts, ends, sizes, features, part_sizes, part_features);
+    if shape != ACCEPTED {
+        return shape;
     }
     let bounds = bound_fault(starts, ends);
     if bounds != ACCEPTED {
         return bounds;
     }
-    let e = entries(s.k);
+    let e = entries(k);
     let limits = limit_fault(e, starts, ends, sizes, features, part_sizes, part_features);
     if limits != ACCEPTED {
         return limits;

@@ -8,7 +8,7 @@ use metrics::refusals::NO_VARIANTS;
 use metrics::refusals::TOO_MANY;
 ghost use mathlib.Core.Path.{_≡_};
 ghost use mathlib.Core.Bool.{true};
-ghost use Prim.Native.Nat.{_-_, _<_, _≤_, min};
+ghost use Prim.Native.Nat.{_-_, _<_, min};
 ghost use lib.ListN.{length};
 ghost use Rattle.paths.specs.Count.{sumRowsFrom, rowCount};
 ghost use Rattle.kplib.specs.Graph.{nodeOf, rowOf, edge, chainsOf, cappedCount};

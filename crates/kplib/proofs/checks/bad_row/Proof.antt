@@ -11,9 +11,6 @@ use Rattle.kplib.specs.Numbers.{anyBelow, badRow}
 use Rattle.kplib.proofs.CheckLaws.{any-none, any-more, any-here, any-end, row-inside}
 use Rattle.kplib.proofs.checks.bad_row.Statement.{statement}
 use Rattle.kplib.proofs.checks.bad_row.Tie as tie
-use Rattle.kplib.proofs.checks.bad_row.Reads as reads
-use Rattle.kplib.proofs.checks.bad_row.Lts as lts
-use Rattle.kplib.proofs.checks.row_over.Reads as row-over-reads
 
 abbrev Inv-loop : tie.InvT-loop
 Inv-loop features n e r₀ r = (r ≤ n) × (anyBelow r (λ i. ltb 131072 (magnitudeSum (rowAt e features i))) ≡ false)
@@ -21,35 +18,27 @@ Inv-loop features n e r₀ r = (r ≤ n) × (anyBelow r (λ i. ltb 131072 (magni
 abbrev μ-loop : tie.MeasureT-loop
 μ-loop features n e r₀ r = n - r
 
--- src/checks.rt:153:5
 loop-holds : tie.Need-loop-holds Inv-loop μ-loop
 loop-holds c = (search needs, any-none _)
 
--- src/checks.rt:154:20
 mul-from : tie.Need-mul-from Inv-loop μ-loop
 mul-from c = let inside = row-inside (c .before .loop .r) (c .before .before .args .n) (c .before .before .args .e) (c .loop-test .taken) in omega arith
 
--- src/checks.rt:155:18
 add-to : tie.Need-add-to Inv-loop μ-loop
 add-to c = let inside = row-inside (c .before .loop .r) (c .before .before .args .n) (c .before .before .args .e) (c .loop-test .taken) in omega arith
 
--- src/checks.rt:156:21
 mul-row-over : tie.Need-mul-row-over Inv-loop μ-loop
 mul-row-over c = let inside = row-inside (c .before .loop .r) (c .before .before .args .n) (c .before .before .args .e) (c .loop-test .taken) in omega arith
 
--- src/checks.rt:156:21
 sub-row-over : tie.Need-sub-row-over Inv-loop μ-loop
 sub-row-over c = omega arith
 
--- src/checks.rt:156:21
 part-row-over-start : tie.Need-part-row-over-start Inv-loop μ-loop
 part-row-over-start c = let inside = row-inside (c .before .loop .r) (c .before .before .args .n) (c .before .before .args .e) (c .loop-test .taken) in search needs
 
--- src/checks.rt:156:21
 part-row-over-end : tie.Need-part-row-over-end Inv-loop μ-loop
 part-row-over-end c = let inside = row-inside (c .before .loop .r) (c .before .before .args .n) (c .before .before .args .e) (c .loop-test .taken) in search needs
 
--- src/checks.rt:156:12
 row-over-requires : tie.Need-row-over-requires Inv-loop μ-loop
 row-over-requires c κs = search needs
 
@@ -61,24 +50,19 @@ asked c =
     let e : l .loop .r * l .before .args .e + l .before .args .e - l .loop .r * l .before .args .e ≡ l .before .args .e = omega arith in
     rw e at (c .row-over .ensures)
 
--- src/checks.rt:157:13
 returns : tie.Need-returns Inv-loop μ-loop
 unfolding badRow
 returns c = sym (any-here _ _ _ (c .before .before .before .loop-test .taken) (sym (asked (c .before)) ∙ c .if1 .taken))
 
--- src/checks.rt:159:9
 add-r : tie.Need-add-r Inv-loop μ-loop
 add-r c = search needs
 
--- src/checks.rt:153:5
 loop-less : tie.Need-loop-less Inv-loop μ-loop
 loop-less c = search needs
 
--- src/checks.rt:153:5
 loop-again : tie.Need-loop-again Inv-loop μ-loop
 loop-again c = (search needs, any-more _ _ (c .before .before .before .before .loop .inv .1) (sym (asked (c .before)) ∙ c .if1 .left))
 
--- src/checks.rt:148:1
 returns-2 : tie.Need-returns-2 Inv-loop μ-loop
 unfolding badRow
 returns-2 c = sym (any-end _ _ _ (c .loop-test .left) (c .before .loop .inv .0) (c .before .loop .inv .1))

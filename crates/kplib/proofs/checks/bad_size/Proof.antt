@@ -11,9 +11,6 @@ use Rattle.kplib.specs.Numbers.{anyBelow, badSize}
 use Rattle.kplib.proofs.CheckLaws.{any-none, any-more, any-here, any-end, over, within}
 use Rattle.kplib.proofs.checks.bad_size.Statement.{statement}
 use Rattle.kplib.proofs.checks.bad_size.Tie as tie
-use Rattle.kplib.proofs.checks.bad_size.Reads as reads
-use Rattle.kplib.proofs.checks.bad_size.Lts as lts
-use Rattle.kplib.proofs.checks.magnitude.Reads as magnitude-reads
 
 abbrev Inv-loop : tie.InvT-loop
 Inv-loop sizes r₀ r = (r ≤ length sizes) × (anyBelow r (λ i. ltb 131072 (natAbs (getD sizes i (pos 0)))) ≡ false)
@@ -21,19 +18,15 @@ Inv-loop sizes r₀ r = (r ≤ length sizes) × (anyBelow r (λ i. ltb 131072 (n
 abbrev μ-loop : tie.MeasureT-loop
 μ-loop sizes r₀ r = length sizes - r
 
--- src/checks.rt:123:5
 loop-holds : tie.Need-loop-holds Inv-loop μ-loop
 loop-holds c = (search needs, any-none _)
 
--- src/checks.rt:124:22
 mul-magnitude : tie.Need-mul-magnitude Inv-loop μ-loop
 mul-magnitude c = search needs
 
--- src/checks.rt:124:22
 shared-slice-copy-out-magnitude : tie.Need-shared-slice-copy-out-magnitude Inv-loop μ-loop
 shared-slice-copy-out-magnitude c = search needs
 
--- src/checks.rt:124:12
 magnitude-requires : tie.Need-magnitude-requires Inv-loop μ-loop
 magnitude-requires c κs = search needs
 
@@ -42,24 +35,19 @@ asked : (c : tie.After-magnitude Inv-loop μ-loop)
     → c .magnitude .result ≡ natAbs (getD (c .before .before .before .before .args .sizes .now) (c .before .before .before .loop .r) (pos 0))
 asked c = rw (read-back _ (c .before .magnitude-arg .given)) at (c .magnitude .ensures)
 
--- src/checks.rt:125:13
 returns : tie.Need-returns Inv-loop μ-loop
 unfolding badSize
 returns c = sym (any-here _ _ _ (c .before .before .before .loop-test .taken) (over _ _ _ (asked (c .before)) (c .if1 .taken)))
 
--- src/checks.rt:127:9
 add-r : tie.Need-add-r Inv-loop μ-loop
 add-r c = search needs
 
--- src/checks.rt:123:5
 loop-less : tie.Need-loop-less Inv-loop μ-loop
 loop-less c = search needs
 
--- src/checks.rt:123:5
 loop-again : tie.Need-loop-again Inv-loop μ-loop
 loop-again c = (search needs, any-more _ _ (c .before .before .before .before .loop .inv .1) (within _ _ _ (asked (c .before)) (c .if1 .left)))
 
--- src/checks.rt:119:1
 returns-2 : tie.Need-returns-2 Inv-loop μ-loop
 unfolding badSize
 returns-2 c = sym (any-end _ _ _ (c .loop-test .left) (c .before .loop .inv .0) (c .before .loop .inv .1))

@@ -4,30 +4,21 @@ use Rattle.kplib.proofs.CheckLaws.{given, passed}
 use borrow.Author.Needs.{needs}
 use Rattle.kplib.proofs.checks.bound_fault.Statement.{statement}
 use Rattle.kplib.proofs.checks.bound_fault.Tie as tie
-use Rattle.kplib.proofs.checks.bound_fault.Reads as reads
-use Rattle.kplib.proofs.checks.bound_fault.Lts as lts
-use Rattle.kplib.proofs.checks.falling_start.Reads as falling-start-reads
-use Rattle.kplib.proofs.checks.start_after_end.Reads as start-after-end-reads
 
--- src/checks.rt:98:8
 start-after-end-requires : tie.Need-start-after-end-requires
 start-after-end-requires c κs = search needs
 
--- src/checks.rt:99:9
 returns : tie.Need-returns
 returns c = given _ _ _ (sym (c .before .start-after-end .ensures) ∙ c .if1 .taken)
 
--- src/checks.rt:101:8
 falling-start-requires : tie.Need-falling-start-requires
 falling-start-requires c κs = search needs
 
--- src/checks.rt:102:9
 returns-2 : tie.Need-returns-2
 returns-2 c =
     passed _ _ _ _ (sym (c .before .before .before .start-after-end .ensures) ∙ c .before .before .if1 .left)
     (given _ _ _ (sym (c .before .falling-start .ensures) ∙ c .if2 .taken))
 
--- src/checks.rt:94:1
 returns-3 : tie.Need-returns-3
 returns-3 c =
     passed _ _ _ _ (sym (c .before .before .before .start-after-end .ensures) ∙ c .before .before .if1 .left)

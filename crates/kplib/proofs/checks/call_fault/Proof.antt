@@ -1,22 +1,14 @@
 -- Each group of rows that gives 0 has no row whose test holds, which is what the next group asks and what places its answer in the whole list.
 -- Assumes nothing.
-use mathlib.Core.Path.{_≡_, refl, sym, _∙_}
+use mathlib.Core.Path.{refl, sym, _∙_}
 use Prim.Native.Nat.{_^_}
-use Rattle.kplib.specs.Numbers.{Table, Parts, tableOf, partsOf, firstOf, settingsRules, lengthRules, boundRules, limitRules}
+use Rattle.kplib.specs.Numbers.{Table, Parts, tableOf, partsOf, settingsRules, lengthRules, boundRules, limitRules}
 use Rattle.kplib.proofs.CheckLaws.{Passed, none-given}
 use Rattle.kplib.proofs.CheckedLaws.{Settled, settled, Measured, measured}
 use Rattle.kplib.proofs.CallLaws.{by-settings, by-lengths, by-bounds, by-limits, by-rooms}
 use borrow.Author.Needs.{needs}
 use Rattle.kplib.proofs.checks.call_fault.Statement.{statement}
 use Rattle.kplib.proofs.checks.call_fault.Tie as tie
-use Rattle.kplib.proofs.checks.call_fault.Reads as reads
-use Rattle.kplib.proofs.checks.call_fault.Lts as lts
-use Rattle.kplib.proofs.checks.bound_fault.Reads as bound-fault-reads
-use Rattle.kplib.proofs.checks.length_fault.Reads as length-fault-reads
-use Rattle.kplib.proofs.checks.limit_fault.Reads as limit-fault-reads
-use Rattle.kplib.proofs.checks.room_fault.Reads as room-fault-reads
-use Rattle.kplib.proofs.graphparams.entries.Reads as entries-reads
-use Rattle.kplib.proofs.graphparams.settings_fault.Reads as settings-fault-reads
 
 -- the lent data
 abbrev table : tie.Start → Table
@@ -57,49 +49,38 @@ limits-passed c =
     none-given (limitRules (4 ^ begin4 c .args .s .k) (table (begin4 c)) (parts (begin4 c))) refl
     (sym (rw (c .before .before .entries .ensures) at (c .before .limit-fault .ensures)) ∙ c .if4 .left)
 
--- src/checks.rt:230:9
 settings-fault-requires : tie.Need-settings-fault-requires
 settings-fault-requires c κs = search needs
 
--- src/checks.rt:232:9
 returns : tie.Need-returns
 returns c = by-settings _ _ _ _ _ _ (c .before .settings-fault .ensures) (c .if1 .taken)
 
--- src/checks.rt:234:9
 length-fault-requires : tie.Need-length-fault-requires
 length-fault-requires c κs = let k = known c in (k .k-low, k .k-high)
 
--- src/checks.rt:244:9
 returns-2 : tie.Need-returns-2
 returns-2 c = by-lengths _ _ _ _ _ _ (settings-passed (c .before .before)) (c .before .length-fault .ensures) (c .if2 .taken)
 
--- src/checks.rt:246:9
 bound-fault-requires : tie.Need-bound-fault-requires
 bound-fault-requires c κs = let m = shaped c in (m .some, m .ends-are)
 
--- src/checks.rt:248:9
 returns-3 : tie.Need-returns-3
 returns-3 c = by-bounds _ _ _ _ _ _ (settings-passed (c .before .before .before .before)) (lengths-passed (c .before .before)) (c .before .bound-fault .ensures) (c .if3 .taken)
 
--- src/checks.rt:250:9
 entries-requires : tie.Need-entries-requires
 entries-requires c κs = let k = known (c .before .before .before .before) in (k .k-low, k .k-high)
 
--- src/checks.rt:251:9
 limit-fault-requires : tie.Need-limit-fault-requires
 limit-fault-requires c κs = let m = shaped (c .before .before .before) in rw (c .entries .ensures) (record { rows = m .rows; part-rows = m .part-rows })
 
--- src/checks.rt:253:9
 returns-4 : tie.Need-returns-4
 returns-4 c =
     by-limits _ _ _ _ _ _ (settings-passed (c .before .before .before .before .before .before .before)) (lengths-passed (c .before .before .before .before .before)) (bounds-passed (c .before .before .before))
     (rw (c .before .before .entries .ensures) at (c .before .limit-fault .ensures)) (c .if4 .taken)
 
--- src/checks.rt:255:5
 room-fault-requires : tie.Need-room-fault-requires
 room-fault-requires c κs = let m = shaped (c .before .before .before .before .before) in (known (c .before .before .before .before .before .before .before) .maxpaths, m .few)
 
--- src/checks.rt:217:1
 returns-5 : tie.Need-returns-5
 returns-5 c =
     by-rooms _ _ _ _ _ _ (settings-passed (c .before .before .before .before .before .before .before .before)) (lengths-passed (c .before .before .before .before .before .before)) (bounds-passed (c .before .before .before .before)) (limits-passed (c .before))

@@ -11,8 +11,6 @@ use Rattle.kplib.specs.Numbers.{anyBelow, fallingStart}
 use Rattle.kplib.proofs.CheckLaws.{any-none, any-more, any-here, any-end}
 use Rattle.kplib.proofs.checks.falling_start.Statement.{statement}
 use Rattle.kplib.proofs.checks.falling_start.Tie as tie
-use Rattle.kplib.proofs.checks.falling_start.Reads as reads
-use Rattle.kplib.proofs.checks.falling_start.Lts as lts
 
 abbrev Inv-loop : tie.InvT-loop
 Inv-loop starts last r₀ r = (r ≤ length starts - 1) × (last ≡ length starts - 1) × (anyBelow r (λ i. ltb (getD starts (i + 1) 0) (getD starts i 0)) ≡ false)
@@ -20,54 +18,42 @@ Inv-loop starts last r₀ r = (r ≤ length starts - 1) × (last ≡ length star
 abbrev μ-loop : tie.MeasureT-loop
 μ-loop starts last r₀ r = last - r
 
--- src/checks.rt:82:16
 sub-last : tie.Need-sub-last Inv-loop μ-loop
 sub-last c = search needs
 
--- src/checks.rt:84:5
 loop-holds : tie.Need-loop-holds Inv-loop μ-loop
 loop-holds c = (search needs, search needs, any-none _)
 
--- src/checks.rt:85:19
 add-if1 : tie.Need-add-if1 Inv-loop μ-loop
 add-if1 c = search needs
 
--- src/checks.rt:85:12
 mul-if1 : tie.Need-mul-if1 Inv-loop μ-loop
 mul-if1 c = search needs
 
--- src/checks.rt:85:12
 shared-slice-read-if1 : tie.Need-shared-slice-read-if1 Inv-loop μ-loop
 shared-slice-read-if1 c = search needs
 
--- src/checks.rt:85:28
 mul-if1-2 : tie.Need-mul-if1-2 Inv-loop μ-loop
 mul-if1-2 c = search needs
 
--- src/checks.rt:85:28
 shared-slice-read-if1-2 : tie.Need-shared-slice-read-if1-2 Inv-loop μ-loop
 shared-slice-read-if1-2 c = search needs
 
--- src/checks.rt:86:13
 returns : tie.Need-returns Inv-loop μ-loop
 unfolding fallingStart
 returns c =
     let turn = c .before .before .before in
     sym (any-here _ _ _ (omega arith) (lt-ltb _ _ (c .if1 .taken)))
 
--- src/checks.rt:88:9
 add-r : tie.Need-add-r Inv-loop μ-loop
 add-r c = search needs
 
--- src/checks.rt:84:5
 loop-less : tie.Need-loop-less Inv-loop μ-loop
 loop-less c = search needs
 
--- src/checks.rt:84:5
 loop-again : tie.Need-loop-again Inv-loop μ-loop
 loop-again c = (search needs, search needs, any-more _ _ (c .before .before .before .before .loop .inv .2) (le-ltb _ _ (c .if1 .left)))
 
--- src/checks.rt:78:1
 returns-2 : tie.Need-returns-2 Inv-loop μ-loop
 unfolding fallingStart
 returns-2 c = sym (any-end _ _ _ (omega arith) (c .before .loop .inv .0) (c .before .loop .inv .2))

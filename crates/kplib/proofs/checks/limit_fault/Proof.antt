@@ -4,45 +4,33 @@ use Rattle.kplib.proofs.CheckLaws.{given, passed}
 use borrow.Author.Needs.{needs}
 use Rattle.kplib.proofs.checks.limit_fault.Statement.{statement}
 use Rattle.kplib.proofs.checks.limit_fault.Tie as tie
-use Rattle.kplib.proofs.checks.limit_fault.Reads as reads
-use Rattle.kplib.proofs.checks.limit_fault.Lts as lts
-use Rattle.kplib.proofs.checks.bad_row.Reads as bad-row-reads
-use Rattle.kplib.proofs.checks.bad_size.Reads as bad-size-reads
 
--- src/checks.rt:177:8
 bad-size-requires : tie.Need-bad-size-requires
 bad-size-requires c κs = search needs
 
--- src/checks.rt:178:9
 returns : tie.Need-returns
 returns c = given _ _ _ (sym (c .before .bad-size .ensures) ∙ c .if1 .taken)
 
--- src/checks.rt:180:8
 bad-size-requires-2 : tie.Need-bad-size-requires-2
 bad-size-requires-2 c κs = search needs
 
--- src/checks.rt:181:9
 returns-2 : tie.Need-returns-2
 returns-2 c =
     passed _ _ _ _ (sym (c .before .before .before .bad-size .ensures) ∙ c .before .before .if1 .left)
     (given _ _ _ (sym (c .before .bad-size2 .ensures) ∙ c .if2 .taken))
 
--- src/checks.rt:183:8
 bad-row-requires : tie.Need-bad-row-requires
 bad-row-requires c κs = search needs
 
--- src/checks.rt:184:9
 returns-3 : tie.Need-returns-3
 returns-3 c =
     passed _ _ _ _ (sym (c .before .before .before .before .before .bad-size .ensures) ∙ c .before .before .before .before .if1 .left)
     (passed _ _ _ _ (sym (c .before .before .before .bad-size2 .ensures) ∙ c .before .before .if2 .left)
     (given _ _ _ (sym (c .before .bad-row .ensures) ∙ c .if3 .taken)))
 
--- src/checks.rt:186:8
 bad-row-requires-2 : tie.Need-bad-row-requires-2
 bad-row-requires-2 c κs = search needs
 
--- src/checks.rt:187:9
 returns-4 : tie.Need-returns-4
 returns-4 c =
     passed _ _ _ _ (sym (c .before .before .before .before .before .before .before .bad-size .ensures) ∙ c .before .before .before .before .before .before .if1 .left)
@@ -50,7 +38,6 @@ returns-4 c =
     (passed _ _ _ _ (sym (c .before .before .before .bad-row .ensures) ∙ c .before .before .if3 .left)
     (given _ _ _ (sym (c .before .bad-row2 .ensures) ∙ c .if4 .taken))))
 
--- src/checks.rt:165:1
 returns-5 : tie.Need-returns-5
 returns-5 c =
     passed _ _ _ _ (sym (c .before .before .before .before .before .before .before .bad-size .ensures) ∙ c .before .before .before .before .before .before .if1 .left)

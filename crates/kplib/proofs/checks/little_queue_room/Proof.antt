@@ -8,36 +8,26 @@ use Rattle.kplib.proofs.CheckLaws.{few-in-all}
 use borrow.Author.Needs.{needs}
 use Rattle.kplib.proofs.checks.little_queue_room.Statement.{statement}
 use Rattle.kplib.proofs.checks.little_queue_room.Tie as tie
-use Rattle.kplib.proofs.checks.little_queue_room.Reads as reads
-use Rattle.kplib.proofs.checks.little_queue_room.Lts as lts
-use Rattle.kplib.proofs.graphparams.search_mode.Reads as search-mode-reads
 
--- src/checks.rt:196:9
 search-mode-requires : tie.Need-search-mode-requires
 search-mode-requires c κs = search needs
 
--- src/checks.rt:197:9
 returns : tie.Need-returns
 unfolding littleQueueRoom
 returns c = let off = sym (c .before .search-mode .ensures) ∙ not-true _ (c .if1 .taken) in rw off
 
--- src/checks.rt:199:23
 cast-result : tie.Need-cast-result
 cast-result c = search needs
 
--- src/checks.rt:199:23
 add-result : tie.Need-add-result
 add-result c = search needs
 
--- src/checks.rt:199:22
 mul-result : tie.Need-mul-result
 mul-result c = omega (arith, few-in-all (c .before .before .before .args .s .maxpaths + 1) (c .before .before .before .args .v) 4096 64 (omega arith) (omega arith))
 
--- src/checks.rt:199:18
 add-result-2 : tie.Need-add-result-2
 add-result-2 c = omega (arith, few-in-all (c .before .before .before .args .s .maxpaths + 1) (c .before .before .before .args .v) 4096 64 (omega arith) (omega arith))
 
--- src/checks.rt:192:1
 returns-2 : tie.Need-returns-2
 unfolding littleQueueRoom
 returns-2 c = let on = sym (c .before .before .search-mode .ensures) ∙ not-false _ (c .before .if1 .left) in rw on

@@ -5,25 +5,18 @@ use Rattle.kplib.proofs.CheckLaws.{given, passed}
 use borrow.Author.Needs.{needs}
 use Rattle.kplib.proofs.checks.room_fault.Statement.{statement}
 use Rattle.kplib.proofs.checks.room_fault.Tie as tie
-use Rattle.kplib.proofs.checks.room_fault.Reads as reads
-use Rattle.kplib.proofs.checks.room_fault.Lts as lts
-use Rattle.kplib.proofs.checks.little_queue_room.Reads as little-queue-room-reads
 
--- src/checks.rt:207:8
 little-queue-room-requires : tie.Need-little-queue-room-requires
 little-queue-room-requires c κs = search needs
 
--- src/checks.rt:208:9
 returns : tie.Need-returns
 returns c = given _ _ _ (sym (c .before .little-queue-room .ensures) ∙ c .if1 .taken)
 
--- src/checks.rt:211:9
 returns-2 : tie.Need-returns-2
 returns-2 c =
     passed _ _ _ _ (sym (c .before .before .little-queue-room .ensures) ∙ c .before .if1 .left)
     (given _ _ _ (lt-ltb _ _ (c .if2 .taken)))
 
--- src/checks.rt:203:1
 returns-3 : tie.Need-returns-3
 returns-3 c =
     passed _ _ _ _ (sym (c .before .before .little-queue-room .ensures) ∙ c .before .if1 .left)

@@ -3,7 +3,7 @@ use borrow.Author.Needs.{needs}
 use mathlib.Core.Path.{_≡_, sym}
 use Prim.Native.Nat.{_+_, _-_, _≤_, _<_}
 use native.Mathlib.Omega.{arith}
-use lib.IntN.{pos, natAbs}
+use lib.IntN.{pos}
 use lib.ListN.{length, drop, getD}
 use borrow.Author.Tests.{lt-ltb, le-ltb}
 use Rattle.metrics.specs.Similarity.{magnitudeSum}
@@ -11,9 +11,6 @@ use Rattle.metrics.proofs.Ints.{read-back, entry-size}
 use Rattle.metrics.proofs.Rows.{row-step, row-none}
 use Rattle.kplib.proofs.checks.row_over.Statement.{statement}
 use Rattle.kplib.proofs.checks.row_over.Tie as tie
-use Rattle.kplib.proofs.checks.row_over.Reads as reads
-use Rattle.kplib.proofs.checks.row_over.Lts as lts
-use Rattle.kplib.proofs.checks.magnitude.Reads as magnitude-reads
 
 abbrev Inv-loop : tie.InvT-loop
 Inv-loop row sum₀ i₀ sum i = (i ≤ length row) × (sum ≤ 131072) × (sum + magnitudeSum (drop i row) ≡ magnitudeSum row)
@@ -21,19 +18,15 @@ Inv-loop row sum₀ i₀ sum i = (i ≤ length row) × (sum ≤ 131072) × (sum 
 abbrev μ-loop : tie.MeasureT-loop
 μ-loop row sum₀ i₀ sum i = length row - i
 
--- src/checks.rt:138:5
 loop-holds : tie.Need-loop-holds Inv-loop μ-loop
 loop-holds c = search needs
 
--- src/checks.rt:139:26
 mul-magnitude : tie.Need-mul-magnitude Inv-loop μ-loop
 mul-magnitude c = search needs
 
--- src/checks.rt:139:26
 shared-slice-copy-out-magnitude : tie.Need-shared-slice-copy-out-magnitude Inv-loop μ-loop
 shared-slice-copy-out-magnitude c = search needs
 
--- src/checks.rt:139:16
 magnitude-requires : tie.Need-magnitude-requires Inv-loop μ-loop
 magnitude-requires c κs = search needs
 
@@ -47,7 +40,6 @@ step c =
     let e = rw (read-back (getD row (l .loop .i) (pos 0)) (c .before .magnitude-arg .given)) at (c .magnitude .ensures) in
     omega (arith, e, row-step row (l .loop .i) (c .before .before .loop-test .taken))
 
--- src/checks.rt:139:9
 add-sum : tie.Need-add-sum Inv-loop μ-loop
 add-sum c =
     let row = c .before .before .before .before .args .row .now in
@@ -55,27 +47,22 @@ add-sum c =
     let e = rw (read-back x (c .before .magnitude-arg .given)) at (c .magnitude .ensures) in
     omega (arith, e, entry-size x (record { sfits = c .before .magnitude-arg .given }))
 
--- src/checks.rt:141:13
 returns : tie.Need-returns Inv-loop μ-loop
 returns c =
     let e = step (c .before) in
     let h : 131072 < magnitudeSum (c .before .before .before .before .before .args .row .now) = omega arith in
     sym (lt-ltb _ _ h)
 
--- src/checks.rt:143:9
 add-i : tie.Need-add-i Inv-loop μ-loop
 add-i c = search needs
 
--- src/checks.rt:138:5
 loop-less : tie.Need-loop-less Inv-loop μ-loop
 loop-less c = search needs
 
--- src/checks.rt:138:5
 loop-again : tie.Need-loop-again Inv-loop μ-loop
 loop-again c =
     let e = step (c .before) in omega arith
 
--- src/checks.rt:133:1
 returns-2 : tie.Need-returns-2 Inv-loop μ-loop
 returns-2 c =
     let e = row-none (c .before .before .args .row .now) (c .before .loop .i) (c .loop-test .left) in

@@ -3,7 +3,6 @@ use borrow.Author.Needs.{needs}
 use mathlib.Core.Path.{_≡_, sym}
 use mathlib.Core.Bool.{false}
 use Prim.Native.Nat.{_-_, _≤_}
-use native.Mathlib.Omega.{arith}
 use lib.Dec.{ltb}
 use lib.ListN.{length, getD}
 use borrow.Author.Tests.{lt-ltb, le-ltb}
@@ -11,8 +10,6 @@ use Rattle.kplib.specs.Numbers.{anyBelow, startAfterEnd}
 use Rattle.kplib.proofs.CheckLaws.{any-none, any-more, any-here, any-end}
 use Rattle.kplib.proofs.checks.start_after_end.Statement.{statement}
 use Rattle.kplib.proofs.checks.start_after_end.Tie as tie
-use Rattle.kplib.proofs.checks.start_after_end.Reads as reads
-use Rattle.kplib.proofs.checks.start_after_end.Lts as lts
 
 abbrev Inv-loop : tie.InvT-loop
 Inv-loop starts ends r₀ r = (r ≤ length starts) × (anyBelow r (λ i. ltb (getD ends i 0) (getD starts i 0)) ≡ false)
@@ -20,44 +17,34 @@ Inv-loop starts ends r₀ r = (r ≤ length starts) × (anyBelow r (λ i. ltb (g
 abbrev μ-loop : tie.MeasureT-loop
 μ-loop starts ends r₀ r = length starts - r
 
--- src/checks.rt:69:5
 loop-holds : tie.Need-loop-holds Inv-loop μ-loop
 loop-holds c = (search needs, any-none _)
 
--- src/checks.rt:70:12
 mul-if1 : tie.Need-mul-if1 Inv-loop μ-loop
 mul-if1 c = search needs
 
--- src/checks.rt:70:12
 shared-slice-read-if1 : tie.Need-shared-slice-read-if1 Inv-loop μ-loop
 shared-slice-read-if1 c = search needs
 
--- src/checks.rt:70:24
 mul-if1-2 : tie.Need-mul-if1-2 Inv-loop μ-loop
 mul-if1-2 c = search needs
 
--- src/checks.rt:70:24
 shared-slice-read-if1-2 : tie.Need-shared-slice-read-if1-2 Inv-loop μ-loop
 shared-slice-read-if1-2 c = search needs
 
--- src/checks.rt:71:13
 returns : tie.Need-returns Inv-loop μ-loop
 unfolding startAfterEnd
 returns c = sym (any-here _ _ _ (c .before .before .before .loop-test .taken) (lt-ltb _ _ (c .if1 .taken)))
 
--- src/checks.rt:73:9
 add-r : tie.Need-add-r Inv-loop μ-loop
 add-r c = search needs
 
--- src/checks.rt:69:5
 loop-less : tie.Need-loop-less Inv-loop μ-loop
 loop-less c = search needs
 
--- src/checks.rt:69:5
 loop-again : tie.Need-loop-again Inv-loop μ-loop
 loop-again c = (search needs, any-more _ _ (c .before .before .before .before .loop .inv .1) (le-ltb _ _ (c .if1 .left)))
 
--- src/checks.rt:64:1
 returns-2 : tie.Need-returns-2 Inv-loop μ-loop
 unfolding startAfterEnd
 returns-2 c = sym (any-end _ _ _ (c .loop-test .left) (c .before .loop .inv .0) (c .before .loop .inv .1))

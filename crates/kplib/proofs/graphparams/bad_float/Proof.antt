@@ -6,35 +6,26 @@ use Rattle.kplib.proofs.CheckLaws.{or-here, or-later}
 use borrow.Author.Needs.{needs}
 use Rattle.kplib.proofs.graphparams.bad_float.Statement.{statement}
 use Rattle.kplib.proofs.graphparams.bad_float.Tie as tie
-use Rattle.kplib.proofs.graphparams.bad_float.Reads as reads
-use Rattle.kplib.proofs.graphparams.bad_float.Lts as lts
-use Rattle.kplib.proofs.graphparams.out_of_range.Reads as out-of-range-reads
 
--- src/graphparams.rt:66:8
 out-of-range-requires : tie.Need-out-of-range-requires
 out-of-range-requires c κs = search needs
 
--- src/graphparams.rt:67:9
 returns : tie.Need-returns
 unfolding badFloat
 returns c = sym (or-here _ _ (rw one-is at (sym (c .before .out-of-range .ensures) ∙ c .if1 .taken)))
 
--- src/graphparams.rt:69:8
 out-of-range-requires-2 : tie.Need-out-of-range-requires-2
 out-of-range-requires-2 c κs = search needs
 
--- src/graphparams.rt:70:9
 returns-2 : tie.Need-returns-2
 unfolding badFloat
 returns-2 c =
     sym (or-later _ _ _ (rw one-is at (sym (c .before .before .before .out-of-range .ensures) ∙ c .before .before .if1 .left))
     (or-here _ _ (rw one-is at (sym (c .before .out-of-range2 .ensures) ∙ c .if2 .taken))))
 
--- src/graphparams.rt:72:8
 out-of-range-requires-3 : tie.Need-out-of-range-requires-3
 out-of-range-requires-3 c κs = search needs
 
--- src/graphparams.rt:73:9
 returns-3 : tie.Need-returns-3
 unfolding badFloat
 returns-3 c =
@@ -42,11 +33,9 @@ returns-3 c =
     (or-later _ _ _ (rw one-is at (sym (c .before .before .before .out-of-range2 .ensures) ∙ c .before .before .if2 .left))
     (or-here _ _ (rw thousand-is at (sym (c .before .out-of-range3 .ensures) ∙ c .if3 .taken)))))
 
--- src/graphparams.rt:75:5
 out-of-range-requires-4 : tie.Need-out-of-range-requires-4
 out-of-range-requires-4 c κs = search needs
 
--- src/graphparams.rt:63:1
 returns-4 : tie.Need-returns-4
 unfolding badFloat
 returns-4 c =

@@ -5,22 +5,17 @@ use Rattle.kplib.specs.Numbers.{badNumber}
 use Rattle.kplib.proofs.CheckLaws.{or-here, or-later}
 use Rattle.kplib.proofs.graphparams.bad_number.Statement.{statement}
 use Rattle.kplib.proofs.graphparams.bad_number.Tie as tie
-use Rattle.kplib.proofs.graphparams.bad_number.Reads as reads
-use Rattle.kplib.proofs.graphparams.bad_number.Lts as lts
 
--- src/graphparams.rt:92:9
 returns : tie.Need-returns
 unfolding badNumber
 returns c = sym (or-here _ _ (lt-ltb _ _ (c .if1 .taken)))
 
--- src/graphparams.rt:95:9
 returns-2 : tie.Need-returns-2
 unfolding badNumber
 returns-2 c =
     sym (or-later _ _ _ (le-ltb _ _ (c .before .before .if1 .left))
     (or-here _ _ (lt-ltb _ _ (c .if2 .taken))))
 
--- src/graphparams.rt:98:9
 returns-3 : tie.Need-returns-3
 unfolding badNumber
 returns-3 c =
@@ -28,7 +23,6 @@ returns-3 c =
     (or-later _ _ _ (le-ltb _ _ (c .before .before .if2 .left))
     (or-here _ _ (lt-ltb _ _ (c .if3 .taken)))))
 
--- src/graphparams.rt:101:9
 returns-4 : tie.Need-returns-4
 unfolding badNumber
 returns-4 c =
@@ -37,7 +31,6 @@ returns-4 c =
     (or-later _ _ _ (le-ltb _ _ (c .before .before .if3 .left))
     (or-here _ _ (lt-ltb _ _ (c .if4 .taken))))))
 
--- src/graphparams.rt:88:1
 returns-5 : tie.Need-returns-5
 unfolding badNumber
 returns-5 c =

@@ -4,33 +4,25 @@ use Prim.Native.Nat.{ℕ, _≤_}
 use native.Mathlib.Omega.{arith}
 use Rattle.kplib.proofs.graphparams.entries.Statement.{statement}
 use Rattle.kplib.proofs.graphparams.entries.Tie as tie
-use Rattle.kplib.proofs.graphparams.entries.Reads as reads
-use Rattle.kplib.proofs.graphparams.entries.Lts as lts
 
 six : (k : ℕ) → 1 ≤ k → k ≤ 6 → (k ≡ 1 → ⊥) → (k ≡ 2 → ⊥) → (k ≡ 3 → ⊥) → (k ≡ 4 → ⊥) → (k ≡ 5 → ⊥) → k ≡ 6
 six k l h n1 n2 n3 n4 n5 = omega arith
 
--- src/graphparams.rt:27:1
 returns : tie.Need-returns
 returns c = rw (c .match .keys1)
 
--- src/graphparams.rt:27:1
 returns-2 : tie.Need-returns-2
 returns-2 c = rw (c .match .keys2)
 
--- src/graphparams.rt:27:1
 returns-3 : tie.Need-returns-3
 returns-3 c = rw (c .match .keys3)
 
--- src/graphparams.rt:27:1
 returns-4 : tie.Need-returns-4
 returns-4 c = rw (c .match .keys4)
 
--- src/graphparams.rt:27:1
 returns-5 : tie.Need-returns-5
 returns-5 c = rw (c .match .keys5)
 
--- src/graphparams.rt:27:1
 returns-6 : tie.Need-returns-6
 returns-6 c =
     let r = c .match .rest in

@@ -2,18 +2,13 @@
 use Rattle.metrics.proofs.Casts.{zero-is}
 use Rattle.kplib.proofs.graphparams.out_of_range.Statement.{statement}
 use Rattle.kplib.proofs.graphparams.out_of_range.Tie as tie
-use Rattle.kplib.proofs.graphparams.out_of_range.Reads as reads
-use Rattle.kplib.proofs.graphparams.out_of_range.Lts as lts
 
--- src/graphparams.rt:57:13
 returns : tie.Need-returns
 returns c = rw (rw zero-is at (c .before .if1 .taken), c .if2 .taken)
 
--- src/graphparams.rt:52:1
 returns-2 : tie.Need-returns-2
 returns-2 c = rw (rw zero-is at (c .before .if1 .taken), c .if2 .left)
 
--- src/graphparams.rt:52:1
 returns-3 : tie.Need-returns-3
 returns-3 c = rw (rw zero-is at (c .if1 .left))
 

@@ -3,18 +3,13 @@ use Rattle.kplib.proofs.CheckLaws.{searched}
 use borrow.Author.Needs.{needs}
 use Rattle.kplib.proofs.graphparams.search_mode.Statement.{statement}
 use Rattle.kplib.proofs.graphparams.search_mode.Tie as tie
-use Rattle.kplib.proofs.graphparams.search_mode.Reads as reads
-use Rattle.kplib.proofs.graphparams.search_mode.Lts as lts
 
--- src/graphparams.rt:46:9
 returns : tie.Need-returns
 returns c = search needs
 
--- src/graphparams.rt:48:10
 cast-result : tie.Need-cast-result
 cast-result c = search needs
 
--- src/graphparams.rt:42:1
 returns-2 : tie.Need-returns-2
 returns-2 c =
     searched (c .before .before .args .s .«one_to_one») (c .before .before .args .v) (c .before .before .args .s .maxnodes) (c .before .if1 .left)

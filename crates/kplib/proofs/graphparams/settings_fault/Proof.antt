@@ -5,37 +5,27 @@ use Rattle.kplib.proofs.CheckLaws.{given, passed, k-low, k-high, k-insi
 use borrow.Author.Needs.{needs}
 use Rattle.kplib.proofs.graphparams.settings_fault.Statement.{statement}
 use Rattle.kplib.proofs.graphparams.settings_fault.Tie as tie
-use Rattle.kplib.proofs.graphparams.settings_fault.Reads as reads
-use Rattle.kplib.proofs.graphparams.settings_fault.Lts as lts
-use Rattle.kplib.proofs.graphparams.bad_float.Reads as bad-float-reads
-use Rattle.kplib.proofs.graphparams.bad_number.Reads as bad-number-reads
 
--- src/graphparams.rt:111:9
 returns : tie.Need-returns
 unfolding badK
 returns c = given _ _ _ (k-low _ (c .if1 .taken))
 
--- src/graphparams.rt:114:9
 returns-2 : tie.Need-returns-2
 unfolding badK
 returns-2 c = given _ _ _ (k-high _ (c .if2 .taken))
 
--- src/graphparams.rt:116:8
 bad-float-requires : tie.Need-bad-float-requires
 bad-float-requires c κs = search needs
 
--- src/graphparams.rt:117:9
 returns-3 : tie.Need-returns-3
 unfolding badK
 returns-3 c =
     passed _ _ _ _ (k-inside _ (c .before .before .before .before .if1 .left) (c .before .before .if2 .left))
     (given _ _ _ (sym (c .before .bad-float .ensures) ∙ c .if3 .taken))
 
--- src/graphparams.rt:119:8
 bad-number-requires : tie.Need-bad-number-requires
 bad-number-requires c κs = search needs
 
--- src/graphparams.rt:120:9
 returns-4 : tie.Need-returns-4
 unfolding badK
 returns-4 c =
@@ -43,7 +33,6 @@ returns-4 c =
     (passed _ _ _ _ (sym (c .before .before .before .bad-float .ensures) ∙ c .before .before .if3 .left)
     (given _ _ _ (sym (c .before .bad-number .ensures) ∙ c .if4 .taken)))
 
--- src/graphparams.rt:107:1
 returns-5 : tie.Need-returns-5
 unfolding badK
 returns-5 c =

@@ -5,23 +5,17 @@ use Rattle.kplib.proofs.CheckLaws.{given, passed, differ, agree}
 use borrow.Author.Needs.{needs}
 use Rattle.kplib.proofs.vargraph.count_fault.Statement.{statement}
 use Rattle.kplib.proofs.vargraph.count_fault.Tie as tie
-use Rattle.kplib.proofs.vargraph.count_fault.Reads as reads
-use Rattle.kplib.proofs.vargraph.count_fault.Lts as lts
-use Rattle.kplib.proofs.checks.bound_fault.Reads as bound-fault-reads
 
--- src/vargraph.rt:97:9
 returns : tie.Need-returns
 unfolding chainCountFault
 returns c = given _ _ _ (lt-ltb _ _ (c .if1 .taken))
 
--- src/vargraph.rt:100:9
 returns-2 : tie.Need-returns-2
 unfolding chainCountFault
 returns-2 c =
     passed _ _ _ _ (le-ltb _ _ (c .before .if1 .left))
     (given _ _ _ (eq-eqb _ _ (c .if2 .taken)))
 
--- src/vargraph.rt:103:9
 returns-3 : tie.Need-returns-3
 unfolding chainCountFault
 returns-3 c =
@@ -29,7 +23,6 @@ returns-3 c =
     (passed _ _ _ _ (ne-eqb _ _ (c .before .if2 .left))
     (given _ _ _ (lt-ltb _ _ (c .if3 .taken))))
 
--- src/vargraph.rt:106:9
 returns-4 : tie.Need-returns-4
 unfolding chainCountFault
 returns-4 c =
@@ -38,11 +31,9 @@ returns-4 c =
     (passed _ _ _ _ (le-ltb _ _ (c .before .if3 .left))
     (given _ _ _ (differ _ _ (c .if4 .taken)))))
 
--- src/vargraph.rt:108:5
 bound-fault-requires : tie.Need-bound-fault-requires
 bound-fault-requires c κs = search needs
 
--- src/vargraph.rt:93:1
 returns-5 : tie.Need-returns-5
 unfolding chainCountFault
 returns-5 c =
