@@ -1,1 +1,5 @@
 pub mod Checked
+pub mod Numbers
+pub mod CheckSteps
+pub mod Graph
+pub mod GraphWalk

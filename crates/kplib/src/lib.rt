@@ -1,4 +1,6 @@
 // The search core: settings and checks, part lists, graph, score, search.
+mod checks;
 pub mod graphparams;
 pub mod pathscore;
 pub mod traverse;
+pub mod vargraph;
