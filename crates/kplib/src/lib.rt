@@ -1,4 +1,6 @@
 // The search core: settings and checks, part lists, graph, score, search.
 pub mod graphparams;
+mod haplotype;
+mod onetoone;
 pub mod pathscore;
 pub mod traverse;
