@@ -5,3 +5,5 @@ pub mod RowSumLaws
 pub mod SizeSumLaws
 pub mod PartLaws
 pub mod CodeLaws
+pub mod VerdictLaws
+pub mod OneToOneLaws
