@@ -14,7 +14,7 @@ use Rattle.kplib.specs.Checked.{Below}
 use Rattle.kplib.specs.Parts.{positionsFrom, wholeOf}
 use Rattle.kplib.specs.Scoring.{keepIf, positionsOfBits, listOfCode}
 
-bits-zero : (i k : ℕ) → positionsOfBits i k 0 ≡ []
+pub bits-zero : (i k : ℕ) → positionsOfBits i k 0 ≡ []
 unfolding positionsOfBits
 bits-zero i zero = refl
 bits-zero i (suc k) = bits-zero (suc i) k

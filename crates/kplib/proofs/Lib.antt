@@ -7,3 +7,4 @@ pub mod PartLaws
 pub mod CodeLaws
 pub mod VerdictLaws
 pub mod OneToOneLaws
+pub mod LayLaws

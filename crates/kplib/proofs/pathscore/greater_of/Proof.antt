@@ -23,7 +23,7 @@ returns c =
 
 returns-2 : tie.Need-returns-2
 returns-2 c =
-    greater-skipped (c .before .before .args .best) (c .before .before .args .partial) (c .before .before .args .verdict) (c .enum-told .given)
+    greater-skipped (c .before .before .args .best) (c .before .before .args .partial) (c .before .before .args .verdict) (c .enum-told .given .1)
 
 returns-3 : tie.Need-returns-3
 returns-3 c =
