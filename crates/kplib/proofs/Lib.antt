@@ -8,3 +8,6 @@ pub mod CodeLaws
 pub mod VerdictLaws
 pub mod OneToOneLaws
 pub mod LayLaws
+pub mod AttemptLaws
+pub mod ChainScoreLaws
+pub mod AnchorLaws
