@@ -19,7 +19,7 @@ returns-2 c =
 returns-3 : tie.Need-returns-3
 returns-3 c =
     let a = c .before .before .args in
-    no-candidate (a .best) (a .row) (a .x) (rw zero-is at (c .if1 .left))
+    no-candidate (a .best) _ (a .x) (rw zero-is at (c .if1 .left))
 
 pub latest-of-spec : {M : Type 1} → statement M
 latest-of-spec = tie.close (tie.spec returns returns-2 returns-3)

@@ -61,9 +61,9 @@ loop-again c =
     let k = c .before .before .before .before .try-list in
     (
       omega (arith, c .before .before .before .before .before .before .before .before .before .before .loop-test .taken),
-      k .kept .1 .1 .1 .1 .1 .1 .1 .1 .0 ∙ l .loop .inv .1,
-      k .kept .1 .1 .1 .1 .1 .1 .1 .1 .1 .0 ∙ l .loop .inv .2,
-      k .kept .1 .1 .1 .1 .1 .1 .1 .1 .1 .1 .0 ∙ l .loop .inv .3,
+      _∙_ {b = length (l .loop .chosen)} (k .kept .1 .1 .1 .1 .1 .1 .1 .1 .0) (l .loop .inv .1),
+      _∙_ {b = length (l .loop .chain-row)} (k .kept .1 .1 .1 .1 .1 .1 .1 .1 .1 .0) (l .loop .inv .2),
+      _∙_ {b = length (l .loop .list-row)} (k .kept .1 .1 .1 .1 .1 .1 .1 .1 .1 .1 .0) (l .loop .inv .3),
       one-more (s .args .s) (s .args .sizes .now) (s .args .features .now) (s .args .chain .now) (s .args .chain-size) (s .args .part-sizes .now) (s .args .part-features .now) (s .args .codes .now) (s .args .list-sizes .now) (s .args .count) (s .args .chosen .now) (s .args .chain-row .now) (s .args .list-row .now) (s .pre) (l .loop .i) (c .before .before .before .before .before .before .before .before .before .before .loop-test .taken) (l .loop .best) _ (l .loop .chain-row) _ (l .loop .inv .4) (k .ensures),
     )
 
