@@ -56,8 +56,8 @@ module _ (s : Settings) (features : List ℤ) (chain : List ℕ) (chainSize : �
   unfolding list e afterList
   attempt-lost t best f h r = record {
     best-is =
-      lost s (best .scored) chainSize (featuresOf e features chain) (length chain) (sizeOf partSizes list) (featuresOf e partFeatures list) (length list) (length partSizes - length list)
-      (sym (rw (c-back, l-back, y .listed .size-is, y .listed .count-is) at f) ∙ h);
+        lost s (best .scored) chainSize (featuresOf e features chain) (length chain) (sizeOf partSizes list) (featuresOf e partFeatures list) (length list) (length partSizes - length list)
+        (sym (rw (c-back, l-back, y .listed .size-is, y .listed .count-is) at f) ∙ h);
     ready = r;
   }
 

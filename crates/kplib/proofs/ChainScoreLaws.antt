@@ -45,7 +45,7 @@ abbrev pub Tried : Settings → List ℤ → List ℕ → ℤ → List ℤ → L
 Tried s features chain chainSize partSizes partFeatures best chainRow i =
     (Ready (best .summed) chainRow (featuresOf (4 ^ s .k) features chain))
     × (afterLists (stepOf s features chain chainSize partSizes partFeatures) (best .scored) (drop i (listsOf s partSizes))
-        ≡ afterLists (stepOf s features chain chainSize partSizes partFeatures) start (listsOf s partSizes))
+    ≡ afterLists (stepOf s features chain chainSize partSizes partFeatures) start (listsOf s partSizes))
 
 pub none-tried : (s : Settings) (features : List ℤ) (chain : List ℕ) (chainSize : ℤ) (partSizes partFeatures chainRow : List ℤ) (b : Scored) → b ≡ start
     → Tried s features chain chainSize partSizes partFeatures (record { scored = b; summed = false }) chainRow 0
@@ -99,8 +99,8 @@ module _ (s : Settings) (sizes features : List ℤ) (chain : List ℕ) (chainSiz
     one-more best r chainRow' chainRow'' v a = (
       a .ready,
       lists-turn (stepOf s features chain (toZ w32 (ofZ w32 chainSize)) partSizes partFeatures) (listsOf s partSizes) (best .scored) (r .scored) _ i inside
-      (a .best-is ∙ ap (λ (l : List ℕ). stepOf s features chain (toZ w32 (ofZ w32 chainSize)) partSizes partFeatures (best .scored) l) (entry .list-is))
-      (v .1),
+          (a .best-is ∙ ap (λ (l : List ℕ). stepOf s features chain (toZ w32 (ofZ w32 chainSize)) partSizes partFeatures (best .scored) l) (entry .list-is))
+          (v .1),
     )
 
   pub all-tried : (i : ℕ) → count ≤ i → (best : Best) (chainRow' : List ℤ) → Tried s features chain (toZ w32 (ofZ w32 chainSize)) partSizes partFeatures best chainRow' i

@@ -219,11 +219,10 @@ module _ (sizes : List ℤ) (lengths : ℕ) (codes₀ : List ℕ) (listSizes₀ 
   laying-turn codes' listSizes' r w =
       let R = choices (length sizes) 0 (length sizes - i) in
       let laid : LaidFrom sizes at codes' listSizes' R = rw (bits-zero 0 (length sizes), all-left, map-nil R) at (w .laid) in
-      let g : at ≡ 0 + length (fallingLists (length sizes) i (length sizes)) = omega (arith, v .0) in
-      (
+      let g : at ≡ 0 + length (fallingLists (length sizes) i (length sizes)) = omega (arith, v .0) in (
         (rw all-left at (w .end)) ∙ sym next-length,
         rw (falling-more (length sizes) i (length sizes))
-        (laid-append 0 at sizes codes codes' listSizes listSizes' (fallingLists (length sizes) i (length sizes)) R g (w .codes-kept) (w .sizes-kept) (v .1) laid),
+            (laid-append 0 at sizes codes codes' listSizes listSizes' (fallingLists (length sizes) i (length sizes)) R g (w .codes-kept) (w .sizes-kept) (v .1) laid),
       )
 
 pub laying-done : (sizes : List ℤ) (lengths : ℕ) (codes₀ : List ℕ) (listSizes₀ : List ℤ) → LayingLengths sizes lengths codes₀ listSizes₀ → (i at : ℕ) → i ≡ lengths
@@ -243,12 +242,12 @@ module _ (s : Settings) (sizes : List ℤ) (codes : List ℕ) (listSizes : List 
       let bits : 65536 * m % 65536 ≡ 0 = omega arith in
       let count : 65536 * m / 65536 ≡ m = omega arith in
       let one : LaidList sizes (65536 * m) size (wholeOf m) = record {
-            list-is = code-whole m (65536 * m) bits ∙ ap wholeOf count;
-            count-is = count ∙ sym (whole-length m);
-            size-is = e;
-            within = whole-below m;
-            most = omega (arith, whole-length m);
-          } in
+        list-is = code-whole m (65536 * m) bits ∙ ap wholeOf count;
+        count-is = count ∙ sym (whole-length m);
+        size-is = e;
+        within = whole-below m;
+        most = omega (arith, whole-length m);
+      } in
       record {
         counted = sym (ap length only);
         laid = rw (only, back size (omega arith)) (go size one);
@@ -268,7 +267,7 @@ module _ (s : Settings) (sizes : List ℤ) (codes : List ℕ) (listSizes : List 
         → LaidLengths sizes lengths codes' listSizes' r → LaidDown s sizes codes' listSizes' r
     lengths-laid codes' listSizes' r lc ll w =
         let all : partLists (length sizes) (s .fnmax) (s .pileupmax) ≡ fallingLists (length sizes) lengths (length sizes) =
-            all-lengths (length sizes) (s .fnmax) (s .pileupmax) h ∙ ap (λ (x : ℕ). fallingLists (length sizes) x (length sizes)) (sym e) in
+        all-lengths (length sizes) (s .fnmax) (s .pileupmax) h ∙ ap (λ (x : ℕ). fallingLists (length sizes) x (length sizes)) (sym e) in
         record {
           counted = w .counted ∙ sym (ap length all);
           laid = rw all (w .laid);

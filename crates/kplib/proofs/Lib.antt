@@ -11,3 +11,4 @@ pub mod LayLaws
 pub mod AttemptLaws
 pub mod ChainScoreLaws
 pub mod AnchorLaws
+pub mod AnswerLaws

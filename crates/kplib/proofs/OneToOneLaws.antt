@@ -20,7 +20,7 @@ use Rattle.kplib.specs.Parts.{wholeOf}
 use Rattle.kplib.specs.Sums.{zeros, sizeOf, featuresOf, Total}
 use Rattle.kplib.specs.Score.{sign, gapOf, scoreValue, seqsimOfRows, listScore, greaterOf, afterList, start}
 use Rattle.kplib.specs.OneToOne.{anchorTotal, rowTotal, nodeTotal, aloneScore, latestOf, overNodes, noLone, oneToOne, loneRows}
-use Rattle.kplib.specs.Scoring.{Tables, Summable, Comparable, total, Matching}
+use Rattle.kplib.specs.Scoring.{Tables, Summable, Comparable, total, Matching, Matchable}
 use Rattle.kplib.specs.declared.graphparams.Settings.{Settings}
 use Rattle.kplib.specs.declared.pathscore.Scored.{Scored}
 use Rattle.kplib.specs.declared.pathscore.Verdict.{Verdict}
@@ -79,7 +79,7 @@ module _ (s : Settings) (sizes features partSizes partFeatures : List ℤ) (y : 
       let row = featuresOf e partFeatures all in
       let q = seqsimOfRows (s .minkfreq) (zeros e) row in
       let d : sumD (s .minkfreq) (zeros e) row ≤ 16777216 =
-          omega (arith, sum-le (partD (s .minkfreq)) (d-le (s .minkfreq)) (zeros e) row, zeros-sum e, features-sum e partFeatures all whole-sum) in
+      omega (arith, sum-le (partD (s .minkfreq)) (d-le (s .minkfreq)) (zeros e) row, zeros-sum e, features-sum e partFeatures all whole-sum) in
       let w = sizeOf partSizes all in
       let z = sizesimValue 0 (natAbs w) in
       let partial = length partSizes - length all in
@@ -159,7 +159,7 @@ module _ (s : Settings) (sizes features partSizes partFeatures : List ℤ) (whol
     pub row-room : (r * length wholeRow + length wholeRow ≤ length features) × (length features ≤ 262144)
     row-room = rw width (
       omega (arith, row-fits (length sizes) (4 ^ s .k) r h, y .tables .rows .flat),
-      omega (arith, y .tables .rows .flat, mul-le-mul-right (4 ^ s .k) (y .tables .rows .few), y .tables .rows .short)
+      omega (arith, y .tables .rows .flat, mul-le-mul-right (4 ^ s .k) (y .tables .rows .few), y .tables .rows .short),
     )
 
     r-back : toZ w32 (ofZ w32 (getD sizes r (pos 0))) ≡ getD sizes r (pos 0)
@@ -184,10 +184,24 @@ module _ (s : Settings) (sizes features partSizes partFeatures : List ℤ) (whol
 
     pub row-scored : (x none : Scored) (v : Verdict) → none ≡ start
         → v ≡ listScore s (total (toZ w32 (ofZ w32 (getD sizes r (pos 0)))) (take (r * length wholeRow + length wholeRow - r * length wholeRow) (drop (r * length wholeRow) features)) 1)
-            (total (toZ w32 (ofZ w32 wholeSize)) wholeRow (length partSizes)) 0
+        (total (toZ w32 (ofZ w32 wholeSize)) wholeRow (length partSizes)) 0
         → x ≡ greaterOf none 0 v → x ≡ aloneScore s partSizes partFeatures (rowTotal (4 ^ s .k) sizes features r)
     unfolding aloneScore afterList
     row-scored x none v n f g =
         let l = whole-length (length partSizes) in
         let z : length partSizes - length partSizes ≡ 0 = omega arith in
         g ∙ rw (f, n, r-back, w-back, row-is, y .row-is, y .size-is, l, z)
+
+-- ---- the whole haplotype summed
+module _ (s : Settings) (sizes features partSizes partFeatures : List ℤ) (chosen : List ℕ) (wholeRow : List ℤ) (y : Matchable s sizes features partSizes partFeatures chosen wholeRow)
+    (list : List ℕ) (f : list ≡ wholeOf (length partSizes)) where
+  pub whole-ok : Summable (length wholeRow) partFeatures list
+  whole-ok = rw (f, y .whole-row) (whole-sum s sizes features partSizes partFeatures (y .tables))
+
+  pub matching : (row : List ℤ) → row ≡ featuresOf (length wholeRow) partFeatures list → (size : ℤ) → size ≡ sizeOf partSizes (wholeOf (length partSizes))
+      → Matching s sizes features partSizes partFeatures row (toZ w32 (ofZ w32 size))
+  matching row g size h =
+      let few : natAbs size ≤ 8388608 =
+      subst (λ (z : ℤ). natAbs z ≤ 8388608) (sym h)
+      (size-le partSizes (wholeOf (length partSizes)) (y .tables .part-sized) (omega (arith, whole-length (length partSizes), y .tables .part-sized .few))) in
+      record { tables = y .tables; row-is = g ∙ rw (f, y .whole-row); size-is = back size (omega arith) ∙ h }

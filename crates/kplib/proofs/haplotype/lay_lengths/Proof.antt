@@ -42,8 +42,7 @@ loop-again : tie.Need-loop-again Inv-loop μ-loop
 loop-again c =
     let s = c .before .before .before .before .before .before .before .before .before in
     let l = c .before .before .before .before .before .before .before in
-    let k = c .before .before .before .lay-choices in
-    (
+    let k = c .before .before .before .lay-choices in (
       omega (arith, c .before .before .before .before .before .before .loop-test .taken),
       k .kept .1 .1 .1 .1 .1 .1 .1 .1 .0 ∙ l .loop .inv .1,
       k .kept .1 .1 .1 .1 .1 .1 .1 .1 .1 .0 ∙ l .loop .inv .2,

@@ -58,8 +58,7 @@ loop-again : tie.Need-loop-again Inv-loop μ-loop
 loop-again c =
     let s = c .before .before .before .before .before .before .before .before .before .before .before .before .before .before .before .before in
     let l = c .before .before .before .before .before .before .before .before .before .before .before in
-    let k = c .before .before .before .before .try-list in
-    (
+    let k = c .before .before .before .before .try-list in (
       omega (arith, c .before .before .before .before .before .before .before .before .before .before .loop-test .taken),
       _∙_ {b = length (l .loop .chosen)} (k .kept .1 .1 .1 .1 .1 .1 .1 .1 .0) (l .loop .inv .1),
       _∙_ {b = length (l .loop .chain-row)} (k .kept .1 .1 .1 .1 .1 .1 .1 .1 .1 .0) (l .loop .inv .2),
