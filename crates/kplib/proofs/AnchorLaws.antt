@@ -1,20 +1,20 @@
 -- Source and sink have zero features: against a zero row n is d, a number over itself rounds to 1, and 1 - 1 is 0. So no seqsim with them is above 0. Assumes nothing.
-use mathlib.Core.Path.{_≡_, refl, sym, ap, _∙_, subst}
-use mathlib.Core.Bool.{Bool, true, false, not, cond}
+use mathlib.Core.Path.{_≡_, refl}
+use mathlib.Core.Bool.{Bool, true, false, cond}
 use mathlib.Core.List.{List, [], _∷_}
 use Prim.Native.Nat.{ℕ, zero, suc, _+_, _*_, _≤_, _<_}
 use native.Mathlib.Nat.{mul-pos, mul-comm}
 use native.Mathlib.Omega.{arith}
 use borrow.Author.Tests.{ne-eqb}
-use lib.Dec.{T, leb, eqb, ltb}
-use lib.IntN.{ℤ, pos, natAbs, _-ℤ_}
+use lib.Dec.{leb}
+use lib.IntN.{ℤ, pos, natAbs}
 use lib.ListN.{replicate}
-use lib.Ieee.{Float, nan, inf, fin, Format, binary32, up, down, round, ofInt, sub, div, lt}
+use lib.Ieee.{Float, nan, inf, fin, binary32, up, down, round, ofInt, sub, div, lt}
 use lib.Ieee.Fits.{down-pos, up-pos}
 use lib.Ieee.Exact.{HasValue}
 use lib.Ieee.Back.{round-whole}
 use lib.Ieee.Scale.{round-same}
-use Rattle.metrics.specs.Similarity.{whole, partD, partN, sumBy, sumD, sumN, seqsimValue, both}
+use Rattle.metrics.specs.Similarity.{whole, partD, partN, sumBy, sumD, sumN, seqsimValue}
 use Rattle.metrics.proofs.Ints.{abs-minus}
 use Rattle.kplib.specs.Sums.{zeros}
 use Rattle.kplib.specs.Score.{seqsimOfRows}

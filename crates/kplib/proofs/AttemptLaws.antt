@@ -1,7 +1,7 @@
 -- One laid list against a chain: what each call of `try_list` asks, and that its result is the definition's, skipped or scored. Assumes nothing.
-use mathlib.Core.Path.{_≡_, refl, sym, ap, _∙_, subst}
+use mathlib.Core.Path.{_≡_, sym, ap, _∙_, subst}
 use mathlib.Core.Bool.{Bool, true, false}
-use mathlib.Core.List.{List, []}
+use mathlib.Core.List.{List}
 use Prim.Native.Nat.{ℕ, _-_, _/_, _^_, _≤_}
 use native.Mathlib.Omega.{arith}
 use lib.IntN.{ℤ, natAbs}
@@ -11,14 +11,14 @@ use mir.Val.{toZ, ofZ}
 use Rattle.metrics.specs.Similarity.{magnitudeSum}
 use Rattle.kplib.specs.Sums.{sizeOf, featuresOf}
 use Rattle.kplib.specs.Score.{listScore, greaterOf, afterList}
-use Rattle.kplib.specs.Scoring.{listOfCode, LaidList, Summable, Ready, total, chainTotal, Comparable, mayWin, Attempt, Attempted}
+use Rattle.kplib.specs.Scoring.{listOfCode, Summable, Ready, total, Comparable, mayWin, Attempt, Attempted}
 use Rattle.kplib.specs.declared.graphparams.Settings.{Settings}
 use Rattle.kplib.specs.declared.pathscore.Scored.{Scored}
 use Rattle.kplib.specs.declared.pathscore.Verdict.{Verdict}
 use Rattle.kplib.specs.declared.pathscore.Best.{Best}
 use Rattle.kplib.proofs.WordLaws.{back}
 use Rattle.kplib.proofs.SizeSumLaws.{size-le}
-use Rattle.kplib.proofs.RowSumLaws.{summable, summable-at, features-length, features-sum}
+use Rattle.kplib.proofs.RowSumLaws.{summable, features-length, features-sum}
 use Rattle.kplib.proofs.VerdictLaws.{lost}
 
 module _ (s : Settings) (features : List ℤ) (chain : List ℕ) (chainSize : ℤ) (partSizes partFeatures : List ℤ) (code : ℕ) (size : ℤ) (chosen : List ℕ) (chainRow listRow : List ℤ) (summed : Bool)

@@ -1,7 +1,7 @@
 -- The loop over the laid lists: the best so far, after the lists that are left, is the chain's score. Assumes nothing.
-use mathlib.Core.Path.{_≡_, refl, sym, ap, _∙_, subst}
+use mathlib.Core.Path.{_≡_, sym, ap, _∙_, subst}
 use mathlib.Core.Bool.{Bool, false}
-use mathlib.Core.List.{List, [], _∷_}
+use mathlib.Core.List.{List, []}
 use Prim.Native.Nat.{ℕ, _+_, _^_, _≤_, _<_}
 use native.Mathlib.Omega.{arith}
 use native.Mathlib.Numerals.{add-one}
@@ -10,16 +10,23 @@ use lib.ListN.{length, getD, drop, drop-of-length-le}
 use lib.Seq.{drop-cons}
 use mir.Syntax.{w32}
 use mir.Val.{toZ, ofZ}
+use Rattle.kplib.specs.Checked.{Checked}
 use Rattle.kplib.specs.Parts.{partLists}
-use Rattle.kplib.specs.Sums.{sizeOf, featuresOf}
+use Rattle.kplib.specs.Sums.{featuresOf}
 use Rattle.kplib.specs.Score.{start, afterList, afterLists, chainScore}
-use Rattle.kplib.specs.Scoring.{listOfCode, LaidList, Ready, chainTotal, Attempt, Attempted, Scorable}
+use Rattle.kplib.specs.Scoring.{Tables, listOfCode, LaidList, Ready, chainTotal, Attempt, Attempted, Scorable}
 use Rattle.kplib.specs.declared.graphparams.Settings.{Settings}
 use Rattle.kplib.specs.declared.pathscore.Scored.{Scored}
 use Rattle.kplib.specs.declared.pathscore.Best.{Best}
 use Rattle.kplib.proofs.WordLaws.{back}
 use Rattle.kplib.proofs.SizeSumLaws.{size-le}
 use Rattle.kplib.proofs.RowSumLaws.{summable}
+
+-- what an accepted job gives the scoring
+pub tables-of : (s : Settings) (starts ends : List ℕ) (sizes features partSizes partFeatures : List ℤ) → Checked s starts ends sizes features partSizes partFeatures
+    → Tables s sizes features partSizes partFeatures
+tables-of s starts ends sizes features partSizes partFeatures c =
+    record { minkfreq = c .minkfreq; sized = c .sized; rows = c .rows; part-sized = c .part-sized; part-rows = c .part-rows }
 
 module _ (f : Scored → List ℕ → Scored) (L : List (List ℕ)) where
   lists-turn : (b b' x : Scored) (i : ℕ) → i < length L → b' ≡ f b (getD L i []) → afterLists f b (drop i L) ≡ x → afterLists f b' (drop (i + 1) L) ≡ x

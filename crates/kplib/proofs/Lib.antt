@@ -12,3 +12,4 @@ pub mod AttemptLaws
 pub mod ChainScoreLaws
 pub mod AnchorLaws
 pub mod AnswerLaws
+pub mod PartExamples

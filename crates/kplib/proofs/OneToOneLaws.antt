@@ -1,8 +1,8 @@
--- One-to-one: which way `latestOf` goes, that a turn of source or sink leaves the best as it is, and the loop over the rows alone. Assumes nothing.
+-- One-to-one: which way `latestOf` goes, that the turn of source or sink leaves the best as it is, and the loop over the rows alone. Assumes nothing.
 use mathlib.Core.Path.{_≡_, refl, sym, ap, _∙_, subst}
 use mathlib.Core.Bool.{Bool, true, false, cond, not, _&&_}
-use mathlib.Core.List.{List, []}
-use Prim.Native.Nat.{ℕ, zero, suc, _+_, _-_, _*_, _^_, _≤_, _<_}
+use mathlib.Core.List.{List}
+use Prim.Native.Nat.{ℕ, suc, _+_, _-_, _*_, _^_, _≤_, _<_}
 use native.Mathlib.Omega.{arith}
 use native.Mathlib.Nat.{mul-le-mul-right}
 use native.Mathlib.Numerals.{add-one}
@@ -15,11 +15,11 @@ use mir.Syntax.{w32}
 use mir.Val.{toZ, ofZ}
 use Rattle.metrics.specs.Similarity.{whole, sizesimValue, magnitudeSum, partD, sumD}
 use Rattle.metrics.proofs.Rows.{sum-le, d-le}
-use Rattle.kplib.specs.Checked.{rowAt, Below}
+use Rattle.kplib.specs.Checked.{rowAt}
 use Rattle.kplib.specs.Parts.{wholeOf}
 use Rattle.kplib.specs.Sums.{zeros, sizeOf, featuresOf, Total}
 use Rattle.kplib.specs.Score.{sign, gapOf, scoreValue, seqsimOfRows, listScore, greaterOf, afterList, start}
-use Rattle.kplib.specs.OneToOne.{anchorTotal, rowTotal, nodeTotal, aloneScore, latestOf, overNodes, noLone, oneToOne, loneRows}
+use Rattle.kplib.specs.OneToOne.{anchorTotal, rowTotal, nodeTotal, aloneScore, latestOf, overNodes, noLone, oneToOne}
 use Rattle.kplib.specs.Scoring.{Tables, Summable, Comparable, total, Matching, Matchable}
 use Rattle.kplib.specs.declared.graphparams.Settings.{Settings}
 use Rattle.kplib.specs.declared.pathscore.Scored.{Scored}
@@ -95,15 +95,15 @@ module _ (s : Settings) (sizes features partSizes partFeatures : List ℤ) (y : 
   abbrev pub nodeStep : Lone → ℕ → Lone
   nodeStep best node = latestOf best node (aloneScore s partSizes partFeatures (nodeTotal e sizes features node))
 
-  row-node : (r : ℕ) → r < length sizes → nodeTotal e sizes features (r + 1) ≡ rowTotal e sizes features r
+  pub row-node : (r : ℕ) → r < length sizes → nodeTotal e sizes features (r + 1) ≡ rowTotal e sizes features r
   unfolding nodeTotal
   row-node r h = rw (add-one r, lt-ltb r (length sizes) h)
 
-  source-step : (best : Lone) → nodeStep best 0 ≡ best
+  pub source-step : (best : Lone) → nodeStep best 0 ≡ best
   unfolding nodeTotal
   source-step best = anchor-passed best 0
 
-  sink-step : (best : Lone) → nodeStep best (length sizes + 1) ≡ best
+  pub sink-step : (best : Lone) → nodeStep best (length sizes + 1) ≡ best
   unfolding nodeTotal
   sink-step best = rw (add-one (length sizes), le-ltb (length sizes) (length sizes) (omega arith)) (anchor-passed best (suc (length sizes)))
 

@@ -2,14 +2,14 @@
 -- how many there are: at most 2 ^ m - 1, since the lists of every length up to n are at most 2 ^ m and the empty one is not among them. Assumes nothing.
 use mathlib.Core.Path.{_≡_, refl, sym, ap, _∙_}
 use mathlib.Core.List.{List, [], _∷_, _++_, map, append-assoc, append-nil}
-use Prim.Native.Nat.{ℕ, zero, suc, _+_, _-_, _*_, _^_, _≤_, _<_, max, zero-le}
+use Prim.Native.Nat.{ℕ, zero, suc, _+_, _-_, _^_, _≤_, _<_}
 use native.Mathlib.Omega.{arith}
 use native.Mathlib.Nat.{not-suc-le-zero, le-of-suc-le-suc, pow-suc}
 use native.Mathlib.Numerals.{add-one}
 use borrow.Author.Tests.{le-leb, lt-leb}
 use lib.ListN.{length, length-append}
 use lib.Pow.{pow-mono, pow-pos}
-use Rattle.kplib.specs.Parts.{positionsFrom, wholeOf, choices, fallingLists, lengthsOf, partLists}
+use Rattle.kplib.specs.Parts.{wholeOf, choices, fallingLists, lengthsOf, partLists}
 
 pub choices-none : (left p n : ℕ) → left < n → choices left p n ≡ []
 unfolding choices

@@ -1,16 +1,16 @@
 -- Rounded addition, subtraction and halving keep the order of floats, so a list scores no more than it would with seqsim 1.0, whatever the settings. Assumes nothing.
 use mathlib.Core.Path.{_≡_, refl, sym, ap, _∙_, subst}
-use mathlib.Core.Bool.{Bool, true, false, not, cond, _&&_, Bool·beq}
-use Prim.Native.Nat.{ℕ, zero, suc, _+_, _-_, _*_, _/_, _%_, _^_, _≤_, _<_, compare, zero-le}
+use mathlib.Core.Bool.{Bool, true, false, not, cond}
+use Prim.Native.Nat.{ℕ, zero, suc, _+_, _-_, _*_, _/_, _%_, _^_, _≤_, _<_, compare}
 use native.Mathlib.Nat.{mul-assoc, mul-comm, mul-left-comm, add-mul, mul-pos, mul-le-mul-right}
 use native.Mathlib.Omega.{arith}
 use borrow.Author.Tests.{ltb-true, ltb-false}
 use lib.Dec.{T, ltb, eqb}
 use lib.Pow.{pow-pos}
 use lib.IntN.{ℤ, pos}
-use lib.Ieee.{Float, nan, inf, fin, Format, binary32, prec, emax, low, up, down, size, nearest, odd, units, round, neg, sum, add, sub, mul, div, unlike, ofInt, lt, le, isNan}
+use lib.Ieee.{Float, nan, inf, fin, Format, binary32, prec, emax, low, up, down, size, nearest, odd, units, round, neg, sum, add, sub, mul, div, ofInt, lt, le}
 use Rattle.metrics.specs.Similarity.{whole, seqsimValue}
-use lib.Ieee.Fits.{core, round-is, down-pos}
+use lib.Ieee.Fits.{round-is, down-pos}
 use lib.Ieee.Exact.{HasValue, round-exact}
 use lib.Ieee.Order.{round-mono}
 use Rattle.kplib.specs.Score.{scoreValue}
