@@ -1,4 +1,3 @@
-use Rattle.metrics.specs.Letters.{countsOf}
 use borrow.Author.Needs.{needs}
 use mathlib.Core.Path.{_≡_, refl, sym, ap, _∙_, subst}
 use mathlib.Core.List.{List}
@@ -7,9 +6,9 @@ use native.Mathlib.Omega.{arith}
 use native.Mathlib.Nat.{mod-lt, zero-mod}
 use lib.IntN.{ℤ, pos, natAbs}
 use lib.ListN.{length, take, getD, set, replicate, length-set, length-replicate}
-use Rattle.metrics.specs.Letters.{codeOf, numberOf, windowAt, windows, countsTo}
+use Rattle.metrics.specs.Letters.{codeOf, numberOf}
 use Rattle.metrics.proofs.Ints.{read-back}
-use Rattle.metrics.proofs.Windows.{letter-le, number-more, four-pos, turn-number, turn-window, turn-row, turn-none, counts-length, counts-zero, counts-size, counts-more}
+use Rattle.metrics.proofs.Windows.{windowAt, countsTo, counts-whole, letter-le, number-more, four-pos, turn-number, turn-window, turn-row, turn-none, counts-length, counts-zero, counts-size, counts-more}
 use Rattle.metrics.proofs.kmer.count_windows.Statement.{statement}
 use Rattle.metrics.proofs.kmer.count_windows.Tie as tie
 use Rattle.metrics.proofs.kmer.count_windows.Reads as reads
@@ -157,11 +156,10 @@ same-length c =
 
 -- src/kmer.rt:65:1
 returns : tie.Need-returns Inv-loop μ-loop
-unfolding countsOf
 returns c =
     let s = c .before .before .before .before in
     let e : c .before .loop .p ≡ length (s .args .seq .now) = omega arith in
-    rw e at (c .before .loop .inv .4)
+    rw e at (c .before .loop .inv .4) ∙ counts-whole (s .args .k) (s .args .negative) (s .args .seq .now) (omega arith)
 
 pub count-windows-spec : {M : Type 1} → statement M
 count-windows-spec =
