@@ -25,7 +25,6 @@ Inv-loop seq k size negative out₀ width t v₀ p₀ out v p =
 abbrev μ-loop : tie.MeasureT-loop
 μ-loop seq k size negative out₀ width t v₀ p₀ out v p = length seq - p
 
--- src/kmer.rt:72:5
 loop-holds : tie.Need-loop-holds Inv-loop μ-loop
 unfolding numberOf
 loop-holds c =
@@ -85,19 +84,15 @@ new-window : (c : tie.Then1 Inv-loop μ-loop) → new (c .before) ≡ windowAt (
 new-window c =
     new-is (c .before) ∙ turn-window (Args (c .before) .args .k) (Args (c .before) .args .seq .now) (At (c .before) .loop .p) (c .if1 .taken) (In (c .before) .loop-test .taken)
 
--- src/kmer.rt:74:9
 add-p : tie.Need-add-p Inv-loop μ-loop
 add-p c = search needs
 
--- src/kmer.rt:76:29
 mul-bumped : tie.Need-mul-bumped Inv-loop μ-loop
 mul-bumped c = omega (arith, new-lt (c .before))
 
--- src/kmer.rt:76:29
 slice-copy-out-bumped : tie.Need-slice-copy-out-bumped Inv-loop μ-loop
 slice-copy-out-bumped c = omega (arith, new-lt (c .before))
 
--- src/kmer.rt:76:22
 bumped-requires : tie.Need-bumped-requires Inv-loop μ-loop
 bumped-requires c κs =
     let a = c .before .before in
@@ -108,19 +103,15 @@ bumped-requires c κs =
     rw (read-back _ (c .bumped-arg .given), At a .loop .inv .4)
     (omega (arith, counts-size k (Args a .args .negative) (Args a .args .seq .now) n (new a) room))
 
--- src/kmer.rt:76:13
 mul-t20 : tie.Need-mul-t20 Inv-loop μ-loop
 mul-t20 c = omega (arith, new-lt (c .before .before .before))
 
--- src/kmer.rt:76:13
 slice-set-from-out : tie.Need-slice-set-from-out Inv-loop μ-loop
 slice-set-from-out c = omega (arith, new-lt (c .before .before .before))
 
--- src/kmer.rt:72:5
 loop-less : tie.Need-loop-less Inv-loop μ-loop
 loop-less c = search needs
 
--- src/kmer.rt:72:5
 loop-again : tie.Need-loop-again Inv-loop μ-loop
 loop-again c =
     let a = c .before .before .before in
@@ -137,24 +128,20 @@ loop-again c =
           (At a .loop .inv .4) (new-window (c .before .before)) y,
     )
 
--- src/kmer.rt:72:5
 loop-less-2 : tie.Need-loop-less-2 Inv-loop μ-loop
 loop-less-2 c = search needs
 
--- src/kmer.rt:72:5
 loop-again-2 : tie.Need-loop-again-2 Inv-loop μ-loop
 loop-again-2 c =
     let a = c .before in
     let k = Args a .args .k in
     (omega arith, new-lt a, new-is a, At a .loop .inv .3, rw (turn-none k (At a .loop .p) (c .if1 .left)) (At a .loop .inv .4))
 
--- src/kmer.rt:65:1
 same-length : tie.Need-same-length Inv-loop μ-loop
 same-length c =
     let s = c .before .before .before .before in
     c .before .loop .inv .3 ∙ s .pre .0 ∙ sym (ap length (s .pre .4) ∙ length-replicate (4 ^ s .args .k) (pos 0))
 
--- src/kmer.rt:65:1
 returns : tie.Need-returns Inv-loop μ-loop
 returns c =
     let s = c .before .before .before .before in

@@ -5,47 +5,38 @@ use Rattle.metrics.proofs.kmer.letter.Tie as tie
 use Rattle.metrics.proofs.kmer.letter.Reads as reads
 use Rattle.metrics.proofs.kmer.letter.Lts as lts
 
--- src/kmer.rt:15:1
 returns : tie.Need-returns
 unfolding codeOf
 returns c = rw (c .match .keys1)
 
--- src/kmer.rt:15:1
 returns-2 : tie.Need-returns-2
 unfolding codeOf
 returns-2 c = rw (c .match .keys2)
 
--- src/kmer.rt:15:1
 returns-3 : tie.Need-returns-3
 unfolding codeOf
 returns-3 c = rw (c .match .keys3)
 
--- src/kmer.rt:15:1
 returns-4 : tie.Need-returns-4
 unfolding codeOf
 returns-4 c = rw (c .match .keys4)
 
--- src/kmer.rt:15:1
 returns-5 : tie.Need-returns-5
 unfolding codeOf
 returns-5 c = rw (c .match .keys5)
 
--- src/kmer.rt:15:1
 returns-6 : tie.Need-returns-6
 unfolding codeOf
 returns-6 c = rw (c .match .keys6)
 
--- src/kmer.rt:15:1
 returns-7 : tie.Need-returns-7
 unfolding codeOf
 returns-7 c = rw (c .match .keys7)
 
--- src/kmer.rt:15:1
 returns-8 : tie.Need-returns-8
 unfolding codeOf
 returns-8 c = rw (c .match .keys8)
 
--- src/kmer.rt:15:1
 returns-9 : tie.Need-returns-9
 unfolding codeOf
 returns-9 c =

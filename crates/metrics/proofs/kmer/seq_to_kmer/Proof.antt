@@ -15,21 +15,17 @@ use Rattle.metrics.proofs.kmer.clear.Reads as clear-reads
 use Rattle.metrics.proofs.kmer.count_windows.Reads as count-windows-reads
 use Rattle.metrics.proofs.kmer.entries.Reads as entries-reads
 
--- src/kmer.rt:87:9
 returns : tie.Need-returns
 unfolding counterAnswer
 returns c = (rw (lt-leb _ _ (c .if1 .taken)), refl)
 
--- src/kmer.rt:90:9
 returns-2 : tie.Need-returns-2
 unfolding counterAnswer
 returns-2 c = (rw (le-leb _ _ (c .before .if1 .left), lt-leb _ _ (c .if2 .taken)), refl)
 
--- src/kmer.rt:92:9
 entries-requires : tie.Need-entries-requires
 entries-requires c κs = search needs
 
--- src/kmer.rt:94:9
 returns-3 : tie.Need-returns-3
 unfolding counterAnswer
 returns-3 c =
@@ -37,7 +33,6 @@ returns-3 c =
     let e = d .entries .ensures in
     (rw (le-leb _ _ (d .before .before .if1 .left), le-leb _ _ (d .before .if2 .left), ← e, ne-eqb _ _ (c .if3 .taken)), refl)
 
--- src/kmer.rt:97:9
 returns-4 : tie.Need-returns-4
 unfolding counterAnswer
 returns-4 c =
@@ -45,11 +40,9 @@ returns-4 c =
     let e = d .entries .ensures in
     (rw (le-leb _ _ (d .before .before .if1 .left), le-leb _ _ (d .before .if2 .left), ← e, eq-eqb _ _ (c .before .if3 .left), lt-ltb _ _ (c .if4 .taken)), refl)
 
--- src/kmer.rt:99:5
 clear-requires : tie.Need-clear-requires
 clear-requires c κs = search needs
 
--- src/kmer.rt:100:5
 count-windows-requires : tie.Need-count-windows-requires
 count-windows-requires c κs =
     let d = c .before .before .before .before .before .before in
@@ -65,11 +58,9 @@ count-windows-requires c κs =
       c .before .before .clear .ensures ∙ ap (λ (n : ℕ). replicate n (pos 0)) (c .before .before .before .before .before .if3 .left ∙ e),
     )
 
--- src/kmer.rt:82:1
 same-length : tie.Need-same-length
 same-length c = search needs
 
--- src/kmer.rt:82:1
 returns-5 : tie.Need-returns-5
 unfolding counterAnswer
 returns-5 c =

@@ -4,33 +4,28 @@ use native.Mathlib.Omega.{arith}
 use mir.Syntax.{w32}
 use mir.ValLaws.{toZ-ofZ}
 use Rattle.metrics.specs.Lanes.{bitsOf}
-use Rattle.metrics.proofs.LaneLaws.{apart-code}
+use Rattle.metrics.proofs.LaneLaws.{apart-bits}
 use borrow.Author.Needs.{needs}
-use Rattle.metrics.proofs.apart.Statement.{statement}
-use Rattle.metrics.proofs.apart.Tie as tie
-use Rattle.metrics.proofs.apart.Reads as reads
-use Rattle.metrics.proofs.apart.Lts as lts
-use Rattle.metrics.proofs.bits.Reads as bits-reads
-use Rattle.metrics.proofs.fold.Reads as fold-reads
+use Rattle.metrics.proofs.lanes.apart.Statement.{statement}
+use Rattle.metrics.proofs.lanes.apart.Tie as tie
+use Rattle.metrics.proofs.lanes.apart.Reads as reads
+use Rattle.metrics.proofs.lanes.apart.Lts as lts
+use Rattle.metrics.proofs.lanes.bits.Reads as bits-reads
+use Rattle.metrics.proofs.lanes.magnitude_of_bits.Reads as magnitude-of-bits-reads
 use Rattle.std.proofs.num.wrapping_sub_u32.Reads as wrapping-sub-u32-reads
 
--- src/lib.rt:89:37
 bits-requires : tie.Need-bits-requires
 bits-requires c κs = search needs
 
--- src/lib.rt:89:46
 bits-requires-2 : tie.Need-bits-requires-2
 bits-requires-2 c κs = search needs
 
--- src/lib.rt:89:10
 wrapping-sub-u32-requires : tie.Need-wrapping-sub-u32-requires
 wrapping-sub-u32-requires c κs = search needs
 
--- src/lib.rt:89:5
-fold-requires : tie.Need-fold-requires
-fold-requires c κs = search needs
+magnitude-of-bits-requires : tie.Need-magnitude-of-bits-requires
+magnitude-of-bits-requires c κs = search needs
 
--- src/lib.rt:86:1
 returns : tie.Need-returns
 returns c =
     λ h.
@@ -42,9 +37,9 @@ returns c =
     let w = c .before .wrapping-sub-u32 .result in
     let hw : w < 4294967296 = omega (arith, c .before .wrapping-sub-u32 .ok) in
     let e : (w + bitsOf y) % 4294967296 ≡ bitsOf x = rw (← ex, ← ey) (c .before .wrapping-sub-u32 .ensures) in
-    (c .fold .ensures) ∙ apart-code x y w hw e h
+    (c .magnitude-of-bits .ensures) ∙ apart-bits x y w hw e h
 
 pub apart-spec : {M : Type 1} → statement M
 apart-spec =
     tie.close
-    (tie.spec bits-requires bits-requires-2 wrapping-sub-u32-requires fold-requires returns)
+    (tie.spec bits-requires bits-requires-2 wrapping-sub-u32-requires magnitude-of-bits-requires returns)

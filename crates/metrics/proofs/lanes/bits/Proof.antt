@@ -9,11 +9,11 @@ use mir.Val.{toZ, ofZ}
 use mir.ValLaws.{toZ-ofZ}
 use Rattle.metrics.specs.Lanes.{bitsOf}
 use Rattle.metrics.proofs.Ints.{entry-size}
-use Rattle.metrics.proofs.LaneLaws.{raised, itself, code-lt, wide, again}
-use Rattle.metrics.proofs.bits.Statement.{statement}
-use Rattle.metrics.proofs.bits.Tie as tie
-use Rattle.metrics.proofs.bits.Reads as reads
-use Rattle.metrics.proofs.bits.Lts as lts
+use Rattle.metrics.proofs.LaneLaws.{raised, itself, bits-lt, wide, again}
+use Rattle.metrics.proofs.lanes.bits.Statement.{statement}
+use Rattle.metrics.proofs.lanes.bits.Tie as tie
+use Rattle.metrics.proofs.lanes.bits.Reads as reads
+use Rattle.metrics.proofs.lanes.bits.Lts as lts
 
 -- the sum of a negative entry and 2 ^ 32, as the machine has it
 sum-is : (c : tie.Then1) → let x = c .before .args .x in toZ w64 (ofZ w64 (toZ w32 (ofZ w32 x))) +ℤ pos 4294967296 ≡ pos (bitsOf x)
@@ -30,24 +30,24 @@ cast-result c =
     rw (toZ-ofZ w32 x s) (wide x (omega (arith, entry-size x s)))
 
 add-result : tie.Need-add-result
-add-result c = rw (sum-is c) (wide _ (omega (arith, code-lt (c .before .args .x) (c .before .fits .x .sfits))))
+add-result c = rw (sum-is c) (wide _ (omega (arith, bits-lt (c .before .args .x) (c .before .fits .x .sfits))))
 
 cast-result-2 : tie.Need-cast-result-2
 cast-result-2 c =
     let x = c .before .args .x in
-    let h = code-lt x (c .before .fits .x .sfits) in
+    let h = bits-lt x (c .before .fits .x .sfits) in
     rw (sum-is c, again (pos (bitsOf x)) (omega arith)) (tt, record { fits = h })
 
 cast-result-3 : tie.Need-cast-result-3
 cast-result-3 c =
     let x = c .before .args .x in
     let s = c .before .fits .x in
-    rw (toZ-ofZ w32 x s, itself x (rw (toZ-ofZ w32 x s) at (c .if1 .left))) (tt, record { fits = code-lt x (s .sfits) })
+    rw (toZ-ofZ w32 x s, itself x (rw (toZ-ofZ w32 x s) at (c .if1 .left))) (tt, record { fits = bits-lt x (s .sfits) })
 
 returns : tie.Need-returns
 returns c =
     let x = c .before .args .x in
-    let h = code-lt x (c .before .fits .x .sfits) in
+    let h = bits-lt x (c .before .fits .x .sfits) in
     rw (sum-is c, again (pos (bitsOf x)) (omega arith))
 
 returns-2 : tie.Need-returns-2
