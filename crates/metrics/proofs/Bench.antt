@@ -4,9 +4,9 @@ use mathlib.Core.Bool.{true, false}
 use mathlib.Core.List.{List, [], _∷_}
 use Prim.Native.Nat.{ℕ}
 use lib.IntN.{ℤ, pos, negsuc}
-use lib.Ieee.{ofBits, ofInt, div, sub, binary32, round, fin, Float}
+use lib.Ieee.{ofBits, ofInt, div, sub, binary32}
 use lib.ListN.{replicate}
-use Rattle.metrics.specs.declared.Sim.the-variants.{Value, Refused}
+use Rattle.metrics.specs.declared.Sim.the-variants.{Value}
 use Rattle.metrics.specs.Similarity.{sizesimOf, seqsimOf, sumD, sumN, sumBy, magnitudeSum}
 use Rattle.metrics.specs.Letters.{countsOf, windowsOf, timesIn, tableFrom, numberOf, codeOf}
 

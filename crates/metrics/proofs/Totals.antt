@@ -1,6 +1,6 @@
 -- Document 01: the entries of a counted row sum to plus or minus the number of windows, and their magnitudes to that number. Each window adds
 -- one to one entry of the row, so the sum over the entries is the length of the list of windows. Assumes nothing.
-use mathlib.Core.Path.{_≡_, refl, sym, ap, _∙_, subst}
+use mathlib.Core.Path.{_≡_, refl, ap, _∙_}
 use mathlib.Core.Bool.{Bool, true, false, cond, not, _&&_}
 use mathlib.Core.List.{List, [], _∷_}
 use mathlib.Core.Logic.{⊎-elim}
@@ -9,10 +9,9 @@ use native.Mathlib.Nat.{eq-or-lt-of-le}
 use native.Mathlib.Omega.{arith}
 use lib.Dec.{leb, ltb, eqb}
 use lib.ListN.{length, take}
-use lib.IntN.{ℤ, pos, negsuc, _+ℤ_, +ℤ-idl, +ℤ-idr}
+use lib.IntN.{ℤ, pos, _+ℤ_, +ℤ-idl, +ℤ-idr}
 use lib.Seq.{length-take-le}
 use borrow.Author.Tests.{leb-true, leb-false, ltb-false, eq-eqb, ne-eqb, le-leb, le-ltb}
-use Rattle.metrics.specs.declared.kmer.Counted.{Counted}
 use Rattle.metrics.specs.declared.kmer.Counted.the-variants.{Done, Refused}
 use Rattle.metrics.specs.Similarity.{magnitudeSum}
 use Rattle.metrics.specs.Letters.{numberOf, windowsOf, timesIn, signed, tableFrom, countsOf, counterAnswer, countedNumber, entriesOf, EntriesSum, RowWithinLimit}

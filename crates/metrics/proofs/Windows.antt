@@ -3,15 +3,14 @@
 use mathlib.Core.Path.{_≡_, refl, sym, ap, _∙_, subst}
 use mathlib.Core.Bool.{Bool, true, false, cond}
 use mathlib.Core.List.{List, [], _∷_, _++_}
-use mathlib.Core.Logic.{inl, inr}
 use Prim.Native.Nat.{ℕ, zero, suc, _+_, _-_, _*_, _/_, _%_, _^_, _≤_, _<_, zero-le}
-use native.Mathlib.Nat.{add-assoc, add-mul, mul-assoc, mul-comm, pow-succ', le-refl, mod-eq-of-lt, mul-add-mod-self-right, mod-add-mod, add-mod, div-add-mod', mod-lt, mul-le-mul-right, mul-right-comm, add-zero, pow-le-pow-right}
+use native.Mathlib.Nat.{add-assoc, add-mul, mul-assoc, pow-succ', le-refl, mod-eq-of-lt, mul-add-mod-self-right, div-add-mod', mul-le-mul-right, mul-right-comm, add-zero, pow-le-pow-right}
 use borrow.Author.Tests.{eqb-true, eqb-false, leb-true, leb-false}
 use native.Mathlib.Numerals.{add-one}
 use native.Mathlib.Omega.{arith}
-use lib.Dec.{T, leb, ltb, eqb}
-use lib.IntN.{ℤ, pos, negsuc, negℤ, natAbs, sucℤ, predℤ}
-use lib.ListN.{length, getD, take, drop, set, replicate, length-append, length-drop, length-replicate, length-set}
+use lib.Dec.{leb, eqb}
+use lib.IntN.{ℤ, pos, natAbs, sucℤ, predℤ}
+use lib.ListN.{length, getD, take, drop, set, replicate, length-append, length-drop, length-set}
 use lib.Pow.{pow-add}
 use lib.Seq.{take-add, take-suc, length-take-le, getD-set-same, getD-set-other, ext-getD}
 use borrow.Author.Tests.{eq-eqb, ne-eqb}

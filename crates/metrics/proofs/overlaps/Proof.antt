@@ -1,11 +1,8 @@
+-- The test is the definition's.
 use Rattle.metrics.specs.Similarity.{overlapsOf}
 use borrow.Author.Needs.{needs}
 use Rattle.metrics.proofs.overlaps.Statement.{statement}
 use Rattle.metrics.proofs.overlaps.Tie as tie
-use Rattle.metrics.proofs.overlaps.Reads as reads
-use Rattle.metrics.proofs.overlaps.Lts as lts
-use Rattle.metrics.proofs.larger.Reads as larger-reads
-use Rattle.metrics.proofs.smaller.Reads as smaller-reads
 
 larger-requires : tie.Need-larger-requires
 larger-requires c κs = search needs

@@ -1,7 +1,7 @@
+-- Each return is one case of the definition. Where a row is within its limit, by the cheap test or by the exact one, the sums of the pass are right.
 use mathlib.Core.Path.{_≡_, sym, _∙_}
 use mathlib.Core.List.{List}
-use Prim.Native.Nat.{ℕ, _≤_, _<_}
-use native.Mathlib.Omega.{arith}
+use Prim.Native.Nat.{ℕ, _≤_}
 use lib.IntN.{ℤ}
 use lib.Ieee.{Float}
 use borrow.Author.Tests.{lt-ltb, le-ltb, ne-eqb, ltb-false}
@@ -12,12 +12,6 @@ use Rattle.metrics.proofs.LaneLaws.{Good, good-within, good-rows, good-
 use borrow.Author.Needs.{needs}
 use Rattle.metrics.proofs.seqsim.Statement.{statement}
 use Rattle.metrics.proofs.seqsim.Tie as tie
-use Rattle.metrics.proofs.seqsim.Reads as reads
-use Rattle.metrics.proofs.seqsim.Lts as lts
-use Rattle.metrics.proofs.lanes.row_over.Reads as row-over-reads
-use Rattle.metrics.proofs.rounded_similarity.Reads as rounded-similarity-reads
-use Rattle.metrics.proofs.lanes.sum_rows.Reads as sum-rows-reads
-use Rattle.metrics.proofs.lanes.surely_within.Reads as surely-within-reads
 
 -- where the sums are good the value is the answer
 low : {m : ℕ} {a b : List ℤ} {s : Sums} → Good m a b s → (s .d ≤ 16777216) × (s .n ≤ 16777216)

@@ -1,15 +1,10 @@
+-- Each return is one case of the definition.
 use Rattle.metrics.specs.Similarity.{sizesimOf}
 use borrow.Author.Needs.{needs}
-use mathlib.Core.Path.{refl, _∙_}
 use lib.Ieee.{ofBits, ofInt}
 use borrow.Author.Tests.{lt-ltb, le-ltb, eq-eqb, ne-eqb}
 use Rattle.metrics.proofs.sizesim.Statement.{statement}
 use Rattle.metrics.proofs.sizesim.Tie as tie
-use Rattle.metrics.proofs.sizesim.Reads as reads
-use Rattle.metrics.proofs.sizesim.Lts as lts
-use Rattle.metrics.proofs.larger.Reads as larger-reads
-use Rattle.metrics.proofs.ratio.Reads as ratio-reads
-use Rattle.metrics.proofs.smaller.Reads as smaller-reads
 
 larger-requires : tie.Need-larger-requires
 larger-requires c κs = search needs

@@ -1,4 +1,5 @@
-use mathlib.Core.Path.{_≡_, ap, _∙_}
+-- The difference of the bits, modulo 2 ^ 32, has the difference's own bits, since that is below 2 ^ 31.
+use mathlib.Core.Path.{_≡_, _∙_}
 use Prim.Native.Nat.{_+_, _%_, _<_}
 use native.Mathlib.Omega.{arith}
 use mir.Syntax.{w32}
@@ -8,11 +9,6 @@ use Rattle.metrics.proofs.LaneLaws.{apart-bits}
 use borrow.Author.Needs.{needs}
 use Rattle.metrics.proofs.lanes.apart.Statement.{statement}
 use Rattle.metrics.proofs.lanes.apart.Tie as tie
-use Rattle.metrics.proofs.lanes.apart.Reads as reads
-use Rattle.metrics.proofs.lanes.apart.Lts as lts
-use Rattle.metrics.proofs.lanes.bits.Reads as bits-reads
-use Rattle.metrics.proofs.lanes.magnitude_of_bits.Reads as magnitude-of-bits-reads
-use Rattle.std.proofs.num.wrapping_sub_u32.Reads as wrapping-sub-u32-reads
 
 bits-requires : tie.Need-bits-requires
 bits-requires c κs = search needs

@@ -1,9 +1,7 @@
-use mathlib.Core.Path.{_≡_, sym, ap}
-use mathlib.Core.Bool.{true, false}
-use Prim.Native.Nat.{_<_, _≤_}
+-- A negative entry and 2 ^ 32 make its bits; any other entry is its bits.
+use mathlib.Core.Path.{_≡_, ap}
 use native.Mathlib.Omega.{arith}
-use lib.IntN.{ℤ, pos, natAbs, _+ℤ_}
-use lib.Signed.{mag, ltZ}
+use lib.IntN.{pos, natAbs, _+ℤ_}
 use mir.Syntax.{w32, w64}
 use mir.Val.{toZ, ofZ}
 use mir.ValLaws.{toZ-ofZ}
@@ -12,8 +10,6 @@ use Rattle.metrics.proofs.Ints.{entry-size}
 use Rattle.metrics.proofs.LaneLaws.{raised, itself, bits-lt, wide, again}
 use Rattle.metrics.proofs.lanes.bits.Statement.{statement}
 use Rattle.metrics.proofs.lanes.bits.Tie as tie
-use Rattle.metrics.proofs.lanes.bits.Reads as reads
-use Rattle.metrics.proofs.lanes.bits.Lts as lts
 
 -- the sum of a negative entry and 2 ^ 32, as the machine has it
 sum-is : (c : tie.Then1) → let x = c .before .args .x in toZ w64 (ofZ w64 (toZ w32 (ofZ w32 x))) +ℤ pos 4294967296 ≡ pos (bitsOf x)

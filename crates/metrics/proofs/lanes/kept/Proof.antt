@@ -1,3 +1,4 @@
+-- Below 2 ^ 31 the signed comparison is that of the numbers.
 use mathlib.Core.Path.{_≡_}
 use native.Mathlib.Omega.{arith}
 use mathlib.Core.Bool.{true, false}
@@ -7,9 +8,6 @@ use mir.ValLaws.{toZ-pos}
 use borrow.Author.Needs.{needs}
 use Rattle.metrics.proofs.lanes.kept.Statement.{statement}
 use Rattle.metrics.proofs.lanes.kept.Tie as tie
-use Rattle.metrics.proofs.lanes.kept.Reads as reads
-use Rattle.metrics.proofs.lanes.kept.Lts as lts
-use Rattle.metrics.proofs.lanes.as_signed.Reads as as-signed-reads
 
 cast-if1 : tie.Need-cast-if1
 cast-if1 c = search needs

@@ -1,3 +1,4 @@
+-- The magnitude of the bits of an entry is the entry's.
 use mathlib.Core.Path.{ap, _∙_}
 use mir.Syntax.{w32}
 use mir.ValLaws.{toZ-ofZ}
@@ -6,10 +7,6 @@ use Rattle.metrics.proofs.LaneLaws.{bits-magnitude}
 use borrow.Author.Needs.{needs}
 use Rattle.metrics.proofs.lanes.magnitude.Statement.{statement}
 use Rattle.metrics.proofs.lanes.magnitude.Tie as tie
-use Rattle.metrics.proofs.lanes.magnitude.Reads as reads
-use Rattle.metrics.proofs.lanes.magnitude.Lts as lts
-use Rattle.metrics.proofs.lanes.bits.Reads as bits-reads
-use Rattle.metrics.proofs.lanes.magnitude_of_bits.Reads as magnitude-of-bits-reads
 
 bits-requires : tie.Need-bits-requires
 bits-requires c κs = search needs

@@ -12,9 +12,6 @@ use Rattle.metrics.proofs.Ints.{read-back}
 use Rattle.metrics.proofs.Rows.{row-step, row-none}
 use Rattle.metrics.proofs.lanes.row_over.Statement.{statement}
 use Rattle.metrics.proofs.lanes.row_over.Tie as tie
-use Rattle.metrics.proofs.lanes.row_over.Reads as reads
-use Rattle.metrics.proofs.lanes.row_over.Lts as lts
-use Rattle.metrics.proofs.lanes.magnitude.Reads as magnitude-reads
 
 abbrev Inv-loop : tie.InvT-loop
 Inv-loop a sum₀ i₀ sum i = (i ≤ length a) × (sum ≤ 8388608) × (sum + magnitudeSum (drop i a) ≡ magnitudeSum a)

@@ -1,19 +1,14 @@
+-- What is added up and what is left are the whole: `Passed` of LaneLaws, one pair more a turn.
 use borrow.Author.Needs.{needs}
-use mathlib.Core.Path.{_≡_, refl, sym}
-use Prim.Native.Nat.{_+_, _-_, _≤_, _<_}
+use mathlib.Core.Path.{_≡_, refl}
+use Prim.Native.Nat.{_-_, _<_}
 use native.Mathlib.Omega.{arith}
-use native.Mathlib.Nat.{le-refl}
-use lib.IntN.{pos, natAbs, _-ℤ_}
-use lib.ListN.{length, drop, getD}
+use lib.IntN.{pos, natAbs}
+use lib.ListN.{length, getD}
 use Rattle.metrics.proofs.Ints.{read-back}
 use Rattle.metrics.proofs.LaneLaws.{Passed, begin, next, ended}
 use Rattle.metrics.proofs.lanes.sum_rows.Statement.{statement}
 use Rattle.metrics.proofs.lanes.sum_rows.Tie as tie
-use Rattle.metrics.proofs.lanes.sum_rows.Reads as reads
-use Rattle.metrics.proofs.lanes.sum_rows.Lts as lts
-use Rattle.metrics.proofs.lanes.apart.Reads as apart-reads
-use Rattle.metrics.proofs.lanes.magnitude.Reads as magnitude-reads
-use Rattle.metrics.proofs.lanes.add_pair.Reads as add-pair-reads
 
 abbrev Inv-loop : tie.InvT-loop
 Inv-loop a b minkfreq s₀ i₀ s i = Passed minkfreq a b i s

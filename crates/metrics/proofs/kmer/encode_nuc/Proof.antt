@@ -1,9 +1,8 @@
+-- Each case of the match is one test of the definition; the rest case fails all eight.
 use borrow.Author.Tests.{ne-eqb}
 use Rattle.metrics.specs.Letters.{codeOf}
-use Rattle.metrics.proofs.kmer.letter.Statement.{statement}
-use Rattle.metrics.proofs.kmer.letter.Tie as tie
-use Rattle.metrics.proofs.kmer.letter.Reads as reads
-use Rattle.metrics.proofs.kmer.letter.Lts as lts
+use Rattle.metrics.proofs.kmer.encode_nuc.Statement.{statement}
+use Rattle.metrics.proofs.kmer.encode_nuc.Tie as tie
 
 returns : tie.Need-returns
 unfolding codeOf
@@ -51,8 +50,8 @@ returns-9 c =
       ne-eqb _ _ (c .match .rest .1),
     )
 
-pub letter-spec : {M : Type 1} → statement M
-letter-spec =
+pub encode-nuc-spec : {M : Type 1} → statement M
+encode-nuc-spec =
     tie.close
     (tie.spec
     returns
