@@ -328,14 +328,14 @@ fn answer_overlaps(list: &[u8], at: usize)
 }
 
 fn answer_line(list: &[u8], at: usize)
-    requires { ⌜ at < length (now list) ⌝ }
+    requires { ⌜ at + 1 < length (now list) ⌝ }
 {
     let kind = list[at];
     match kind {
-        b'c' => answer_counter(list, at),
-        b's' => answer_seqsim(list, at),
-        b'z' => answer_sizesim(list, at),
-        b'o' => answer_overlaps(list, at),
+        b'c' => answer_counter(list, at + 1),
+        b's' => answer_seqsim(list, at + 1),
+        b'z' => answer_sizesim(list, at + 1),
+        b'o' => answer_overlaps(list, at + 1),
         _ => {}
     }
 }
