@@ -19,8 +19,9 @@ extern "C" {
     fn nd_seqsim(a: &[i32], b: &[i32], minkfreq: u32, place: &mut f32) -> u32;
 }
 
-const ROUNDS: usize = 31;
-const ROUND_NANOS: f64 = 4_000_000.0;
+// Many short rounds, so that few of them are cut by another program's turn.
+const ROUNDS: usize = 301;
+const ROUND_NANOS: f64 = 250_000.0;
 
 /// A generator of our own, so that the project needs no dependency: splitmix64.
 struct Random(u64);
@@ -45,18 +46,32 @@ impl Random {
     }
 }
 
-/// The time of one call, over `calls` calls that take the inputs in turn.
-fn nanos(calls: usize, inputs: usize, f: &mut dyn FnMut(usize)) -> f64 {
-    let start = Instant::now();
-    let mut at = 0;
-    for _ in 0..calls {
-        f(at);
-        at += 1;
-        if at == inputs {
-            at = 0;
+/// One side of a comparison, and which input its next call takes.
+struct Side<'a> {
+    call: &'a mut dyn FnMut(usize),
+    inputs: usize,
+    next: usize,
+    times: Vec<f64>,
+}
+
+impl Side<'_> {
+    /// The time of one call, over `calls` calls that take the inputs in turn.
+    fn nanos(&mut self, calls: usize) -> f64 {
+        let start = Instant::now();
+        for _ in 0..calls {
+            (self.call)(self.next);
+            self.next += 1;
+            if self.next == self.inputs {
+                self.next = 0;
+            }
         }
+        start.elapsed().as_nanos() as f64 / calls as f64
     }
-    start.elapsed().as_nanos() as f64 / calls as f64
+
+    fn round(&mut self, calls: usize) {
+        let time = self.nanos(calls);
+        self.times.push(time);
+    }
 }
 
 fn median(mut times: Vec<f64>) -> f64 {
@@ -66,13 +81,15 @@ fn median(mut times: Vec<f64>) -> f64 {
 
 /// The two sides take turns, so that a slow moment of the machine meets both.
 fn compare(name: &str, inputs: usize, ours: &mut dyn FnMut(usize), rust: &mut dyn FnMut(usize)) {
-    let calls = inputs * (ROUND_NANOS / inputs as f64 / nanos(inputs, inputs, rust)).ceil() as usize;
-    let (mut our_times, mut rust_times) = (Vec::new(), Vec::new());
+    let mut ours = Side { call: ours, inputs, next: 0, times: Vec::new() };
+    let mut rust = Side { call: rust, inputs, next: 0, times: Vec::new() };
+    let once = ours.nanos(inputs).max(rust.nanos(inputs));
+    let calls = (ROUND_NANOS / once).ceil() as usize;
     for _ in 0..ROUNDS {
-        our_times.push(nanos(calls, inputs, ours));
-        rust_times.push(nanos(calls, inputs, rust));
+        ours.round(calls);
+        rust.round(calls);
     }
-    let (our, theirs) = (median(our_times), median(rust_times));
+    let (our, theirs) = (median(ours.times), median(rust.times));
     println!("{name:<44} {our:>12.1} {theirs:>12.1} {:>8.2}", our / theirs);
 }
 
@@ -97,19 +114,23 @@ fn counter(random: &mut Random, k: u8, count: usize) {
     );
 }
 
-/// Rows of entries from `low` to 3, one beside the other.
-fn seqsim(random: &mut Random, k: u32, low: i32, minkfreq: u32) {
+/// Rows of entries from `low` to 3, the first entry apart.
+fn seqsim(random: &mut Random, kind: &str, k: u32, low: i32, first: i32, minkfreq: u32) {
     let floats = |row: &[i32]| row.iter().map(|&x| x as f32).collect::<Vec<f32>>();
     let entries = 1 << (2 * k);
     let inputs = 65_536 / entries;
-    let rows: Vec<_> = (0..inputs).map(|_| (random.row(entries, low, 3), random.row(entries, low, 3))).collect();
+    let mut row = || {
+        let mut row = random.row(entries, low, 3);
+        row[0] = first;
+        row
+    };
+    let rows: Vec<_> = (0..inputs).map(|_| (row(), row())).collect();
     let float_rows: Vec<_> = rows.iter().map(|(a, b)| (floats(a), floats(b))).collect();
     let mut value = 0f32;
     for ((a, b), (fa, fb)) in rows.iter().zip(&float_rows) {
         assert_eq!(unsafe { nd_seqsim(a, b, minkfreq, &mut value) }, 0);
         assert_eq!(value.to_bits(), metrics::seqsim(fa, fb, minkfreq as f32).to_bits(), "the similarities differ");
     }
-    let kind = if low < 0 { "mixed" } else { "non-negative" };
     compare(
         &format!("seqsim, k {k}, {kind}, minkfreq {minkfreq}"),
         inputs,
@@ -133,9 +154,10 @@ fn main() {
         }
     }
     for k in [4, 6] {
-        for low in [0, -3] {
+        // a large entry, as a long repeat gives, makes ours sum each row once more to see that it is within its limit
+        for (kind, low, first) in [("non-negative", 0, 1), ("mixed", -3, -1), ("one large entry", -3, 100_000)] {
             for minkfreq in [0, 2] {
-                seqsim(&mut random, k, low, minkfreq);
+                seqsim(&mut random, kind, k, low, first, minkfreq);
             }
         }
     }
