@@ -6,7 +6,7 @@ use mathlib.Core.Bool.{Bool, true, false}
 use mathlib.Core.List.{List, [], _∷_, _++_, map, reverse}
 use lib.ListN.{length, getD, take}
 use Rattle.paths.specs.Chains.{extensions, isChain}
-use Rattle.paths.specs.Search.{scored, left}
+use Rattle.paths.specs.Search.{none, scored, left}
 use Rattle.paths.specs.Best.{best, All}
 use Rattle.paths.specs.Demand.{scoredChains, leftChains}
 
@@ -102,3 +102,9 @@ pub record Running {R : Type 0} (le : R → R → Bool) (start : R) (score : Lis
   pub counted : k + length (scored D (λ c. extensions follows v c) (steps - k) (chainsOf parents rows keys)) ≡ length (scoredChains follows v D steps)
   pub lefts : left D (λ c. extensions follows v c) (steps - k) (chainsOf parents rows keys) ≡ leftChains follows v D steps
   pub bests : best le b (map score (scored D (λ c. extensions follows v c) (steps - k) (chainsOf parents rows keys))) ≡ best le start (map score (scoredChains follows v D steps))
+
+-- what a search has when it ends
+pub record Ended {R : Type 0} (le : R → R → Bool) (start : R) (score : List ℕ → R) (follows : List ℕ → ℕ → Bool) (v : ℕ) (D : List ℕ → ℕ) (steps k : ℕ) (b : R) (complete : Bool) : Type 0 where
+  pub best-is : b ≡ best le start (map score (scoredChains follows v D steps))
+  pub count-is : k ≡ length (scoredChains follows v D steps)
+  pub complete-is : complete ≡ none (leftChains follows v D steps)
