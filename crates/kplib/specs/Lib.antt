@@ -1,1 +1,4 @@
 pub mod Checked
+pub mod Numbers
+pub mod Graph
+pub mod GraphWalk

@@ -2,3 +2,4 @@
 pub mod graphparams;
 pub mod pathscore;
 pub mod traverse;
+pub mod vargraph;
