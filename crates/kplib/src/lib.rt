@@ -1,5 +1,7 @@
 // The search core: settings and checks, part lists, graph, score, search.
 pub mod graphparams;
+mod haplotype;
+mod onetoone;
 pub mod pathscore;
 pub mod traverse;
 pub mod vargraph;
