@@ -8,10 +8,11 @@ use mathlib.Core.List.{List, [], _∷_}
 use lib.Dec.{leb}
 use lib.ListN.{length}
 use borrow.Author.Tests.{le-leb, lt-leb}
-use Rattle.paths.specs.Chains.{endNode, extends, chainsFrom}
-use Rattle.paths.specs.Count.{mayFollow}
+use Rattle.paths.specs.Chains.{endNode, extends, step, chain, chainsFrom}
+use Rattle.metrics.specs.Similarity.{overlapsOf}
+use Rattle.paths.specs.Count.{mayFollow, chainCount, rowCountWithin, sumRows}
 use Rattle.paths.proofs.CountLaws.{doc-full, doc-bare}
-use Rattle.kplib.specs.Graph.{edge, mayFollowIn, extendsIn, chainsOf}
+use Rattle.kplib.specs.Graph.{edge, mayFollowIn, extendsIn, chainIn, chainsOf}
 use Rattle.kplib.specs.GraphWalk.{extendsAt}
 
 and-false : (b : Bool) → (b && false) ≡ false
@@ -55,3 +56,12 @@ module _ (starts ends : List ℕ) where
   pub counts-chains : (full : Bool) → chainsFrom (mayFollowIn starts ends full) (length starts) [] ≡ chainsOf starts ends full
   counts-chains true = doc-full (edge starts ends) (length starts)
   counts-chains false = doc-bare (edge starts ends) (length starts)
+
+-- document 01's example, 0-10, 5-5, 6-8: seven chains, one of them of all three rows though its ends overlap
+pub example-count : chainsOf (0 ∷ (5 ∷ (6 ∷ []))) (10 ∷ (5 ∷ (8 ∷ []))) true ≡ 7
+unfolding chainCount rowCountWithin sumRows edge overlapsOf
+example-count = refl
+
+pub example-chain : chainIn (0 ∷ (5 ∷ (6 ∷ []))) (10 ∷ (5 ∷ (8 ∷ []))) true (2 ∷ (1 ∷ (0 ∷ []))) ≡ 1
+unfolding chain step extends edge overlapsOf
+example-chain = refl
