@@ -5,3 +5,18 @@ mod CheckLaws
 pub mod CheckedLaws
 mod CallLaws
 mod CountedLaws
+pub mod WordLaws
+pub mod SimilarityLaws
+pub mod RoundingLaws
+pub mod RowSumLaws
+pub mod SizeSumLaws
+pub mod PartLaws
+pub mod CodeLaws
+pub mod VerdictLaws
+pub mod OneToOneLaws
+pub mod LayLaws
+pub mod AttemptLaws
+pub mod ChainScoreLaws
+pub mod AnchorLaws
+pub mod AnswerLaws
+pub mod PartExamples
