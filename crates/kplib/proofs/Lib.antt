@@ -26,3 +26,5 @@ mod WeighLaws
 mod StepLaws
 mod PlaceLaws
 pub mod FoundLaws
+pub mod Demand3Laws
+mod Worked

@@ -11,3 +11,4 @@ pub mod OneToOne
 pub mod Search
 pub mod Answer
 pub mod SearchSteps
+pub mod Demand3

@@ -5,7 +5,6 @@ pub mod ChainLaws
 pub mod BestLaws
 pub mod Demand
 pub mod CountLaws
-pub mod FloatOrder
 pub mod TableLaws
 pub mod PickLaws
 pub mod QueueLaws
