@@ -1,0 +1,2 @@
+-- What the twelve examples come to.
+pub mod Bench
