@@ -67,25 +67,25 @@ pub record LaidDown (s : Settings) (partSizes : List ℤ) (codes : List ℕ) (li
   pub beside : count ≤ length listSizes
 
 -- the lists that begin with the positions of `bits`, d of them and all before p, and go on with n positions from p
-pub record Choosing (m p n d bits bit at : ℕ) (size : ℤ) (partSizes : List ℤ) (codes : List ℕ) (listSizes : List ℤ) : Type 0 where
-  pub few : m ≤ 16
-  pub inside : p ≤ m
+pub record Choosing (p n d bits bit at : ℕ) (size : ℤ) (partSizes : List ℤ) (codes : List ℕ) (listSizes : List ℤ) : Type 0 where
+  pub few : length partSizes ≤ 16
+  pub inside : p ≤ length partSizes
   pub bit-is : bit ≡ 2 ^ p
   pub low : bits < 2 ^ p
   pub held : d ≤ bits
   pub some : 1 ≤ d + n
-  pub count : d ≡ length (positionsOfBits 0 m bits)
+  pub count : d ≡ length (positionsOfBits 0 (length partSizes) bits)
   pub less : d ≤ p
   pub sized : Sized partSizes
-  pub size-is : size ≡ sizeOf partSizes (positionsOfBits 0 m bits)
-  pub room : at + length (choices (m - p) p n) ≤ length codes
+  pub size-is : size ≡ sizeOf partSizes (positionsOfBits 0 (length partSizes) bits)
+  pub room : at + length (choices (length partSizes - p) p n) ≤ length codes
   pub beside : length listSizes ≡ length codes
 
-pub record Chosen (m p n bits at : ℕ) (partSizes : List ℤ) (codes codes' : List ℕ) (listSizes listSizes' : List ℤ) (r : ℕ) : Type 0 where
-  pub end : r ≡ at + length (choices (m - p) p n)
+pub record Chosen (p n bits at : ℕ) (partSizes : List ℤ) (codes codes' : List ℕ) (listSizes listSizes' : List ℤ) (r : ℕ) : Type 0 where
+  pub end : r ≡ at + length (choices (length partSizes - p) p n)
   pub codes-kept : take at codes' ≡ take at codes
   pub sizes-kept : take at listSizes' ≡ take at listSizes
-  pub laid : LaidFrom partSizes at codes' listSizes' (map (λ (l : List ℕ). positionsOfBits 0 m bits ++ l) (choices (m - p) p n))
+  pub laid : LaidFrom partSizes at codes' listSizes' (map (λ (l : List ℕ). positionsOfBits 0 (length partSizes) bits ++ l) (choices (length partSizes - p) p n))
 
 -- the lists of m parts, of m - 1 parts, .., for so many lengths
 pub record LayingLengths (partSizes : List ℤ) (lengths : ℕ) (codes : List ℕ) (listSizes : List ℤ) : Type 0 where

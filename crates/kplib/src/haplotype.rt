@@ -51,8 +51,8 @@ fn lay_choices(
     codes: &mut [u32],
     list_sizes: &mut [i32],
 ) -> usize
-    requires { ⌜ Choosing (length (now «part_sizes»)) p n d bits bit at size (now «part_sizes») (now codes) (now «list_sizes») ⌝ }
-    ensures { λ r. ⌜ Chosen (length (now («part_sizes» .entry))) p n bits at (now («part_sizes» .entry)) (now (codes .entry)) (now (codes .exit)) (now («list_sizes» .entry)) (now («list_sizes» .exit)) r ⌝ }
+    requires { ⌜ Choosing p n d bits bit at size (now «part_sizes») (now codes) (now «list_sizes») ⌝ }
+    ensures { λ r. ⌜ Chosen p n bits at (now («part_sizes» .entry)) (now (codes .entry)) (now (codes .exit)) (now («list_sizes» .entry)) (now («list_sizes» .exit)) r ⌝ }
 {
     if part_sizes.len() - p < n {
         return at;
