@@ -9,7 +9,8 @@ use lib.Dec.{leb}
 use lib.ListN.{length}
 use borrow.Author.Tests.{le-leb, lt-leb}
 use Rattle.paths.specs.Chains.{endNode, extends, chainsFrom}
-use Rattle.paths.specs.Count.{mayFollow}
+use Rattle.metrics.specs.Similarity.{overlapsOf}
+use Rattle.paths.specs.Count.{mayFollow, chainCount, rowCountWithin, sumRows}
 use Rattle.paths.proofs.CountLaws.{doc-full, doc-bare}
 use Rattle.kplib.specs.Graph.{edge, mayFollowIn, extendsIn, chainsOf}
 use Rattle.kplib.specs.GraphWalk.{extendsAt}
@@ -55,3 +56,7 @@ module _ (starts ends : List ℕ) where
   pub counts-chains : (full : Bool) → chainsFrom (mayFollowIn starts ends full) (length starts) [] ≡ chainsOf starts ends full
   counts-chains true = doc-full (edge starts ends) (length starts)
   counts-chains false = doc-bare (edge starts ends) (length starts)
+
+seven : chainsOf (0 ∷ (5 ∷ (6 ∷ []))) (10 ∷ (5 ∷ (8 ∷ []))) true ≡ 7
+unfolding chainCount rowCountWithin sumRows edge overlapsOf
+seven = refl

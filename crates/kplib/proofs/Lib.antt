@@ -16,3 +16,7 @@ pub mod ChainScoreLaws
 pub mod AnchorLaws
 pub mod AnswerLaws
 pub mod PartExamples
+mod CheckLaws
+pub mod CheckedLaws
+mod CallLaws
+mod CountedLaws

@@ -1,7 +1,7 @@
 -- Document 01, "Parts, graph, paths": nodes, edges, chains and their number N. Chains are written last row first (paths, specs/Chains).
 use Prim.Native.Nat.{ℕ, zero, suc, _+_, _-_, min}
 use mathlib.Core.Bool.{Bool, not}
-use mathlib.Core.List.{List, []}
+use mathlib.Core.List.{List}
 use lib.ListN.{length, getD}
 use Rattle.metrics.specs.Similarity.{overlapsOf}
 use Rattle.paths.specs.Chains.{extends, extensions, isChain}

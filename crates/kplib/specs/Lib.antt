@@ -1,5 +1,6 @@
 pub mod Checked
 pub mod Numbers
+pub mod CheckSteps
 pub mod Graph
 pub mod GraphWalk
 pub mod Parts

@@ -1,7 +1,7 @@
 -- Document 01, "Numbers a job may hold": the table of refusals, and which of its rows a call is refused by.
 use Prim.Native.Nat.{ℕ, zero, suc, _+_, _-_, _*_, _^_}
-use mathlib.Core.Bool.{Bool, true, false, not, cond, _&&_, _||_}
-use mathlib.Core.List.{List, [], _∷_}
+use mathlib.Core.Bool.{Bool, false, not, cond, _&&_, _||_}
+use mathlib.Core.List.{List, [], _∷_, _++_}
 use lib.Dec.{leb, ltb, eqb}
 use lib.IntN.{ℤ, pos, natAbs}
 use lib.ListN.{length, getD}
@@ -59,12 +59,14 @@ unfoldable pub badK : Settings → Bool
 badK s = not (leb 1 (s .k) && leb (s .k) 6)
 
 -- not in 0 to `most`. `le` is false at a NaN, and takes minus zero for zero
-abbrev pub outside : ℕ → Float → Bool
-outside most x = not (le (whole 0) x && le x (whole most))
+abbrev pub outside : Float → Float → Bool
+outside most x = not (le (whole 0) x && le x most)
 
 -- 2: a float setting is NaN or outside its range
 unfoldable pub badFloat : Settings → Bool
-badFloat s = outside 1 (s .sizesim) || (outside 1 (s .seqsim) || (outside 1000 (s .fpenalty) || outside 1000 (s .gpenalty)))
+badFloat s =
+    outside (whole 1) (s .sizesim)
+    || (outside (whole 1) (s .seqsim) || (outside (whole 1000) (s .fpenalty) || outside (whole 1000) (s .gpenalty)))
 
 -- 3: a whole-number setting over its limit
 unfoldable pub badNumber : Settings → Bool
@@ -80,16 +82,16 @@ abbrev pub tooMany : ℕ → Bool
 tooMany n = ltb 64 n
 
 -- 6: lent lengths disagree with V, m or 4^k
-abbrev pub endsDisagree : List ℕ → List ℕ → Bool
-endsDisagree starts ends = not (eqb (length ends) (length starts))
-
-abbrev pub featuresDisagree : ℕ → ℕ → List ℤ → Bool
-featuresDisagree k n features = not (eqb (length features) (n * 4 ^ k))
+abbrev pub disagrees : ℕ → ℕ → Bool
+disagrees given wanted = not (eqb given wanted)
 
 abbrev pub tableDisagrees : ℕ → Table → Bool
-tableDisagrees k t =
-    endsDisagree (t .starts) (t .ends)
-    || (not (eqb (length (t .sizes)) (length (t .starts))) || featuresDisagree k (length (t .starts)) (t .features))
+tableDisagrees e t =
+    disagrees (length (t .ends)) (length (t .starts))
+    || (disagrees (length (t .sizes)) (length (t .starts)) || disagrees (length (t .features)) (length (t .starts) * e))
+
+abbrev pub partsDisagree : ℕ → Parts → Bool
+partsDisagree e p = disagrees (length (p .features)) (length (p .sizes) * e)
 
 -- 7: a start is greater than its end
 unfoldable pub startAfterEnd : List ℕ → List ℕ → Bool
@@ -103,9 +105,9 @@ fallingStart starts = anyBelow (length starts - 1) (λ r. ltb (getD starts (r + 
 unfoldable pub badSize : List ℤ → Bool
 badSize sizes = anyBelow (length sizes) (λ r. ltb 131072 (natAbs (getD sizes r (pos 0))))
 
--- 10: one of n feature rows over its limit
+-- 10: one of n feature rows, of e entries each, over its limit
 unfoldable pub badRow : ℕ → ℕ → List ℤ → Bool
-badRow k n features = anyBelow n (λ r. ltb 131072 (magnitudeSum (rowAt (4 ^ k) features r)))
+badRow e n features = anyBelow n (λ r. ltb 131072 (magnitudeSum (rowAt e features r)))
 
 -- one-to-one runs when asked or when V exceeds maxnodes; any other job is in search mode
 abbrev pub searchMode : Settings → ℕ → Bool
@@ -123,26 +125,42 @@ littleQueueRoom s v queueRoom = searchMode s v && ltb queueRoom (queueNeeds s v)
 abbrev pub littleAnswerRoom : ℕ → ℕ → Bool
 littleAnswerRoom v answerRoom = ltb answerRoom v
 
--- checked in this order, each over all variants and then all parts
-abbrev pub callRules : Settings → Table → Parts → ℕ → ℕ → List Rule
-callRules s t p queueRoom answerRoom =
-    rule 1 settings (badK s)
-    ∷ (rule 2 settings (badFloat s)
-    ∷ (rule 3 settings (badNumber s)
-    ∷ (rule 4 table (noVariants (t .starts))
+-- the rows of the table, each over all variants and then all parts; e is 4^k
+abbrev pub settingsRules : Settings → List Rule
+settingsRules s = rule 1 settings (badK s) ∷ (rule 2 settings (badFloat s) ∷ (rule 3 settings (badNumber s) ∷ []))
+
+abbrev pub lengthRules : ℕ → Table → Parts → List Rule
+lengthRules e t p =
+    rule 4 table (noVariants (t .starts))
     ∷ (rule 5 table (tooMany (length (t .starts)))
     ∷ (rule 5 parts (tooMany (length (p .sizes)))
-    ∷ (rule 6 table (tableDisagrees (s .k) t)
-    ∷ (rule 6 parts (featuresDisagree (s .k) (length (p .sizes)) (p .features))
-    ∷ (rule 7 table (startAfterEnd (t .starts) (t .ends))
-    ∷ (rule 8 table (fallingStart (t .starts))
-    ∷ (rule 9 table (badSize (t .sizes))
+    ∷ (rule 6 table (tableDisagrees e t)
+    ∷ (rule 6 parts (partsDisagree e p)
+    ∷ []))))
+
+abbrev pub boundRules : List ℕ → List ℕ → List Rule
+boundRules starts ends = rule 7 table (startAfterEnd starts ends) ∷ (rule 8 table (fallingStart starts) ∷ [])
+
+abbrev pub limitRules : ℕ → Table → Parts → List Rule
+limitRules e t p =
+    rule 9 table (badSize (t .sizes))
     ∷ (rule 9 parts (badSize (p .sizes))
-    ∷ (rule 10 table (badRow (s .k) (length (t .starts)) (t .features))
-    ∷ (rule 10 parts (badRow (s .k) (length (p .sizes)) (p .features))
-    ∷ (rule 11 room (littleQueueRoom s (length (t .starts)) queueRoom)
-    ∷ (rule 12 room (littleAnswerRoom (length (t .starts)) answerRoom)
-    ∷ [])))))))))))))))
+    ∷ (rule 10 table (badRow e (length (t .starts)) (t .features))
+    ∷ (rule 10 parts (badRow e (length (p .sizes)) (p .features))
+    ∷ [])))
+
+abbrev pub roomRules : Settings → ℕ → ℕ → ℕ → List Rule
+roomRules s v queueRoom answerRoom =
+    rule 11 room (littleQueueRoom s v queueRoom) ∷ (rule 12 room (littleAnswerRoom v answerRoom) ∷ [])
+
+-- checked in this order
+abbrev pub callRules : Settings → Table → Parts → ℕ → ℕ → List Rule
+callRules s t p queueRoom answerRoom =
+    settingsRules s
+    ++ (lengthRules (4 ^ s .k) t p
+    ++ (boundRules (t .starts) (t .ends)
+    ++ (limitRules (4 ^ s .k) t p
+    ++ roomRules s (length (t .starts)) queueRoom answerRoom)))
 
 unfoldable pub firstFault : Settings → Table → Parts → ℕ → ℕ → ℕ
 firstFault s t p queueRoom answerRoom = firstOf (callRules s t p queueRoom answerRoom)
@@ -153,10 +171,8 @@ chainCountRules cap starts ends =
     rule 3 settings (ltb 4096 cap)
     ∷ (rule 4 table (noVariants starts)
     ∷ (rule 5 table (tooMany (length starts))
-    ∷ (rule 6 table (endsDisagree starts ends)
-    ∷ (rule 7 table (startAfterEnd starts ends)
-    ∷ (rule 8 table (fallingStart starts)
-    ∷ [])))))
+    ∷ (rule 6 table (disagrees (length ends) (length starts))
+    ∷ boundRules starts ends)))
 
 unfoldable pub chainCountFault : ℕ → List ℕ → List ℕ → ℕ
 chainCountFault cap starts ends = firstOf (chainCountRules cap starts ends)

@@ -1,4 +1,5 @@
 // The search core: settings and checks, part lists, graph, score, search.
+mod checks;
 pub mod graphparams;
 mod haplotype;
 mod onetoone;

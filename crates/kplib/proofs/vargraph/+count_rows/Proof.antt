@@ -26,7 +26,6 @@ abbrev count-rows-below : ℕ → In 2 count-rows-kinds.ps
 count-rows-below t =
     and 2 count-rows-kinds.ps (falls 2 count-rows-kinds.ps _<_ μ-count-rows t) count-rows.Pre
 
--- src/vargraph.rt:57:9
 count-rows-returns : (t : ℕ) → count-rows-lts.Need-returns (
   extends-reads.Asked,
   extends-reads.Learnt,
@@ -37,7 +36,6 @@ count-rows-returns : (t : ℕ) → count-rows-lts.Need-returns (
 ) (count-rows-at t) count-rows.Post
 count-rows-returns t c = omega arith
 
--- src/vargraph.rt:59:9
 count-rows-cast-if2 : (t : ℕ) → count-rows-lts.Need-cast-if2 (
   extends-reads.Asked,
   extends-reads.Learnt,
@@ -48,7 +46,6 @@ count-rows-cast-if2 : (t : ℕ) → count-rows-lts.Need-cast-if2 (
 ) (count-rows-at t) count-rows.Post
 count-rows-cast-if2 t c = omega arith
 
--- src/vargraph.rt:60:9
 count-rows-returns-2 : (t : ℕ) → count-rows-lts.Need-returns-2 (
   extends-reads.Asked,
   extends-reads.Learnt,
@@ -59,7 +56,6 @@ count-rows-returns-2 : (t : ℕ) → count-rows-lts.Need-returns-2 (
 ) (count-rows-at t) count-rows.Post
 count-rows-returns-2 t c = no-row _ _ _ _ _ (c .if2 .taken)
 
--- src/vargraph.rt:62:20
 count-rows-add-t11 : (t : ℕ) → count-rows-lts.Need-add-t11 (
   extends-reads.Asked,
   extends-reads.Learnt,
@@ -70,7 +66,6 @@ count-rows-add-t11 : (t : ℕ) → count-rows-lts.Need-add-t11 (
 ) (count-rows-at t) count-rows.Post
 count-rows-add-t11 t c = omega arith
 
--- src/vargraph.rt:63:8
 count-rows-extends-requires : (t : ℕ) → count-rows-lts.Need-extends-requires (
   extends-reads.Asked,
   extends-reads.Learnt,
@@ -81,7 +76,6 @@ count-rows-extends-requires : (t : ℕ) → count-rows-lts.Need-extends-requires
 ) (count-rows-at t) count-rows.Post
 count-rows-extends-requires t c κs = omega arith
 
--- src/vargraph.rt:64:46
 count-rows-node-of-requires : (t : ℕ) → count-rows-lts.Need-node-of-requires (
   extends-reads.Asked,
   extends-reads.Learnt,
@@ -92,7 +86,6 @@ count-rows-node-of-requires : (t : ℕ) → count-rows-lts.Need-node-of-requires
 ) (count-rows-at t) count-rows.Post
 count-rows-node-of-requires t c κs = omega arith
 
--- src/vargraph.rt:64:66
 count-rows-sub-count-rows : (t : ℕ) → count-rows-lts.Need-sub-count-rows (
   extends-reads.Asked,
   extends-reads.Learnt,
@@ -103,7 +96,6 @@ count-rows-sub-count-rows : (t : ℕ) → count-rows-lts.Need-sub-count-rows (
 ) (count-rows-at t) count-rows.Post
 count-rows-sub-count-rows t c = omega arith
 
--- src/vargraph.rt:64:13
 count-rows-count-rows-requires : (t : ℕ) → count-rows-lts.Need-count-rows-requires (
   extends-reads.Asked,
   extends-reads.Learnt,
@@ -114,7 +106,6 @@ count-rows-count-rows-requires : (t : ℕ) → count-rows-lts.Need-count-rows-re
 ) (count-rows-at t) count-rows.Post
 count-rows-count-rows-requires t c κs = omega arith
 
--- src/vargraph.rt:65:9
 count-rows-add-result : (t : ℕ) → count-rows-lts.Need-add-result (
   extends-reads.Asked,
   extends-reads.Learnt,
@@ -125,7 +116,6 @@ count-rows-add-result : (t : ℕ) → count-rows-lts.Need-add-result (
 ) (count-rows-at t) count-rows.Post
 count-rows-add-result t c = omega arith
 
--- src/vargraph.rt:65:57
 count-rows-sub-count-rows-2 : (t : ℕ) → count-rows-lts.Need-sub-count-rows-2 (
   extends-reads.Asked,
   extends-reads.Learnt,
@@ -136,7 +126,6 @@ count-rows-sub-count-rows-2 : (t : ℕ) → count-rows-lts.Need-sub-count-rows-2
 ) (count-rows-at t) count-rows.Post
 count-rows-sub-count-rows-2 t c = omega arith
 
--- src/vargraph.rt:65:57
 count-rows-sub-count-rows-3 : (t : ℕ) → count-rows-lts.Need-sub-count-rows-3 (
   extends-reads.Asked,
   extends-reads.Learnt,
@@ -147,7 +136,6 @@ count-rows-sub-count-rows-3 : (t : ℕ) → count-rows-lts.Need-sub-count-rows-3
 ) (count-rows-at t) count-rows.Post
 count-rows-sub-count-rows-3 t c = omega arith
 
--- src/vargraph.rt:65:21
 count-rows-count-rows-requires-2 : (t : ℕ) → count-rows-lts.Need-count-rows-requires-2 (
   extends-reads.Asked,
   extends-reads.Learnt,
@@ -158,7 +146,6 @@ count-rows-count-rows-requires-2 : (t : ℕ) → count-rows-lts.Need-count-rows-
 ) (count-rows-at t) count-rows.Post
 count-rows-count-rows-requires-2 t c κs = omega arith
 
--- src/vargraph.rt:65:9
 count-rows-add-result-2 : (t : ℕ) → count-rows-lts.Need-add-result-2 (
   extends-reads.Asked,
   extends-reads.Learnt,
@@ -169,7 +156,6 @@ count-rows-add-result-2 : (t : ℕ) → count-rows-lts.Need-add-result-2 (
 ) (count-rows-at t) count-rows.Post
 count-rows-add-result-2 t c = omega arith
 
--- src/vargraph.rt:67:9
 count-rows-count-rows-requires-3 : (t : ℕ) → count-rows-lts.Need-count-rows-requires-3 (
   extends-reads.Asked,
   extends-reads.Learnt,
@@ -180,7 +166,6 @@ count-rows-count-rows-requires-3 : (t : ℕ) → count-rows-lts.Need-count-rows-
 ) (count-rows-at t) count-rows.Post
 count-rows-count-rows-requires-3 t c κs = omega arith
 
--- src/vargraph.rt:52:1
 count-rows-returns-3 : (t : ℕ) → count-rows-lts.Need-returns-3 (
   extends-reads.Asked,
   extends-reads.Learnt,
@@ -194,7 +179,6 @@ count-rows-returns-3 t c =
     let below = rw (c .before .before .node-of .ensures) at (c .before .count-rows .ensures) in
     take-row _ _ _ _ _ _ _ _ (omega arith) (tested .before .before .before .before .if1 .left) (tested .extends .ensures) (c .before .before .before .if3 .taken) below (c .count-rows2 .ensures)
 
--- src/vargraph.rt:52:1
 count-rows-returns-4 : (t : ℕ) → count-rows-lts.Need-returns-4 (
   extends-reads.Asked,
   extends-reads.Learnt,

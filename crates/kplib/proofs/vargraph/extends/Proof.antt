@@ -1,80 +1,60 @@
 -- One law of `extendsAt` for each way out: a bare graph, the source, a row that is not later, an edge. Assumes nothing.
 use borrow.Author.Tests.{not-true, not-false}
-use mathlib.Core.Path.{sym, _∙_}
+use mathlib.Core.Path.{sym}
 use native.Mathlib.Omega.{arith}
 use Rattle.kplib.specs.Graph.{edge}
 use Rattle.kplib.proofs.GraphLaws.{at-bare, at-source, at-early, at-later}
 use borrow.Author.Needs.{needs}
 use Rattle.kplib.proofs.vargraph.extends.Statement.{statement}
 use Rattle.kplib.proofs.vargraph.extends.Tie as tie
-use Rattle.kplib.proofs.vargraph.extends.Reads as reads
-use Rattle.kplib.proofs.vargraph.extends.Lts as lts
-use Rattle.kplib.proofs.vargraph.row_of.Reads as row-of-reads
-use Rattle.metrics.proofs.overlaps.Reads as overlaps-reads
 
--- src/vargraph.rt:37:9
 returns : tie.Need-returns
 returns c = sym (at-bare _ _ _ _ (not-true _ (c .if1 .taken)))
 
--- src/vargraph.rt:40:9
 returns-2 : tie.Need-returns-2
 returns-2 c = sym (at-source _ _ _ _ (not-false _ (c .before .before .if1 .left)) (c .if2 .taken))
 
--- src/vargraph.rt:42:9
 row-of-requires : tie.Need-row-of-requires
 row-of-requires c κs = search needs
 
--- src/vargraph.rt:44:9
 returns-3 : tie.Need-returns-3
 returns-3 c =
     let source = c .before .before .before .before in
     sym (at-early _ _ _ _ (source .if2 .left) (omega arith))
 
--- src/vargraph.rt:46:13
 cast-r : tie.Need-cast-r
 cast-r c = search needs
 
--- src/vargraph.rt:47:13
 cast-s : tie.Need-cast-s
 cast-s c = search needs
 
--- src/vargraph.rt:48:15
 mul-overlaps : tie.Need-mul-overlaps
 mul-overlaps c = search needs
 
--- src/vargraph.rt:48:15
 shared-slice-read-overlaps : tie.Need-shared-slice-read-overlaps
 shared-slice-read-overlaps c = search needs
 
--- src/vargraph.rt:48:26
 mul-overlaps-2 : tie.Need-mul-overlaps-2
 mul-overlaps-2 c = search needs
 
--- src/vargraph.rt:48:26
 shared-slice-read-overlaps-2 : tie.Need-shared-slice-read-overlaps-2
 shared-slice-read-overlaps-2 c = search needs
 
--- src/vargraph.rt:48:35
 mul-overlaps-3 : tie.Need-mul-overlaps-3
 mul-overlaps-3 c = search needs
 
--- src/vargraph.rt:48:35
 shared-slice-read-overlaps-3 : tie.Need-shared-slice-read-overlaps-3
 shared-slice-read-overlaps-3 c = search needs
 
--- src/vargraph.rt:48:46
 mul-overlaps-4 : tie.Need-mul-overlaps-4
 mul-overlaps-4 c = search needs
 
--- src/vargraph.rt:48:46
 shared-slice-read-overlaps-4 : tie.Need-shared-slice-read-overlaps-4
 shared-slice-read-overlaps-4 c = search needs
 
--- src/vargraph.rt:48:6
 overlaps-requires : tie.Need-overlaps-requires
 overlaps-requires c κs = search needs
 
--- src/vargraph.rt:32:1
 returns-4 : tie.Need-returns-4
 unfolding edge
 returns-4 c =
