@@ -4,25 +4,25 @@ use mathlib.Core.Bool.{true, false}
 use mathlib.Core.List.{List, [], _∷_}
 use Prim.Native.Nat.{ℕ}
 use lib.IntN.{ℤ, pos, negsuc}
-use lib.Ieee.{ofBits, ofInt, div, sub, binary32, round, fin, Float}
+use lib.Ieee.{ofBits, ofInt, div, sub, binary32}
 use lib.ListN.{replicate}
-use Rattle.metrics.specs.declared.Sim.the-variants.{Value, Refused}
+use Rattle.metrics.specs.declared.Sim.the-variants.{Value}
 use Rattle.metrics.specs.Similarity.{sizesimOf, seqsimOf, sumD, sumN, sumBy, magnitudeSum}
-use Rattle.metrics.specs.Letters.{countsOf, hits, tableFrom, numberOf, codeOf}
+use Rattle.metrics.specs.Letters.{countsOf, windowsOf, timesIn, tableFrom, numberOf, codeOf}
 
 abbrev acgt : List ℕ
 acgt = 65 ∷ 67 ∷ 71 ∷ 84 ∷ []
 
 counts : countsOf 2 false acgt ≡ pos 0 ∷ pos 0 ∷ pos 1 ∷ pos 0 ∷ pos 0 ∷ pos 0 ∷ pos 0 ∷ pos 1 ∷ pos 0 ∷ pos 1 ∷ pos 0 ∷ pos 0 ∷ pos 0 ∷ pos 0 ∷ pos 0 ∷ pos 0 ∷ []
-unfolding countsOf hits tableFrom numberOf codeOf
+unfolding countsOf windowsOf timesIn tableFrom numberOf codeOf
 counts = refl
 
 counts-negative : countsOf 2 true acgt ≡ pos 0 ∷ pos 0 ∷ negsuc 0 ∷ pos 0 ∷ pos 0 ∷ pos 0 ∷ pos 0 ∷ negsuc 0 ∷ pos 0 ∷ negsuc 0 ∷ pos 0 ∷ pos 0 ∷ pos 0 ∷ pos 0 ∷ pos 0 ∷ pos 0 ∷ []
-unfolding countsOf hits tableFrom numberOf codeOf
+unfolding countsOf windowsOf timesIn tableFrom numberOf codeOf
 counts-negative = refl
 
 short : countsOf 3 false (65 ∷ 67 ∷ []) ≡ replicate 64 (pos 0)
-unfolding countsOf hits tableFrom numberOf codeOf
+unfolding countsOf windowsOf timesIn tableFrom numberOf codeOf
 short = refl
 
 sizes-0-1 : sizesimOf 0 1 ≡ Value (ofBits binary32 0x3f80_0000)
