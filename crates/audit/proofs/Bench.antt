@@ -7,8 +7,8 @@ use Rattle.paths.specs.Chains.{extends, isChain}
 use Rattle.paths.specs.Count.{sumRows, rowCountWithin, chainCount}
 use Rattle.kplib.specs.Parts.{partLists, choices, fallingLists, positionsFrom}
 use Rattle.kplib.specs.Graph.{edge}
-use Rattle.bench_examples.specs.Bench.{twelve, AllHold}
+use Rattle.audit.specs.Bench.{twelve, AllHold}
 
 pub bench : AllHold twelve
-unfolding twelve countsOf tableFrom numberOf codeOf sizesimOf seqsimOf sumBy magnitudeSum overlapsOf ofBits ofInt div sub partLists choices fallingLists positionsFrom extends isChain sumRows rowCountWithin chainCount edge
-bench = (refl, refl, refl, refl, refl, refl, (refl, refl), refl, refl, refl, refl, (refl, refl, refl), tt)
+unfolding twelve countsOf windowsOf timesIn tableFrom numberOf codeOf sizesimOf seqsimOf sumBy magnitudeSum overlapsOf ofBits ofInt div sub partLists choices fallingLists positionsFrom extends isChain sumRows rowCountWithin chainCount edge
+bench = (refl, (refl, (refl, (refl, (refl, (refl, ((refl, refl), (refl, (refl, (refl, (refl, ((refl, (refl, refl)), tt))))))))))))

@@ -1,2 +1,0 @@
--- What the twelve examples come to.
-pub mod Bench
