@@ -1,10 +1,6 @@
 -- What the proofs of several functions use.
 pub mod GraphLaws
 mod CappedLaws
-mod CheckLaws
-pub mod CheckedLaws
-mod CallLaws
-mod CountedLaws
 pub mod WordLaws
 pub mod SimilarityLaws
 pub mod RoundingLaws
@@ -28,3 +24,7 @@ mod PlaceLaws
 pub mod FoundLaws
 pub mod Demand3Laws
 mod Worked
+mod CheckLaws
+pub mod CheckedLaws
+mod CallLaws
+mod CountedLaws

@@ -1,0 +1,2 @@
+-- What is shown of the promises as a whole.
+pub mod Bench
