@@ -6,14 +6,19 @@
 //! - `answer`: an answer and its seven lines.
 //! - `program`: what the program must print for given bytes.
 //! - `document`: document 01 written down once more, independent of the Rust, with faults that can be planted in it.
+//! - `library`: the library of this project, linked.
 //! - `generate`, `exhaust`: the jobs that are compared.
-//! - `shrink`: the smallest job that still shows a difference.
+//! - `kinds`: what a job reached, to be counted.
+//! - `shrink`: the smallest job that still shows a difference; `describe`: a job in words.
 pub mod answer;
 pub mod call;
+pub mod describe;
 pub mod document;
 pub mod exhaust;
 pub mod generate;
 pub mod job;
+pub mod kinds;
+pub mod library;
 pub mod program;
 pub mod rust;
 pub mod shrink;
