@@ -37,7 +37,7 @@ fn features_of(k: u8, letters: &[u8], negative: bool) -> Vec<i32> {
 
 /// The room a search needs: one entry and, for each scored chain, one for each row.
 pub fn queue_need(settings: &Settings, variants: usize) -> usize {
-    1 + (settings.maxpaths as usize + 1) * variants
+    1 + (settings.maxpaths as usize).saturating_add(1).saturating_mul(variants)
 }
 
 pub fn searches(settings: &Settings, variants: usize) -> bool {
@@ -64,7 +64,7 @@ impl Call {
             features: job.variants.iter().flat_map(|v| row(&v.letters, v.negative)).collect(),
             part_sizes: job.parts.iter().map(|p| p.size).collect(),
             part_features: job.parts.iter().flat_map(|p| row(&p.letters, p.negative)).collect(),
-            queue_room: queue_need(&job.settings, job.variants.len()),
+            queue_room: queue_need(&job.settings, job.variants.len()).min(1 << 19),
             answer_room: job.variants.len(),
         }
     }

@@ -481,7 +481,8 @@ pub fn call_answer(call: &Call, fault: Fault, trace: &mut Trace) -> Answer {
     }
 }
 
-fn call_of(job: &Job, fault: Fault) -> Call {
+/// The job as a call, its features counted with one mistake or none.
+pub fn call_of(job: &Job, fault: Fault) -> Call {
     Call::of_job_by(job, |k, letters, negative| features(k, letters, negative, fault))
 }
 

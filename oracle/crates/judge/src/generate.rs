@@ -232,8 +232,17 @@ fn settings(r: &mut Random, v: u64, m: u64, size: Size) -> Settings {
 
 /// An accepted job of at most the given size.
 pub fn job(r: &mut Random, size: Size) -> Job {
-    let v = if r.chance(70) { 1 + r.below(6) } else { 1 + r.below(size.variants) };
-    let m = if r.chance(75) { r.below(5) } else { r.below(size.parts + 1) };
+    let v = match r.below(20) {
+        0 => size.variants,
+        1..=5 => 1 + r.below(size.variants),
+        _ => 1 + r.below(6),
+    };
+    let m = match r.below(20) {
+        0 => size.parts,
+        1..=4 => r.below(size.parts + 1),
+        5..=6 => r.below(13).min(size.parts),
+        _ => r.below(5),
+    };
     let pool = Pool {
         letters: (0..1 + r.below(4)).map(|_| sequence(r, size)).collect(),
         style: r.below(12),
@@ -245,19 +254,42 @@ pub fn job(r: &mut Random, size: Size) -> Job {
             Variant { start, end, size, negative, letters }
         })
         .collect();
-    let mut parts = vec![];
-    for _ in 0..m {
+    let mut parts = if r.chance(40) { parts_of_a_chain(r, &variants, m) } else { vec![] };
+    while (parts.len() as u64) < m {
         let one = part(r, &variants, &parts, &pool, size);
         parts.push(one);
     }
     let mut job = Job { settings: settings(r, v, m, size), variants, parts };
-    if r.chance(30) {
-        // a haplotype of size zero and letters that cancel: the empty chain may match
-        for p in &mut job.parts {
-            p.size = 0;
-        }
+    match r.below(20) {
+        0 | 1 => job.parts.iter_mut().for_each(|p| p.size = 0),
+        2..=8 => loosen(r, &mut job.settings),
+        _ => {}
     }
     job
+}
+
+/// Some of the rows once more, as parts, in the rows' order or not.
+fn parts_of_a_chain(r: &mut Random, variants: &[Variant], m: u64) -> Vec<Part> {
+    let mut parts: Vec<Part> = vec![];
+    for v in variants {
+        if (parts.len() as u64) < m && r.chance(50) {
+            parts.push(Part { size: v.size, negative: v.negative, letters: v.letters.clone() });
+        }
+    }
+    if r.chance(30) {
+        parts.reverse();
+    }
+    parts
+}
+
+/// Settings under which much is accepted.
+fn loosen(r: &mut Random, s: &mut Settings) {
+    s.sizesim = r.pick(&[0.0, 0.0, 0.25, 0.5]);
+    s.seqsim = r.pick(&[0.0, 0.0, 0.25, 0.5]);
+    s.fpenalty = r.pick(&[0.0, 0.1, 0.02, 0.25, 1.0 / 3.0]);
+    s.gpenalty = r.pick(&[0.0, 0.1, 0.02, 0.25, 1.0 / 3.0]);
+    s.minkfreq = r.pick(&[0, 1, 1, 2]);
+    s.fnmax = r.pick(&[1, 2, 3, 65_535]);
 }
 
 /// Rows whose sums reach 16,777,216 exactly: every sequence, size and count at its limit.
@@ -268,17 +300,17 @@ pub fn job_at_limits(r: &mut Random) -> Job {
     let limit = SIZE_LIMIT as i32;
     let sign = r.pick(&[1, -1]);
     let letters = vec![r.pick(b"ACGT"); SIZE_LIMIT as usize];
-    let v = r.within(60, 64) as u64;
+    let (v, m) = if r.chance(60) { (64, 64) } else { (r.within(60, 64), r.within(60, 64)) };
     job.variants = (0..v)
         .map(|row| Variant {
-            start: row,
-            end: row,
+            start: row as u64,
+            end: row as u64,
             size: sign * limit,
             negative: r.chance(50),
             letters: letters.clone(),
         })
         .collect();
-    job.parts = (0..r.within(60, 64))
+    job.parts = (0..m)
         .map(|_| Part { size: sign * limit, negative: r.chance(50), letters: letters.clone() })
         .collect();
     job
@@ -295,6 +327,9 @@ fn lists(m: u64, s: &Settings) -> u64 {
 
 /// Entries compared at most, chain by chain and list by list.
 pub fn cost(call: &Call) -> u64 {
+    if call.refusal() != 0 {
+        return 0;
+    }
     let limit = u64::from(call.settings.maxpaths) + 1;
     let entries = 1u64 << (2 * call.settings.k);
     let v = call.starts.len() as u64;
@@ -303,13 +338,19 @@ pub fn cost(call: &Call) -> u64 {
 
 /// A library call of at most the given cost; more costly ones score fewer chains.
 pub fn call(r: &mut Random, budget: u64) -> Call {
-    let job = if r.chance(1) { job_at_limits(r) } else { job(r, LIBRARY) };
+    let mut job = if r.chance(1) { job_at_limits(r) } else { job(r, LIBRARY) };
+    if r.chance(5) {
+        disturb_job(r, &mut job);
+    }
     let mut call = Call::of_job(&job);
-    if r.chance(20) {
+    if call.refusal() == 0 && r.chance(20) {
         scatter(r, &mut call);
     }
     while cost(&call) > budget && call.settings.maxpaths > 3 {
         call.settings.maxpaths /= 2;
+    }
+    if call.refusal() != 0 {
+        return call;
     }
     call.queue_room = queue_need(&call.settings, call.starts.len()) + r.pick(&[0, 0, 1, 5]);
     call.answer_room = call.starts.len() + r.pick(&[0, 0, 1, 7]);
@@ -333,6 +374,9 @@ fn scatter(r: &mut Random, call: &mut Call) {
 }
 
 fn disturb_call(r: &mut Random, call: &mut Call) {
+    if call.refusal() != 0 {
+        return;
+    }
     let e = 1usize << (2 * call.settings.k);
     match r.below(12) {
         0 => {

@@ -41,7 +41,7 @@ fn shows(bytes: &[u8], fault: Fault) -> bool {
 }
 
 fn main() -> ExitCode {
-    let count: u64 = std::env::args().nth(1).map_or(40_000, |n| n.parse().expect("a number of inputs"));
+    let count: u64 = std::env::args().nth(1).map_or(20_000, |n| n.parse().expect("a number of inputs"));
     let mut inputs: Vec<Vec<u8>> = exhaust::jobs().step_by(97).map(|job| job.bytes()).collect();
     inputs.extend((0..count).map(|i| input(&mut Random::new(i))));
     let said: Vec<String> = inputs.iter().map(|bytes| program::answer(bytes).text()).collect();
