@@ -4,7 +4,7 @@
 //! From many generated jobs it takes the shortest that show each kind, and the shortest that catch each planted
 //! mistake, so that the lists are small and every branch stands in them.
 use judge::answer::{Answer, Target};
-use judge::call::{queue_need, Call};
+use judge::call::Call;
 use judge::document::{call_answer, call_of, program_answer, Fault, Trace, FAULTS};
 use judge::generate::{cost, disturb_job, input, Random, LIBRARY};
 use judge::job::{self, Job, Part, Settings, Variant};
@@ -185,35 +185,83 @@ fn program_list() -> Vec<Vec<u8>> {
     list
 }
 
-struct Lent {
+/// A call of the library as the list stores it:
+/// 42 bytes, the settings record of the job form and its end;
+/// words of four bytes: the lengths of starts, ends, sizes, features, part sizes, part features, of the queue's three slices (parents,
+/// last rows, keys) and of the answer;
+/// the starts and ends (eight bytes each), the sizes, the part sizes;
+/// how many variant sequences, each as negative (0 or 1), letter count, letters; then the parts' likewise;
+/// how many entries are then changed, each as table (0 variants, 1 parts), place, value.
+#[derive(Clone)]
+struct Stored {
     job: Job,
-    queue_room: usize,
-    answer_room: usize,
+    call: Call,
+    /// the lengths of the queue's slices; the shortest is its room
+    rooms: [usize; 3],
+    changes: Vec<(u32, u32, i32)>,
 }
 
-impl Lent {
-    fn of(job: Job) -> Lent {
-        let (queue_room, answer_room) = (queue_need(&job.settings, job.variants.len()), job.variants.len());
-        Lent { job, queue_room: queue_room.min(QUEUE_MOST), answer_room }
+impl Stored {
+    fn of(job: Job) -> Stored {
+        let mut call = Call::of_job(&job);
+        call.queue_room = call.queue_room.min(QUEUE_MOST);
+        Stored { rooms: [call.queue_room; 3], changes: vec![], job, call }
     }
 
-    fn call(&self) -> Call {
-        self.in_rooms(Call::of_job(&self.job))
+    fn change(&mut self, table: u32, place: usize, value: i32) {
+        let row = if table == 0 { &mut self.call.features } else { &mut self.call.part_features };
+        row[place] = value;
+        self.changes.push((table, place as u32, value));
     }
 
-    fn in_rooms(&self, mut call: Call) -> Call {
-        (call.queue_room, call.answer_room) = (self.queue_room, self.answer_room);
-        call
-    }
-
+    /// The call with features counted by a mistaken reading of the letters.
     fn with(&self, fault: Fault) -> Answer {
-        call_answer(&self.in_rooms(call_of(&self.job, fault)), fault, &mut Trace::default())
+        let mistaken = call_of(&self.job, fault);
+        let mut call = self.call.clone();
+        if fault != Fault::None && self.changes.is_empty() && call.features.len() == mistaken.features.len() {
+            call.features = mistaken.features;
+        }
+        if fault != Fault::None && self.changes.is_empty() && call.part_features.len() == mistaken.part_features.len() {
+            call.part_features = mistaken.part_features;
+        }
+        call_answer(&call, fault, &mut Trace::default())
     }
 
     fn record(&self) -> Vec<u8> {
-        let bytes = self.job.bytes();
-        let head = [bytes.len(), self.queue_room, self.answer_room];
-        head.iter().flat_map(|&x| (x as u32).to_le_bytes()).chain(bytes).collect()
+        let (job, call) = (&self.job, &self.call);
+        let bare = Job { settings: job.settings.clone(), variants: vec![], parts: vec![] };
+        let mut bytes = bare.bytes();
+        let word = |bytes: &mut Vec<u8>, x: u32| bytes.extend_from_slice(&x.to_le_bytes());
+        let lengths = [
+            call.starts.len(),
+            call.ends.len(),
+            call.sizes.len(),
+            call.features.len(),
+            call.part_sizes.len(),
+            call.part_features.len(),
+            self.rooms[0],
+            self.rooms[1],
+            self.rooms[2],
+            call.answer_room,
+        ];
+        lengths.iter().for_each(|&length| word(&mut bytes, length as u32));
+        call.starts.iter().chain(&call.ends).for_each(|x| bytes.extend_from_slice(&x.to_le_bytes()));
+        call.sizes.iter().chain(&call.part_sizes).for_each(|&x| word(&mut bytes, x as u32));
+        let mut sequences = |all: Vec<(bool, &[u8])>| {
+            word(&mut bytes, all.len() as u32);
+            for (negative, letters) in all {
+                word(&mut bytes, negative as u32);
+                word(&mut bytes, letters.len() as u32);
+                bytes.extend_from_slice(letters);
+            }
+        };
+        sequences(job.variants.iter().map(|v| (v.negative, v.letters.as_slice())).collect());
+        sequences(job.parts.iter().map(|p| (p.negative, p.letters.as_slice())).collect());
+        word(&mut bytes, self.changes.len() as u32);
+        for &(table, place, value) in &self.changes {
+            [table, place, value as u32].iter().for_each(|&x| word(&mut bytes, x));
+        }
+        bytes
     }
 }
 
@@ -239,27 +287,26 @@ fn words(answer: &Answer) -> String {
     all.join(" ") + "\n"
 }
 
-fn shown_by_library(lent: &Lent) -> BTreeSet<String> {
-    let call = lent.call();
-    let judged = rust::judged(&call);
+fn shown_by_library(stored: &Stored) -> BTreeSet<String> {
+    let judged = rust::judged(&stored.call);
     let mut trace = Trace::default();
-    assert_eq!(call_answer(&call, Fault::None, &mut trace), judged.answer);
+    assert_eq!(call_answer(&stored.call, Fault::None, &mut trace), judged.answer);
     let mut counts = Counts::new();
     kinds::of_answer(&mut counts, &judged);
     if judged.answer.refusal == 0 {
-        kinds::of_call(&mut counts, &call);
+        kinds::of_call(&mut counts, &stored.call);
         kinds::of_trace(&mut counts, &trace);
     }
     let caught = FAULTS
         .iter()
-        .filter(|(fault, _)| lent.with(*fault) != judged.answer)
+        .filter(|(fault, _)| stored.with(*fault) != judged.answer)
         .map(|(_, words)| format!("catches: {words}"));
     counts.into_keys().chain(caught).collect()
 }
 
-/// One job of full library size in every measure, and rooms just too small.
-fn large_ones(r: &mut Random) -> Vec<Lent> {
-    let mut all = vec![];
+/// Calls of full library size, most of them with an answer.
+fn large_ones(r: &mut Random) -> Vec<Stored> {
+    let mut all: Vec<Stored> = vec![];
     while all.len() < 40 {
         let mut job = generate::job(r, LIBRARY);
         if job.variants.len() < 40 || job.bytes().len() > 12_000 {
@@ -268,64 +315,99 @@ fn large_ones(r: &mut Random) -> Vec<Lent> {
         if all.len() % 3 == 0 {
             (job.settings.maxpaths, job.settings.maxnodes, job.settings.one_to_one) = (4_095, 65_535, false);
         }
-        let mut lent = Lent::of(job);
-        while cost(&lent.call()) > 60_000_000 {
-            lent.job.settings.maxpaths /= 2;
-            lent = Lent::of(lent.job);
+        let mut stored = Stored::of(job);
+        while cost(&stored.call) > 40_000_000 {
+            stored.job.settings.maxpaths /= 2;
+            stored = Stored::of(stored.job);
         }
-        let answer = rust::judged(&lent.call()).answer;
-        if answer.target == Target::Nothing && all.len() % 4 != 0 {
-            continue;
+        let answer = rust::judged(&stored.call).answer;
+        if answer.target != Target::Nothing || all.len() % 4 == 0 {
+            all.push(stored);
         }
-        all.push(lent);
-    }
-    for shorter in [1, 2] {
-        let mut lent = Lent::of(all[0].job.clone());
-        (lent.queue_room, lent.answer_room) = (lent.queue_room - shorter % 2, lent.answer_room - shorter / 2);
-        all.push(lent);
     }
     all
 }
 
-fn library_list() -> Vec<Lent> {
+/// What only the library can be asked: lengths that disagree, rows over their limit, rooms too small.
+fn refused_ones() -> Vec<Stored> {
+    let mut all = vec![];
+    let mut with = |change: &dyn Fn(&mut Stored)| {
+        let mut stored = Stored::of(example());
+        change(&mut stored);
+        all.push(stored);
+    };
+    with(&|s| { s.call.ends.pop(); });
+    with(&|s| s.call.ends.push(20));
+    with(&|s| { s.call.sizes.pop(); });
+    with(&|s| s.call.sizes.push(2));
+    with(&|s| { s.call.features.pop(); });
+    with(&|s| s.call.features.push(0));
+    with(&|s| { s.call.part_features.pop(); });
+    with(&|s| s.call.part_features.push(0));
+    with(&|s| s.call.part_sizes.clear());
+    with(&|s| s.call.part_sizes.push(1));
+    for value in [131_072, 131_073, -131_072, -131_073, i32::MIN, i32::MAX] {
+        with(&|s| s.change(0, 7, value));
+        with(&|s| s.change(1, 3, value));
+    }
+    with(&|s| (0..4).for_each(|place| s.change(0, place, 32_768)));
+    with(&|s| (0..4).for_each(|place| s.change(0, place, -32_769)));
+    with(&|s| (0..8).for_each(|place| s.change(0, place, [1, -1][place % 2])));
+    for less in [0, 1, 22] {
+        for slice in 0..3 {
+            with(&|s| s.rooms[slice] -= less);
+        }
+    }
+    with(&|s| (s.rooms, s.job.settings.one_to_one, s.call.settings.one_to_one) = ([0; 3], true, true));
+    with(&|s| s.call.answer_room = 1);
+    with(&|s| s.call.answer_room = 0);
+    with(&|s| s.call.answer_room = 9);
+    with(&|s| (s.call.answer_room, s.rooms) = (1, [1; 3]));
+    for count in [64, 65] {
+        let mut job = example();
+        job.settings.maxpaths = 20;
+        job.settings.maxnodes = 64;
+        job.variants = (0..count).map(|i| variant(i, i, 2, b"AG")).collect();
+        all.push(Stored::of(job.clone()));
+        job.variants.truncate(2);
+        job.parts = vec![part(1, b"AG"); count as usize];
+        all.push(Stored::of(job));
+    }
+    for stored in &mut all {
+        stored.call.queue_room = stored.rooms.into_iter().min().unwrap();
+    }
+    all
+}
+
+fn library_list() -> Vec<Stored> {
     let r = &mut Random::new(0x5eed_1111);
     let mut have = BTreeMap::new();
     let mut candidates = large_ones(r);
-    let mut small: Vec<Lent> = vec![];
-    for _ in 0..6_000 {
+    candidates.extend(refused_ones());
+    let always = candidates.len();
+    let mut small: Vec<Stored> = vec![];
+    for _ in 0..12_000 {
         let mut job = generate::job(r, LIBRARY);
         if r.chance(4) {
             disturb_job(r, &mut job);
         }
-        let bytes = job.bytes().len();
-        let mut lent = Lent::of(job);
-        if r.chance(3) && !lent.job.variants.is_empty() {
-            (lent.queue_room, lent.answer_room) = r.pick(&[
-                (0, lent.answer_room),
-                (lent.queue_room - 1, lent.answer_room),
-                (lent.queue_room, lent.answer_room - 1),
-            ]);
-        }
-        if bytes < 1_200 && cost(&lent.call()) < 2_000_000 {
-            small.push(lent);
+        let short = job.bytes().len() < 1_000;
+        let stored = Stored::of(job);
+        if short && cost(&stored.call) < 2_000_000 {
+            small.push(stored);
         }
     }
-    small.sort_by_key(|lent| lent.job.bytes().len());
-    let taken = candidates.len();
+    small.sort_by_key(|stored| stored.record().len());
     candidates.extend(small);
-    let kinds: Vec<(Lent, BTreeSet<String>)> = candidates
-        .into_iter()
-        .enumerate()
-        .map(|(at, lent)| {
-            let mut kinds = shown_by_library(&lent);
-            if at < taken {
-                kinds.insert(format!("large {at}"));
-            }
-            (lent, kinds)
-        })
-        .collect();
-    let list = cover(kinds, &mut have);
-    for (kind, count) in have.into_iter().filter(|(kind, _)| !kind.starts_with("large")) {
+    let with_kinds = candidates.into_iter().enumerate().map(|(at, stored)| {
+        let mut kinds = shown_by_library(&stored);
+        if at < always {
+            kinds.insert(format!("always {at}"));
+        }
+        (stored, kinds)
+    });
+    let list = cover(with_kinds.collect(), &mut have);
+    for (kind, count) in have.into_iter().filter(|(kind, _)| !kind.starts_with("always")) {
         println!("{count:>6}  library: {kind}");
     }
     list
@@ -351,6 +433,6 @@ fn main() -> io::Result<()> {
     write("replay", jobs, texts)?;
     let list = library_list();
     println!("search_vectors: {} jobs", list.len());
-    let records = list.iter().flat_map(Lent::record).collect();
-    write("search_vectors", records, list.iter().map(|lent| words(&rust::judged(&lent.call()).answer)).collect())
+    let records = list.iter().flat_map(Stored::record).collect();
+    write("search_vectors", records, list.iter().map(|stored| words(&rust::judged(&stored.call).answer)).collect())
 }
