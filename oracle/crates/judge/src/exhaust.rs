@@ -1,11 +1,23 @@
-//! Short jobs, all of them: tables of up to three rows over a few bounds and sizes, every part count from zero to
-//! three, k one and two, and a few settings.
+//! Short jobs, all of them: tables of up to three rows over a few bounds and sizes, every part count that the program
+//! takes, k one and two, and a few settings.
 use crate::job::{Job, Part, Settings, Variant};
 
 const BOUNDS: [(u64, u64); 4] = [(0, 0), (0, 2), (1, 1), (1, 3)];
 const SIZES: [i32; 3] = [-1, 0, 1];
 const LETTERS: [&[u8]; 3] = [b"AG", b"AG", b"CT"];
-const PART_SIZES: [&[i32]; 6] = [&[], &[0], &[1], &[1, 0], &[-1, 1], &[1, 1, -1]];
+const PART_SIZES: [&[i32]; 11] = [
+    &[],
+    &[0],
+    &[1],
+    &[1, 0],
+    &[-1, 1],
+    &[1, 1, -1],
+    &[1, 0, 0, -1],
+    &[1, -1, 1, 0, 1],
+    &[1, 1, -1, -1, 0, 0],
+    &[1, 0, -1, 1, 0, -1, 1],
+    &[1, 1, 1, 1, -1, -1, -1, -1],
+];
 
 fn tables() -> Vec<Vec<Variant>> {
     let mut all: Vec<Vec<Variant>> = vec![];
@@ -33,7 +45,7 @@ fn tables() -> Vec<Vec<Variant>> {
 
 fn parts(sizes: &[i32]) -> Vec<Part> {
     let one = |(&size, letters): (&i32, &[u8])| Part { size, negative: size < 0, letters: letters.to_vec() };
-    sizes.iter().zip([b"AG".as_slice(), b"CT", b"AG"]).map(one).collect()
+    sizes.iter().zip([b"AG".as_slice(), b"CT", b"AG"].into_iter().cycle()).map(one).collect()
 }
 
 fn settings() -> Vec<Settings> {
@@ -58,7 +70,7 @@ fn settings() -> Vec<Settings> {
         all.push(p.clone());
         all.push(Settings { squish: true, maxpaths: 3, gpenalty: 0.0, ..p.clone() });
         all.push(Settings { maxnodes: 2, pileupmax: 0, sizesim: 0.5, seqsim: 0.5, fpenalty: 0.0, ..p.clone() });
-        all.push(Settings { maxpaths: 2, fnmax: 1, seqsim: 1.0, gpenalty: 0.5, minkfreq: 2, ..p });
+        all.push(Settings { maxpaths: 2, fnmax: 8, pileupmax: 9, gpenalty: 0.5, minkfreq: 2, ..p });
     }
     all
 }

@@ -47,7 +47,7 @@ fn options() -> Options {
         }
     }
     if short {
-        (o.inputs, o.calls, o.exhaust_step) = (o.inputs.min(6_000), o.calls.min(400), 29);
+        (o.inputs, o.calls, o.exhaust_step) = (o.inputs.min(15_000), o.calls.min(800), 11);
     }
     o
 }
