@@ -20,3 +20,9 @@ pub mod ChainScoreLaws
 pub mod AnchorLaws
 pub mod AnswerLaws
 pub mod PartExamples
+mod ScanLaws
+mod ExtensionLaws
+mod WeighLaws
+mod StepLaws
+mod PlaceLaws
+pub mod FoundLaws
