@@ -154,7 +154,7 @@ fn main() {
         }
     }
     for k in [4, 6] {
-        // a large entry, as a long repeat gives, makes ours sum each row once more to see that it is within its limit
+        // a large entry is what a long repeat gives
         for (kind, low, first) in [("non-negative", 0, 1), ("mixed", -3, -1), ("one large entry", -3, 100_000)] {
             for minkfreq in [0, 2] {
                 seqsim(&mut random, kind, k, low, first, minkfreq);

@@ -21,7 +21,7 @@ use Rattle.metrics.specs.declared.lanes.Sums.{Sums}
 use Rattle.metrics.specs.Similarity.{magnitudeSum, partD, partN, sumD, sumN, seqsimValue, seqsimOf}
 use Rattle.metrics.specs.Lanes.{bitsOf, magnitudeOfBits, Added, Summed}
 use Rattle.metrics.proofs.Ints.{apart-le}
-use Rattle.metrics.proofs.Rows.{row-step, row-none, sum-step, sum-none, sum-le, d-le, n-le}
+use Rattle.metrics.proofs.Rows.{row-step, row-none, sum-step, sum-none, sum-le, d-le, n-le, left-out}
 
 -- a negative number and 2 ^ 32 make its bits; another number is its bits
 pub raised : (x : ℤ) → mag x < 2147483648 → ltZ x (pos 0) ≡ true → x +ℤ pos 4294967296 ≡ pos (bitsOf x)
@@ -155,8 +155,8 @@ pub record Passed (m : ℕ) (a b : List ℤ) (i : ℕ) (s : Sums) : Type 0 where
   pub inside : i ≤ length a
   pub room-a : magnitudeSum a ≤ i * s .most + magnitudeSum (drop i a)
   pub room-b : magnitudeSum b ≤ i * s .most + magnitudeSum (drop i b)
-  pub exact-d : magnitudeSum a ≤ 8388608 → magnitudeSum b ≤ 8388608 → s .d + sumD m (drop i a) (drop i b) ≡ sumD m a b
-  pub exact-n : magnitudeSum a ≤ 8388608 → magnitudeSum b ≤ 8388608 → s .n + sumN m (drop i a) (drop i b) ≡ sumN m a b
+  pub exact-d : magnitudeSum a + magnitudeSum b < 2147483648 → s .d + sumD m (drop i a) (drop i b) ≡ sumD m a b
+  pub exact-n : magnitudeSum a + magnitudeSum b < 2147483648 → s .n + sumN m (drop i a) (drop i b) ≡ sumN m a b
 
 module _ (m : ℕ) (a b : List ℤ) where
   pub begin : (s : Sums) → s .d ≡ 0 → s .n ≡ 0 → Passed m a b 0 s
@@ -164,8 +164,8 @@ module _ (m : ℕ) (a b : List ℤ) where
     inside = zero-le;
     room-a = omega arith;
     room-b = omega arith;
-    exact-d = λ ha hb. omega arith;
-    exact-n = λ ha hb. omega arith;
+    exact-d = λ h. omega arith;
+    exact-n = λ h. omega arith;
   }
 
   module _ (i p q z : ℕ) (s r : Sums) (v : Passed m a b i s) (ia : i < length a) (ib : i < length b)
@@ -173,29 +173,29 @@ module _ (m : ℕ) (a b : List ℤ) where
       (ez : natAbs (getD a i (pos 0)) + natAbs (getD b i (pos 0)) < 2147483648 → z ≡ natAbs (getD a i (pos 0) -ℤ getD b i (pos 0)))
       (t : Added m p q z s r) where
     -- the pair's magnitudes are within the rows' limits
-    pair-low : magnitudeSum a ≤ 8388608 → magnitudeSum b ≤ 8388608 → natAbs (getD a i (pos 0)) + natAbs (getD b i (pos 0)) ≤ 16777216
-    pair-low ha hb = omega (arith, row-step a i ia, row-step b i ib, row-drop i a, row-drop i b)
+    pair-low : magnitudeSum a + magnitudeSum b < 2147483648 → natAbs (getD a i (pos 0)) + natAbs (getD b i (pos 0)) < 2147483648
+    pair-low h = omega (arith, row-step a i ia, row-step b i ib, row-drop i a, row-drop i b)
 
-    next-d : magnitudeSum a ≤ 8388608 → magnitudeSum b ≤ 8388608
+    next-d : magnitudeSum a + magnitudeSum b < 2147483648
         → r .d + sumD m (drop (i + 1) a) (drop (i + 1) b) ≡ sumD m a b
-    next-d ha hb =
+    next-d h =
         let x = getD a i (pos 0) in
         let y = getD b i (pos 0) in
-        let w = v .exact-d ha hb in
-        let l = pair-low ha hb in
+        let w = v .exact-d h in
+        let l = pair-low h in
         let bound = sum-le (partD m) (d-le m) a b in
         let h1 : p + q < 2147483648 = omega arith in
         let h2 : s .d + (p + q) < 4294967296 = omega arith in
         let f : r .d ≡ s .d + partD m x y = rw (ep, eq) at (t .more-d h1 h2) in
         omega (arith, sum-step (partD m) a b i ia ib)
 
-    next-n : magnitudeSum a ≤ 8388608 → magnitudeSum b ≤ 8388608
+    next-n : magnitudeSum a + magnitudeSum b < 2147483648
         → r .n + sumN m (drop (i + 1) a) (drop (i + 1) b) ≡ sumN m a b
-    next-n ha hb =
+    next-n h =
         let x = getD a i (pos 0) in
         let y = getD b i (pos 0) in
-        let w = v .exact-n ha hb in
-        let l = pair-low ha hb in
+        let w = v .exact-n h in
+        let l = pair-low h in
         let bound = sum-le (partN m) (n-le m) a b in
         let zz = ez (omega arith) in
         let far = apart-le x y in
@@ -224,8 +224,8 @@ module _ (m : ℕ) (a b : List ℤ) where
       record {
         room-a = rw (← ia) (omega arith);
         room-b = rw (← ib) (omega arith);
-        exact-d = λ ha hb. let w = v .exact-d ha hb in omega (arith, sum-none (partD m) a b i h);
-        exact-n = λ ha hb. let w = v .exact-n ha hb in omega (arith, sum-none (partN m) a b i h);
+        exact-d = λ k. let w = v .exact-d k in omega (arith, sum-none (partD m) a b i h);
+        exact-n = λ k. let w = v .exact-n k in omega (arith, sum-none (partN m) a b i h);
       }
 
 -- rows within their limit, with their sums
@@ -236,14 +236,18 @@ pub record Good (m : ℕ) (a b : List ℤ) (s : Sums) : Type 0 where
   pub is-n : s .n ≡ sumN m a b
 
 module _ (m : ℕ) (a b : List ℤ) (s : Sums) where
-  pub good-within : Summed m a b s → length a ≡ length b → length a * s .most ≤ 8388608 → Good m a b s
-  good-within v e w =
-      let ha : magnitudeSum a ≤ 8388608 = omega (arith, v .room-a) in
-      let hb : magnitudeSum b ≤ 8388608 = le-trans (v .room-b) (rw (← e) w) in
-      record { low-a = ha; low-b = hb; is-d = v .exact-d ha hb; is-n = v .exact-n ha hb }
+  pub good-within : Summed m a b s → length a ≡ length b → length a * s .most ≤ 536870912 → s .d + length a * m ≤ 8388608 → Good m a b s
+  good-within v e w l =
+      let wb : length b * s .most ≤ 536870912 = rw (← e) w in
+      let h : magnitudeSum a + magnitudeSum b < 2147483648 = omega (arith, v .room-a, v .room-b) in
+      let d = v .exact-d h in
+      let both = left-out m a b e in
+      record { low-a = omega arith; low-b = omega arith; is-d = d; is-n = v .exact-n h }
 
   pub good-rows : Summed m a b s → magnitudeSum a ≤ 8388608 → magnitudeSum b ≤ 8388608 → Good m a b s
-  good-rows v ha hb = record { low-a = ha; low-b = hb; is-d = v .exact-d ha hb; is-n = v .exact-n ha hb }
+  good-rows v ha hb =
+      let h : magnitudeSum a + magnitudeSum b < 2147483648 = omega arith in
+      record { low-a = ha; low-b = hb; is-d = v .exact-d h; is-n = v .exact-n h }
 
   pub good-low : Good m a b s → (s .d ≤ 16777216) × (s .n ≤ 16777216)
   good-low g = omega (arith, sum-le (partD m) (d-le m) a b, sum-le (partN m) (n-le m) a b)

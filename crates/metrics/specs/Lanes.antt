@@ -26,12 +26,12 @@ pub record Added (m p q z : ℕ) (s r : Sums) : Type 0 where
   pub more-d : p + q < 2147483648 → s .d + (p + q) < 4294967296 → r .d ≡ s .d + cond (leb m (p + q)) (p + q) 0
   pub more-n : p + q < 2147483648 → s .n + z < 4294967296 → r .n ≡ s .n + cond (leb m (p + q)) z 0
 
--- a whole pass: `most` bounds each entry, and where the rows are within their limit the sums are right
+-- a whole pass: `most` bounds each entry, and where the rows are not very large the sums are right
 pub record Summed (m : ℕ) (a b : List ℤ) (r : Sums) : Type 0 where
   pub room-a : magnitudeSum a ≤ length a * r .most
   pub room-b : magnitudeSum b ≤ length b * r .most
-  pub exact-d : magnitudeSum a ≤ 8388608 → magnitudeSum b ≤ 8388608 → r .d ≡ sumD m a b
-  pub exact-n : magnitudeSum a ≤ 8388608 → magnitudeSum b ≤ 8388608 → r .n ≡ sumN m a b
+  pub exact-d : magnitudeSum a + magnitudeSum b < 2147483648 → r .d ≡ sumD m a b
+  pub exact-n : magnitudeSum a + magnitudeSum b < 2147483648 → r .n ≡ sumN m a b
 
 -- a table that has the code of each byte
 pub record Coded (t : List ℕ) : Type 0 where

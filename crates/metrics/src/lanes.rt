@@ -105,17 +105,22 @@ pub(crate) fn sum_rows(a: &[i32], b: &[i32], minkfreq: u32) -> Sums
     s
 }
 
-// Whether so many entries, none past `most`, are within a row's limit whatever they are. Where they need not be, `row_over` counts.
-pub(crate) fn surely_within(most: u32, count: usize) -> bool
-    ensures { λ r. ⌜ (r ≡ true → count * most ≤ 8388608) ⌝ }
+// Whether the sums alone show that both rows of so many entries are within their limit: then nothing wrapped, and what d leaves out is below
+// minkfreq in each entry. Where they do not show it, `row_over` counts.
+pub(crate) fn surely_within(s: Sums, count: usize, minkfreq: u32) -> bool
+    requires { ⌜ minkfreq ≤ 16777216 ⌝ }
+    ensures { λ r. ⌜ (r ≡ true → (count * s .most ≤ 536870912) × (s .d + count * minkfreq ≤ 8388608)) ⌝ }
 {
-    if most > 8388608 {
+    if s.most > 8388608 {
         return false;
     }
     if count > 8388608 {
         return false;
     }
-    (most as usize) * count <= 8388608
+    if (s.most as usize) * count > 536870912 {
+        return false;
+    }
+    (s.d as usize) + (minkfreq as usize) * count <= 8388608
 }
 
 // Whether the magnitudes of a row sum to more than its limit.

@@ -41,7 +41,7 @@ pub fn seqsim(a: &[i32], b: &[i32], minkfreq: u32) -> Sim
         return Sim::Refused(BAD_LENGTHS);
     }
     let s = lanes::sum_rows(a, b, minkfreq);
-    if lanes::surely_within(s.most, a.len()) {
+    if lanes::surely_within(s, a.len(), minkfreq) {
         return Sim::Value(rounded_similarity(s.d, s.n));
     }
     if lanes::row_over(a) {

@@ -27,7 +27,8 @@ good-fast : (c : tie.Then3) → let a = c .before .before .before .before .befor
     Good (a .minkfreq) (a .a .now) (a .b .now) (c .before .before .sum-rows .result)
 good-fast c =
     let f = c .before .before in
-    good-within _ _ _ _ (f .sum-rows .ensures) (f .before .if2 .left) (c .before .surely-within .ensures (c .if3 .taken))
+    good-within _ _ _ _ (f .sum-rows .ensures) (f .before .if2 .left) (c .before .surely-within .ensures (c .if3 .taken) .0)
+    (c .before .surely-within .ensures (c .if3 .taken) .1)
 
 good-slow : (c : tie.Else5) → let f = c .before .before .before .before .before .before in
     let a = f .before .before .before .args in
