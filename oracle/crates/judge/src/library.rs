@@ -28,7 +28,7 @@ pub use linked::{answer, smaller_call};
 mod linked {
     use super::*;
     use crate::answer::Target;
-    use crate::kinds;
+    use crate::{generate, kinds, rust};
     use unchanged::kplib::{metrics, seq_to_kmer};
 
     extern "C" {
@@ -41,10 +41,9 @@ mod linked {
             part_sizes: *const i32, part_sizes_len: usize, part_features: *const i32, part_features_len: usize,
             parents: *mut u32, parents_len: usize, lasts: *mut u32, lasts_len: usize, keys: *mut u64, keys_len: usize,
             rows: *mut u32, rows_len: usize,
-            row_count: *mut u32, target: *mut u32, left_out: *mut u32,
-            score: *mut f32, best_sizesim: *mut f32, best_seqsim: *mut f32,
-            scored: *mut u32, complete: *mut u32,
+            report: *mut [u32; 7],
         ) -> u32;
+        fn nd_count_chains(starts: *const u64, starts_len: usize, ends: *const u64, ends_len: usize, full: bool, cap: u32, count: *mut u32) -> u32;
         fn nd_seq_to_kmer(seq: *const u8, seq_len: usize, k: u8, negative: bool, row: *mut i32, row_len: usize) -> u32;
         fn nd_seqsim(a: *const i32, a_len: usize, b: *const i32, b_len: usize, minkfreq: u32, place: *mut f32) -> u32;
         fn nd_sizesim(a: u64, b: u64, place: *mut f32) -> u32;
@@ -60,8 +59,7 @@ mod linked {
         let mut lasts = vec![MARK; call.queue_room + 1];
         let mut keys = vec![MARK_KEY; call.queue_room + 2];
         let mut rows = vec![MARK; call.answer_room];
-        let (mut row_count, mut target, mut left_out, mut scored, mut complete) = (MARK, MARK, MARK, MARK, MARK);
-        let (mut score, mut sizesim, mut seqsim) = (f32::NAN, f32::NAN, f32::NAN);
+        let mut report = [MARK; 7];
         // SAFETY: every pointer comes with its slice's length, and no two overlap.
         let refusal = unsafe {
             nd_apply_haplotype(
@@ -73,11 +71,10 @@ mod linked {
                 call.part_sizes.as_ptr(), call.part_sizes.len(), call.part_features.as_ptr(), call.part_features.len(),
                 parents.as_mut_ptr(), parents.len(), lasts.as_mut_ptr(), lasts.len(), keys.as_mut_ptr(), keys.len(),
                 rows.as_mut_ptr(), rows.len(),
-                &mut row_count, &mut target, &mut left_out,
-                &mut score, &mut sizesim, &mut seqsim,
-                &mut scored, &mut complete,
+                &mut report,
             )
         };
+        let [row_count, target, score, sizesim, seqsim, scored, complete] = report;
         let count = row_count as usize;
         if count > rows.len() {
             return Err(format!("{count} rows in a buffer of {}", rows.len()));
@@ -89,12 +86,11 @@ mod linked {
                 target: match target {
                     0 => Target::Nothing,
                     1 => Target::Whole,
-                    2 => Target::Partial(left_out),
-                    other => return Err(format!("target {other}")),
+                    more => Target::Partial(more - 1),
                 },
-                score: score.to_bits(),
-                sizesim: sizesim.to_bits(),
-                seqsim: seqsim.to_bits(),
+                score,
+                sizesim,
+                seqsim,
                 scored,
                 complete: complete == 1,
             },
@@ -103,13 +99,57 @@ mod linked {
         })
     }
 
-    /// One call of the counter, seqsim or sizesim, compared with the Rust's; refusals by document 01.
+    /// One call of the counter, seqsim, sizesim or the chain count, compared with the Rust's; refusals by document 01.
     pub fn smaller_call(r: &mut Random, counts: &mut Counts) -> Result<(), String> {
-        match r.below(3) {
+        match r.below(4) {
             0 => counter(r, counts),
             1 => rows(r, counts),
-            _ => sizes(r, counts),
+            2 => sizes(r, counts),
+            _ => chain_count(r, counts),
         }
+    }
+
+    /// The refusals of the chain count: the cap, then the table's bounds.
+    fn bounds_refusal(starts: &[u64], ends: &[u64], cap: u32) -> u32 {
+        match starts.len() {
+            _ if cap > 4_096 => 3,
+            0 => 4,
+            65.. => 5,
+            v if ends.len() != v => 6,
+            _ if starts.iter().zip(ends).any(|(start, end)| start > end) => 7,
+            _ if starts.windows(2).any(|pair| pair[1] < pair[0]) => 8,
+            _ => 0,
+        }
+    }
+
+    fn chain_count(r: &mut Random, counts: &mut Counts) -> Result<(), String> {
+        let mut job = generate::job(r, generate::LIBRARY);
+        job.settings.k = 1;
+        let call = Call::of_job(&job);
+        let (mut starts, mut ends) = (call.starts.clone(), call.ends.clone());
+        let cap = r.pick(&[0u32, 1, 2, 7, 4_095, 4_096, 4_096, 4_096, 4_097]);
+        match r.below(30) {
+            0 => starts.clear(),
+            1 => ends.push(u64::MAX),
+            2 => starts[0] = ends[0].saturating_add(1),
+            3 => starts.rotate_left(1),
+            4 => (starts, ends) = ((0..65).collect(), (0..65).collect()),
+            _ => {}
+        }
+        let must = bounds_refusal(&starts, &ends, cap);
+        let table = Call { starts: starts.clone(), ends: ends.clone(), ..call.clone() };
+        let chains = if must == 0 { rust::chains(&table, cap.into()) as u32 } else { 0 };
+        let mut count = u32::MAX;
+        // SAFETY: both pointers come with their lengths.
+        let said = unsafe { nd_count_chains(starts.as_ptr(), starts.len(), ends.as_ptr(), ends.len(), call.settings.full, cap, &mut count) };
+        kinds::add(counts, format!("chain count: refusal {must}"));
+        if must == 0 && chains == cap {
+            kinds::add(counts, "chain count: at its cap");
+        }
+        if said == must && count == chains {
+            return Ok(());
+        }
+        Err(format!("chains of {starts:?} {ends:?} full {} cap {cap}: must be {must} {chains}, is {said} {count}", call.settings.full))
     }
 
     fn counter(r: &mut Random, counts: &mut Counts) -> Result<(), String> {
