@@ -1,5 +1,5 @@
 -- What a step of the search asks of its callees follows from where the search stands; and what they promise is where it stands after the step. Assumes nothing.
-use mathlib.Core.Path.{_≡_, refl, sym, ap, _∙_}
+use mathlib.Core.Path.{_≡_, refl, ap, _∙_}
 use Prim.Native.Nat.{ℕ, zero, suc, _+_, _-_, _*_, _^_, _≤_, _<_}
 use native.Mathlib.Omega.{arith}
 use native.Mathlib.Nat.{mul-le-mul-right}
@@ -13,19 +13,19 @@ use lib.Ieee.{le}
 use borrow.Author.Tests.{eq-eqb, ne-eqb}
 use mir.Syntax.{w32}
 use mir.Val.{toZ, ofZ}
-use Rattle.paths.specs.Chains.{endNode, isChain}
-use Rattle.paths.specs.Queue.{chainAt, keyOf, Walk, Taken, Queued, Running, Ended}
+use Rattle.paths.specs.Chains.{isChain}
+use Rattle.paths.specs.Queue.{chainAt, keyOf, Walk, Taken, Queued, Ended}
 use Rattle.paths.proofs.TableLaws.{chain-link}
 use Rattle.paths.proofs.QueueLaws.{chain-parts, chain-end, chain-length}
 use Rattle.paths.proofs.RunLaws.{taken-in, taken-queue, begin, step-on, end-empty, end-steps}
-use Rattle.kplib.specs.Checked.{Below, Sized, Checked}
+use Rattle.kplib.specs.Checked.{Below, Sized}
 use Rattle.kplib.specs.Numbers.{Table, Parts}
 use Rattle.kplib.specs.Parts.{positionsFrom, wholeOf}
 use Rattle.kplib.specs.Sums.{sizeFrom, sizeOf}
-use Rattle.kplib.specs.Score.{start, chainScore}
-use Rattle.kplib.specs.Scoring.{Tables, LaidDown}
-use Rattle.kplib.specs.Graph.{mayFollowIn, isChainIn}
-use Rattle.kplib.specs.Search.{Result, distanceTo, haplotypeSize, resultWith, startResult, noLower, followsIn, distanceIn, resultOf}
+use Rattle.kplib.specs.Score.{start}
+use Rattle.kplib.specs.Scoring.{LaidDown}
+use Rattle.kplib.specs.Graph.{isChainIn}
+use Rattle.kplib.specs.Search.{distanceTo, haplotypeSize, resultWith, startResult, noLower, followsIn, distanceIn, resultOf}
 use Rattle.kplib.specs.SearchSteps.{laterOf, advanced, endAt, Extending, Weighable, WeighedAs, Searchable, Startable, Going, Gone}
 use Rattle.kplib.specs.declared.graphparams.Settings.{Settings}
 use Rattle.kplib.specs.declared.pathscore.Scored.{Scored}

@@ -2,11 +2,11 @@
 use Prim.Native.Nat.{ℕ, zero, suc, _+_, _-_, _*_, _^_, _≤_, _<_}
 use mathlib.Core.Path.{_≡_}
 use mathlib.Core.Bool.{Bool, true, false, cond}
-use mathlib.Core.List.{List, [], _∷_, reverse}
+use mathlib.Core.List.{List, reverse}
 use lib.Dec.{eqb}
 use lib.Ieee.{le}
 use lib.IntN.{ℤ, natAbs}
-use lib.ListN.{length, getD, take}
+use lib.ListN.{length, take}
 use Rattle.paths.specs.Chains.{endNode}
 use Rattle.paths.specs.Queue.{chainAt, Walk, Queue, Running, Ended}
 use Rattle.kplib.specs.Checked.{Below, Sized, Checked}

@@ -1,14 +1,13 @@
 // The search over the chains of a table, and the one-to-one match (traverse.rs).
 ghost use mathlib.Core.Path.{_≡_};
-ghost use mathlib.Core.Bool.{Bool, true, false, cond};
-ghost use mathlib.Core.List.{List, [], _∷_, _++_, reverse};
-ghost use Prim.Native.Nat.{ℕ, _+_, _*_, _<_, _≤_, min};
-ghost use lib.Ieee.{le};
-ghost use lib.ListN.{length, getD, take, drop};
+ghost use mathlib.Core.Bool.{false};
+ghost use mathlib.Core.List.{reverse};
+ghost use Prim.Native.Nat.{_+_, _<_, _≤_, min};
+ghost use lib.ListN.{length};
 ghost use Rattle.paths.specs.Queue.{chainAt, Walk};
 ghost use Rattle.kplib.specs.Checked.{Checked};
-ghost use Rattle.kplib.specs.Numbers.{tableOf, partsOf, firstFault, searchMode};
-ghost use Rattle.kplib.specs.OneToOne.{oneToOne, loneRows, loneRowsAt};
+ghost use Rattle.kplib.specs.Numbers.{tableOf, partsOf, searchMode};
+ghost use Rattle.kplib.specs.OneToOne.{oneToOne, loneRowsAt};
 ghost use Rattle.kplib.specs.Scoring.{Tables};
 ghost use Rattle.kplib.specs.Search.{rowsFor};
 ghost use Rattle.kplib.specs.Answer.{searched, matchedAlone, foundAfter, answerWith, queueRoom, answerOf, rowsOf, placed, searches};

@@ -1,19 +1,19 @@
 -- Demand 3 follows from one law of conservation: what is scored, and what would grow from the chains still queued, come to what would grow from the empty chain.
 -- Weighed by 1 it counts; weighed by "is it x" it says that each chain is scored once.
-use mathlib.Core.Path.{_≡_, refl, sym, ap, _∙_}
-use Prim.Native.Nat.{ℕ, zero, suc, _+_, _≤_, _<_, min}
+use mathlib.Core.Path.{_≡_, refl, ap, _∙_}
+use Prim.Native.Nat.{ℕ, zero, suc, _+_, _≤_, min}
 use native.Mathlib.Omega.{arith}
 use mathlib.Core.Logic.{_⊎_, inl, inr, ⊎-elim}
-use mathlib.Core.Bool.{Bool, true, false, cond}
-use mathlib.Core.List.{List, [], _∷_, _++_, map}
+use mathlib.Core.Bool.{Bool, true, false}
+use mathlib.Core.List.{List, [], _∷_, map}
 use lib.ListN.{length}
 use lib.Dec.{leb}
 use borrow.Author.Tests.{leb-true, leb-false}
 use Rattle.paths.specs.Sums.{sumBy, bit, sameRows, timesIn}
-use Rattle.paths.specs.Chains.{endNode, extends, extensions, isChain, chainsWithin, chainsFrom}
+use Rattle.paths.specs.Chains.{extensions, isChain, chainsFrom}
 use Rattle.paths.specs.Search.{none, pick, after, scored, left}
 use Rattle.paths.specs.Demand.{scoredChains, leftChains, Lists, Demand3}
-use Rattle.paths.specs.Best.{All, Order, best, Latest}
+use Rattle.paths.specs.Best.{Order, best, Latest}
 use Rattle.paths.proofs.SumLaws.{sum-one, bit-le}
 use Rattle.paths.proofs.SearchLaws.{conserve}
 use Rattle.paths.proofs.ChainLaws.{chainsFrom-step, tree-step, tree-top, inTree}
