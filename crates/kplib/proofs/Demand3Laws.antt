@@ -1,21 +1,19 @@
 -- Demand 3 is that of the step rule (paths, proofs/Demand), read of the answer: scores are numbers, so they are in order, and none is below the scoring's start.
 use mathlib.Core.Path.{_≡_, refl, sym, ap, _∙_}
-use Prim.Native.Nat.{ℕ, _+_, _≤_, min}
+use Prim.Native.Nat.{ℕ, _+_, min}
 use native.Mathlib.Omega.{arith}
 use mathlib.Core.Bool.{Bool, true, false, not, _&&_, _||_}
-use mathlib.Core.List.{List, [], _∷_, map, reverse}
+use mathlib.Core.List.{List, [], reverse}
 use borrow.Author.Tests.{eqb-true}
 use lib.Dec.{T, leb, eqb}
 use lib.ListN.{length}
-use lib.Ieee.{Float, le, isNan}
-use Rattle.metrics.specs.Similarity.{whole}
+use lib.Ieee.{le, isNan}
 use Rattle.metrics.proofs.FloatOrder.{le-trans, le-total}
-use Rattle.paths.specs.Best.{Order, best, Latest}
+use Rattle.paths.specs.Best.{Order}
 use Rattle.paths.specs.Search.{none}
 use Rattle.paths.specs.Demand.{Demand3 as Rule}
 use Rattle.paths.proofs.Demand.{demand3}
 use Rattle.kplib.specs.Numbers.{Table, Parts, firstFault, searchMode}
-use Rattle.kplib.specs.Graph.{chainsOf}
 use Rattle.kplib.specs.Score.{chainScore}
 use Rattle.kplib.specs.Search.{Result, noLower, startResult, followsIn, distanceIn, scoredIn, leftIn, resultOf, bestIn}
 use Rattle.kplib.specs.Answer.{searched, answerWith, foundAfter, answerOf, rowsOf, searches}

@@ -4,7 +4,7 @@ use Prim.Native.Nat.{ℕ, zero, suc, _+_, _*_, _≤_, _<_}
 use native.Mathlib.Omega.{arith}
 use native.Mathlib.Numerals.{add-one}
 use mathlib.Core.Bool.{Bool, true}
-use mathlib.Core.List.{List, [], _∷_, _++_, reverse, reverse-cons}
+use mathlib.Core.List.{List, [], _∷_, reverse, reverse-cons}
 use lib.IntN.{ℤ, pos, natAbs, _+ℤ_, _-ℤ_}
 use lib.ListN.{length, getD, drop, length-append}
 use lib.Seq.{drop-cons, drop-nil}
@@ -12,10 +12,10 @@ use mir.Syntax.{w32}
 use mir.Val.{toZ, ofZ, SFits}
 use Rattle.metrics.proofs.Ints.{add-le}
 use Rattle.paths.specs.Chains.{endNode}
-use Rattle.paths.specs.Queue.{chainAt, keyOf, Links}
+use Rattle.paths.specs.Queue.{chainAt, keyOf}
 use Rattle.paths.proofs.TableLaws.{chain-root, chain-link}
-use Rattle.paths.proofs.QueueLaws.{chain-end, chain-length, chain-longer, chain-parts}
-use Rattle.kplib.specs.Checked.{Below, Sized}
+use Rattle.paths.proofs.QueueLaws.{chain-end, chain-length, chain-longer}
+use Rattle.kplib.specs.Checked.{Below}
 use Rattle.kplib.specs.Sums.{sizeFrom, sizeOf}
 use Rattle.kplib.specs.Graph.{edge, mayFollowIn, extendsIn, isChainIn}
 use Rattle.kplib.specs.GraphWalk.{extendsAt}

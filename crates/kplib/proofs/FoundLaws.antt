@@ -1,16 +1,15 @@
 -- What a search, or a one-to-one match, ends with is the answer that document 01 gives. Assumes nothing.
 use mathlib.Core.Path.{_≡_, refl, sym, ap, _∙_}
-use Prim.Native.Nat.{ℕ, zero, suc, _+_, _*_, _≤_, _<_, min}
+use Prim.Native.Nat.{ℕ, zero, suc, _+_, _≤_, min}
 use native.Mathlib.Omega.{arith}
-use mathlib.Core.Bool.{Bool, true, false}
-use mathlib.Core.List.{List, [], _∷_, _++_, reverse}
+use mathlib.Core.Bool.{true, false}
+use mathlib.Core.List.{List, _++_, reverse}
 use lib.Dec.{eqb}
-use lib.IntN.{ℤ}
 use lib.ListN.{length, drop}
 use Rattle.paths.specs.Queue.{chainAt}
 use Rattle.kplib.specs.Numbers.{Table, Parts, firstFault, searchMode}
 use Rattle.kplib.specs.Score.{start}
-use Rattle.kplib.specs.OneToOne.{oneToOne, loneRows, loneRowsAt}
+use Rattle.kplib.specs.OneToOne.{oneToOne, loneRowsAt}
 use Rattle.kplib.specs.Search.{rowsFor}
 use Rattle.kplib.specs.Answer.{searched, matchedAlone, foundAfter, answerWith, answerOf, rowsOf, placed, queueRoom, searches}
 use Rattle.kplib.specs.SearchSteps.{answerParts, Gone, Acceptable}

@@ -1,5 +1,5 @@
 -- What a step of the search asks of its callees follows from where the search stands; and what they promise is where it stands after the step. Assumes nothing.
-use mathlib.Core.Path.{_≡_, refl, sym, ap, _∙_}
+use mathlib.Core.Path.{_≡_, refl, ap, _∙_}
 use Prim.Native.Nat.{ℕ, zero, suc, _+_, _-_, _*_, _^_, _≤_, _<_}
 use native.Mathlib.Omega.{arith}
 use native.Mathlib.Nat.{mul-le-mul-right}
@@ -13,20 +13,20 @@ use lib.Ieee.{le}
 use borrow.Author.Tests.{eq-eqb, ne-eqb}
 use mir.Syntax.{w32}
 use mir.Val.{toZ, ofZ}
-use Rattle.paths.specs.Chains.{endNode, isChain}
-use Rattle.paths.specs.Queue.{chainAt, keyOf, Walk, Taken, Queued, Running, Ended}
+use Rattle.paths.specs.Chains.{isChain}
+use Rattle.paths.specs.Queue.{chainAt, keyOf, Walk, Taken, Queued, Ended}
 use Rattle.paths.proofs.TableLaws.{chain-link}
 use Rattle.paths.proofs.QueueLaws.{chain-parts, chain-end, chain-length}
 use Rattle.paths.proofs.RunLaws.{taken-in, taken-queue, begin, step-on, end-empty, end-steps}
-use Rattle.kplib.specs.Checked.{Below, Sized, Checked}
+use Rattle.kplib.specs.Checked.{Below, Sized}
 use Rattle.kplib.specs.Numbers.{Table, Parts}
 use Rattle.kplib.specs.Parts.{positionsFrom, wholeOf}
 use Rattle.kplib.specs.Sums.{sizeFrom, sizeOf}
-use Rattle.kplib.specs.Score.{start, chainScore}
-use Rattle.kplib.specs.Scoring.{Tables, LaidDown}
-use Rattle.kplib.specs.Graph.{mayFollowIn, isChainIn}
-use Rattle.kplib.specs.Search.{Result, distanceTo, haplotypeSize, resultWith, startResult, noLower, followsIn, distanceIn, resultOf}
-use Rattle.kplib.specs.SearchSteps.{endAt, Extending, Weighable, WeighedAs, Searchable, Startable, Going, Gone}
+use Rattle.kplib.specs.Score.{start}
+use Rattle.kplib.specs.Scoring.{LaidDown}
+use Rattle.kplib.specs.Graph.{isChainIn}
+use Rattle.kplib.specs.Search.{distanceTo, haplotypeSize, resultWith, startResult, noLower, followsIn, distanceIn, resultOf}
+use Rattle.kplib.specs.SearchSteps.{laterOf, advanced, endAt, Extending, Weighable, WeighedAs, Searchable, Startable, Going, Gone}
 use Rattle.kplib.specs.declared.graphparams.Settings.{Settings}
 use Rattle.kplib.specs.declared.pathscore.Scored.{Scored}
 use Rattle.kplib.specs.declared.traverse.Leader.{Leader}
@@ -34,6 +34,7 @@ use Rattle.kplib.specs.declared.traverse.Weighed.{Weighed}
 use Rattle.kplib.specs.declared.traverse.Progress.{Progress}
 use Rattle.kplib.proofs.WordLaws.{back}
 use Rattle.kplib.proofs.SizeSumLaws.{size-le}
+use Rattle.kplib.proofs.ChainScoreLaws.{tables-of}
 use Rattle.kplib.proofs.ExtensionLaws.{reverse-length, end-at}
 
 below-end : (n : ℕ) (l : List ℕ) (r : ℕ) → Below n l → r < n → Below n (l ++ (r ∷ []))
@@ -45,9 +46,6 @@ chain-below follows v [] h = tt
 chain-below follows v (r ∷ c) h =
     let p = chain-parts follows v r c h in
     rw (reverse-cons r c) (below-end v (reverse c) r (chain-below follows v c (p .0)) (p .1))
-
-pub tables-of : {s : Settings} {starts ends : List ℕ} {sizes features partSizes partFeatures : List ℤ} → Checked s starts ends sizes features partSizes partFeatures → Tables s sizes features partSizes partFeatures
-tables-of c = record { minkfreq = c .minkfreq; sized = c .sized; rows = c .rows; part-sized = c .part-sized; part-rows = c .part-rows }
 
 positions-few : (p n : ℕ) → length (positionsFrom p n) ≡ n
 unfolding positionsFrom
@@ -93,7 +91,7 @@ module _ {s : Settings} {t : Table} {p : Parts} {target : ℤ} {codes : List ℕ
   pub weighable : (e : ℕ) → e < at .used → {chainRow listRow : List ℤ} → length chainRow ≡ cr → length listRow ≡ lr
       → Weighable s (t .sizes) (t .features) (p .sizes) (p .features) codes listSizes count parents lasts e chainRow listRow
   weighable e l u v = record {
-    tables = tables-of (h .checked);
+    tables = tables-of s (t .starts) (t .ends) (t .sizes) (t .features) (p .sizes) (p .features) (h .checked);
     laid = h .laid;
     walk = walk-at e l;
     within = rw (h .checked .sizes-are) (chain-below (followsIn s t p) (length (t .starts)) (chainAt parents lasts e) (good e l));
@@ -151,11 +149,11 @@ module _ {s : Settings} {t : Table} {p : Parts} {target : ℤ} {codes : List ℕ
       queue = rw (h .target-is) (taken-queue (g .run) (g .queued-in) k);
     })
 
-    module _ {parents' lasts' : List ℕ} (keys'' : List ℕ) {added : ℕ} {w : Weighed} {r : Leader}
+    module _ {parents' lasts' : List ℕ} (keys'' : List ℕ) {added : ℕ} {w : Weighed} {to : Progress}
         (q : Queued (followsIn s t p) (length (t .starts)) (distanceTo (t .sizes) (toZ w32 (ofZ w32 target))) parents lasts (take (at .queued - 1) keys') (at .used) e parents' lasts' (take (at .queued - 1 + added) keys'') added)
         (within : at .queued - 1 + added ≤ length keys'')
         (hw : WeighedAs s (t .sizes) (t .features) (p .sizes) (p .features) (reverse (chainAt parents lasts e)) w)
-        (hr : r ≡ cond (le (at .best .scored .score) (w .scored .score)) (record { entry = e; scored = w .scored }) (at .best)) where
+        (hr : to ≡ advanced at e (w .scored) added) where
       queued : Queued (followsIn s t p) (length (t .starts)) (distanceIn s t p) parents lasts (take (at .queued - 1) keys') (at .used) e parents' lasts' (take (at .queued - 1 + added) keys'') added
       queued = rw (back target (omega (arith, target-small)), h .target-is) at q
 
@@ -163,8 +161,9 @@ module _ {s : Settings} {t : Table} {p : Parts} {target : ℤ} {codes : List ℕ
       unfolding resultOf
       result-is = rw (hw .scored-is)
 
-      pub gone-on : Going s t p parents' lasts' keys'' (record { used = at .used + added; queued = at .queued - 1 + added; count = at .count + 1; best = r })
-      gone-on =
+      on : (r : Leader) → r ≡ laterOf (at .best) (record { entry = e; scored = w .scored })
+          → Going s t p parents' lasts' keys'' (record { used = at .used + added; queued = at .queued - 1 + added; count = at .count + 1; best = r })
+      on r hr =
           let x : Leader = record { entry = e; scored = w .scored } in
           let b = le (at .best .scored .score) (w .scored .score) in
           let in-old = later-in (at .used) r (at .best) x b hr (g .best-in) entry-in in
@@ -175,6 +174,9 @@ module _ {s : Settings} {t : Table} {p : Parts} {target : ℤ} {codes : List ℕ
             queued-in = within;
             run = rw same (step-on (g .run) (g .queued-in) k less queued);
           }
+
+      pub gone-on : (Going s t p parents' lasts' keys'' to) × (to .count ≡ at .count + 1)
+      gone-on = (rw hr (on (laterOf (at .best) (record { entry = e; scored = w .scored })) refl), ap (λ (x : Progress). x .count) hr)
 
 -- the same where the slices are others of the same lengths
 pub searchable-keep : {s : Settings} {t : Table} {p : Parts} {target : ℤ} {codes : List ℕ} {listSizes : List ℤ} {count pr lr kr cr rr pr' lr' kr' cr' rr' : ℕ}

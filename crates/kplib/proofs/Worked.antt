@@ -1,9 +1,8 @@
 -- Document 01's worked job, computed: the search is no empty program. It accepts, scores all four chains, and answers row 0 with the whole haplotype.
 use mathlib.Core.Path.{_≡_, refl}
-use Prim.Native.Nat.{ℕ}
 use mathlib.Core.Bool.{true, false}
-use mathlib.Core.List.{List, [], _∷_}
-use lib.IntN.{ℤ, pos}
+use mathlib.Core.List.{[], _∷_}
+use lib.IntN.{pos}
 use lib.Ieee.{Float, binary32, ofBits, ofInt, le, lt, eq, add, sub, mul, div}
 use Rattle.metrics.specs.Similarity.{whole, sumBy, magnitudeSum, overlapsOf}
 use Rattle.paths.specs.Chains.{extends, extensions}

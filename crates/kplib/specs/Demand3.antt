@@ -1,7 +1,7 @@
 -- Demand 3 of the answer to an accepted job in search mode. Chains are written last row first.
 use Prim.Native.Nat.{ℕ, _+_, _≤_, min}
 use mathlib.Core.Path.{_≡_}
-use mathlib.Core.Bool.{Bool, true}
+use mathlib.Core.Bool.{true}
 use mathlib.Core.List.{List, map, reverse}
 use lib.Dec.{leb}
 use lib.ListN.{length}

@@ -1,7 +1,7 @@
 -- Document 01, "Search": which chains are scored, by the step rule (paths, specs/Search), and the best of their results. Chains are written last row first.
 use Prim.Native.Nat.{ℕ, _+_}
 use mathlib.Core.Bool.{Bool}
-use mathlib.Core.List.{List, [], _∷_, map, reverse}
+use mathlib.Core.List.{List, [], map, reverse}
 use lib.IntN.{ℤ, natAbs, _-ℤ_}
 use lib.ListN.{length}
 use lib.Ieee.{le}

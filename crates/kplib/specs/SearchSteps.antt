@@ -1,11 +1,12 @@
 -- What the functions behind the search ask and promise one another. No public promise cites this file.
-use Prim.Native.Nat.{ℕ, zero, suc, _+_, _*_, _^_, _≤_, _<_}
+use Prim.Native.Nat.{ℕ, zero, suc, _+_, _-_, _*_, _^_, _≤_, _<_}
 use mathlib.Core.Path.{_≡_}
-use mathlib.Core.Bool.{Bool, true, false}
-use mathlib.Core.List.{List, [], _∷_, reverse}
+use mathlib.Core.Bool.{Bool, true, false, cond}
+use mathlib.Core.List.{List, reverse}
 use lib.Dec.{eqb}
+use lib.Ieee.{le}
 use lib.IntN.{ℤ, natAbs}
-use lib.ListN.{length, getD, take}
+use lib.ListN.{length, take}
 use Rattle.paths.specs.Chains.{endNode}
 use Rattle.paths.specs.Queue.{chainAt, Walk, Queue, Running, Ended}
 use Rattle.kplib.specs.Checked.{Below, Sized, Checked}
@@ -20,6 +21,7 @@ use Rattle.kplib.specs.declared.pathscore.Scored.{Scored}
 use Rattle.kplib.specs.declared.pathscore.Target.{Target}
 use Rattle.kplib.specs.declared.pathscore.Target.the-variants.{Nothing, Whole, Partial}
 use Rattle.kplib.specs.declared.traverse.Answer.{Answer}
+use Rattle.kplib.specs.declared.traverse.Leader.{Leader}
 use Rattle.kplib.specs.declared.traverse.Weighed.{Weighed}
 use Rattle.kplib.specs.declared.traverse.Progress.{Progress}
 
@@ -34,6 +36,19 @@ answerParts refusal rows x count complete = record {
   seqsim = x .seqsim;
   scored = count;
   complete = complete;
+}
+
+-- a later equal result replaces an earlier one
+abbrev pub laterOf : Leader → Leader → Leader
+laterOf a b = cond (le (a .scored .score) (b .scored .score)) b a
+
+-- one chain more is scored, its key is gone, and `added` entries are queued
+abbrev pub advanced : Progress → ℕ → Scored → ℕ → Progress
+advanced at e x added = record {
+  used = at .used + added;
+  queued = at .queued - 1 + added;
+  count = at .count + 1;
+  best = laterOf (at .best) (record { entry = e; scored = x });
 }
 
 -- some part list matched

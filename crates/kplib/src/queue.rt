@@ -1,9 +1,9 @@
 // The queue of the search, in three lent slices. Entries are only ever added: an entry has a parent and the row that it adds to
 // the parent's chain. `keys` holds, for each entry still queued, its distance × 2^20 + its number, in the order of queueing.
 ghost use mathlib.Core.Path.{_≡_};
-ghost use Prim.Native.Nat.{ℕ, _+_, _-_, _*_, _<_, _≤_};
+ghost use Prim.Native.Nat.{_+_, _-_, _<_, _≤_};
 ghost use lib.ListN.{length, getD, take, drop};
-ghost use lib.IntN.{ℤ, natAbs, _+ℤ_, _-ℤ_};
+ghost use lib.IntN.{natAbs, _-ℤ_};
 ghost use mathlib.Core.List.{reverse};
 ghost use Rattle.paths.specs.Queue.{Least, Taken, Walk, Queued, chainAt, keyOf, without};
 ghost use Rattle.kplib.specs.Sums.{sizeOf};

@@ -1,18 +1,17 @@
 // The search over the chains of a table, and the one-to-one match (traverse.rs).
 ghost use mathlib.Core.Path.{_≡_};
-ghost use mathlib.Core.Bool.{Bool, true, false, cond};
-ghost use mathlib.Core.List.{List, [], _∷_, _++_, reverse};
-ghost use Prim.Native.Nat.{ℕ, _+_, _*_, _<_, _≤_, min};
-ghost use lib.Ieee.{le};
-ghost use lib.ListN.{length, getD, take, drop};
+ghost use mathlib.Core.Bool.{false};
+ghost use mathlib.Core.List.{reverse};
+ghost use Prim.Native.Nat.{_+_, _<_, _≤_, min};
+ghost use lib.ListN.{length};
 ghost use Rattle.paths.specs.Queue.{chainAt, Walk};
 ghost use Rattle.kplib.specs.Checked.{Checked};
-ghost use Rattle.kplib.specs.Numbers.{tableOf, partsOf, firstFault, searchMode};
-ghost use Rattle.kplib.specs.OneToOne.{oneToOne, loneRows, loneRowsAt};
+ghost use Rattle.kplib.specs.Numbers.{tableOf, partsOf, searchMode};
+ghost use Rattle.kplib.specs.OneToOne.{oneToOne, loneRowsAt};
 ghost use Rattle.kplib.specs.Scoring.{Tables};
 ghost use Rattle.kplib.specs.Search.{rowsFor};
 ghost use Rattle.kplib.specs.Answer.{searched, matchedAlone, foundAfter, answerWith, queueRoom, answerOf, rowsOf, placed, searches};
-ghost use Rattle.kplib.specs.SearchSteps.{answerParts, matchedBy, Weighable, WeighedAs, Searchable, Going, Gone, Startable, Scratch, Acceptable};
+ghost use Rattle.kplib.specs.SearchSteps.{answerParts, laterOf, advanced, matchedBy, Weighable, WeighedAs, Searchable, Going, Gone, Startable, Scratch, Acceptable};
 use crate::checks::call_fault;
 use crate::graphparams::Settings;
 use crate::graphparams::entries;
@@ -107,11 +106,25 @@ fn weigh(
 
 // The later of two results, unless it is lower.
 fn later_of(a: Leader, b: Leader) -> Leader
-    ensures { λ r. ⌜ r ≡ cond (le (a .scored .score) (b .scored .score)) b a ⌝ }
+    ensures { λ r. ⌜ r ≡ laterOf a b ⌝ }
 {
     let old = a.scored;
     let new = b.scored;
     if old.score <= new.score { b } else { a }
+}
+
+// Where the search stands after an entry was scored and `added` entries were queued.
+fn advance(at: Progress, entry: usize, scored: Scored, added: usize) -> Progress
+    requires { ⌜ (0 < at .queued) × (at .used ≤ 1048576) × (at .queued ≤ 1048576) × (at .count ≤ 4096) × (added ≤ 64) ⌝ }
+    ensures { λ r. ⌜ r ≡ advanced at entry scored added ⌝ }
+{
+    let best = later_of(at.best, Leader { entry, scored });
+    Progress {
+        used: at.used + added,
+        queued: at.queued - 1 + added,
+        count: at.count + 1,
+        best,
+    }
 }
 
 // One step of the search: takes the nearest chain, scores it, and queues its extensions.
@@ -156,7 +169,6 @@ fn step(
         list_row,
     );
     let scored = weighed.scored;
-    let best = later_of(at.best, Leader { entry, scored });
     let end = end_node(lasts, entry);
     let added = queue_extensions(
         starts,
@@ -173,12 +185,7 @@ fn step(
         end,
         weighed.size,
     );
-    Progress {
-        used: at.used + added,
-        queued: at.queued - 1 + added,
-        count: at.count + 1,
-        best,
-    }
+    advance(at, entry, scored, added)
 }
 
 // Steps until none is queued or maxpaths + 1 chains are scored.

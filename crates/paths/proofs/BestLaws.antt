@@ -1,10 +1,10 @@
 -- The fold gives the latest of the best, and there is one only. Assumes nothing.
-use Prim.Native.Nat.{ℕ, _≤_, _+_, zero, suc}
+use Prim.Native.Nat.{ℕ, _≤_, _+_}
 use native.Mathlib.Omega.{arith}
-use mathlib.Core.Path.{_≡_, refl, sym, _∙_, subst}
+use mathlib.Core.Path.{_≡_, refl, sym, _∙_}
 use mathlib.Core.Bool.{Bool, true, false, cond}
 use mathlib.Core.List.{List, [], _∷_, map}
-use Rattle.paths.specs.Sums.{sumBy, bit, sameRows, timesIn}
+use Rattle.paths.specs.Sums.{bit, sameRows, timesIn}
 use Rattle.paths.specs.Best.{All, Order, best, Latest, here, there}
 use Rattle.paths.proofs.SumLaws.{sameRows-eq}
 

@@ -1,17 +1,14 @@
 -- Laws of chains and of their chainsFrom. Assumes nothing.
-use mathlib.Core.Path.{_≡_, refl, sym, ap, _∙_}
+use mathlib.Core.Path.{_≡_, refl, ap, _∙_}
 use Prim.Native.Nat.{ℕ, zero, suc, _+_, _*_, _-_, _≤_, _<_}
 use native.Mathlib.Omega.{arith}
 use mathlib.Core.Bool.{Bool, true, false, _&&_, cond}
-use mathlib.Core.List.{List, [], _∷_, _++_}
+use mathlib.Core.List.{List, [], _∷_}
 use lib.Dec.{leb, ltb, eqb}
-use lib.ListN.{length}
-use borrow.Author.Tests.{leb-true, leb-false, ltb-true, ltb-false, eqb-true, eqb-false, eq-eqb, lt-ltb, le-ltb, ne-eqb}
-use Rattle.paths.specs.Sums.{sumBy, bit, sameRows, timesIn}
+use borrow.Author.Tests.{leb-true, ltb-true, ltb-false, eqb-true, eqb-false, lt-ltb, le-ltb}
+use Rattle.paths.specs.Sums.{sumBy, bit, sameRows}
 use Rattle.paths.specs.Chains.{endNode, extends, extensions, isChain, chainsWithin, chainsFrom}
-use Rattle.paths.specs.Search.{scored, left}
-use Rattle.paths.proofs.SumLaws.{sum-append, sum-one, bit-and, bit-le, sameRows-eq, sameRows-refl}
-use Rattle.paths.proofs.SearchLaws.{conserve}
+use Rattle.paths.proofs.SumLaws.{bit-and, sameRows-eq}
 
 and-left : (a b : Bool) → (a && b) ≡ true → a ≡ true
 and-left true b h = refl

@@ -2,15 +2,15 @@
 use mathlib.Core.Path.{_≡_, refl, sym, ap, _∙_}
 use Prim.Native.Nat.{ℕ, zero, suc, _+_, _-_, _≤_, _<_}
 use native.Mathlib.Omega.{arith}
-use native.Mathlib.Nat.{add-zero, add-suc, suc-add, zero-add, add-sub-of-le}
-use borrow.Author.Tests.{le-ltb, ltb-true, lt-leb}
+use native.Mathlib.Nat.{add-zero, zero-add}
+use borrow.Author.Tests.{le-ltb, lt-leb}
 use mathlib.Core.Bool.{Bool, true, false, cond, _&&_}
 use mathlib.Core.List.{List, [], _∷_}
 use lib.Dec.{ltb, leb, leb·zero}
 use Rattle.paths.specs.Sums.{sumBy}
 use Rattle.paths.specs.Chains.{endNode, extends, extensions, chainsWithin, chainsFrom}
 use Rattle.paths.specs.Count.{mayFollow, sumRows, rowCountWithin, chainCount, sumRowsFrom, rowCount}
-use Rattle.paths.proofs.ChainLaws.{chainsFrom-step, sum-extensions}
+use Rattle.paths.proofs.ChainLaws.{chainsFrom-step}
 
 -- a sum over extensions is a sum over rows
 rows : (follows : List ℕ → ℕ → Bool) (w : List ℕ → ℕ) (v : ℕ → ℕ) (p : ℕ → Bool) (c : List ℕ) → ((s : ℕ) → extends follows c s ≡ p s) → ((s : ℕ) → w (s ∷ c) ≡ v s)

@@ -1,21 +1,23 @@
 -- Demand 3 follows from one law of conservation: what is scored, and what would grow from the chains still queued, come to what would grow from the empty chain.
 -- Weighed by 1 it counts; weighed by "is it x" it says that each chain is scored once.
-use mathlib.Core.Path.{_≡_, refl, sym, ap, _∙_}
-use Prim.Native.Nat.{ℕ, zero, suc, _+_, _≤_, _<_, min}
+use mathlib.Core.Path.{_≡_, refl, ap, _∙_}
+use Prim.Native.Nat.{ℕ, zero, suc, _+_, _≤_, min}
 use native.Mathlib.Omega.{arith}
 use mathlib.Core.Logic.{_⊎_, inl, inr, ⊎-elim}
-use mathlib.Core.Bool.{Bool, true, false, cond}
-use mathlib.Core.List.{List, [], _∷_, _++_, map}
+use mathlib.Core.Bool.{Bool, true, false}
+use mathlib.Core.List.{List, [], _∷_, map}
 use lib.ListN.{length}
 use lib.Dec.{leb}
 use borrow.Author.Tests.{leb-true, leb-false}
 use Rattle.paths.specs.Sums.{sumBy, bit, sameRows, timesIn}
-use Rattle.paths.specs.Chains.{endNode, extends, extensions, isChain, chainsWithin, chainsFrom}
+use Rattle.paths.specs.Chains.{extensions, isChain, chainsFrom}
+use Rattle.paths.specs.Count.{mayFollow, chainCount}
 use Rattle.paths.specs.Search.{none, pick, after, scored, left}
-use Rattle.paths.specs.Demand.{scoredChains, leftChains, Lists, Demand3}
-use Rattle.paths.specs.Best.{All, Order, best, Latest}
+use Rattle.paths.specs.Demand.{scoredChains, leftChains, Lists, Counted, Demand3}
+use Rattle.paths.specs.Best.{Order, best, Latest}
 use Rattle.paths.proofs.SumLaws.{sum-one, bit-le}
 use Rattle.paths.proofs.SearchLaws.{conserve}
+use Rattle.paths.proofs.CountLaws.{doc-full, doc-bare}
 use Rattle.paths.proofs.ChainLaws.{chainsFrom-step, tree-step, tree-top, inTree}
 use Rattle.paths.proofs.BestLaws.{all-unmap, all-good, upper, all-timesIn, best-first}
 
@@ -99,18 +101,17 @@ lists follows n dist f h = record {
   nothing-else = λ x e. all-scored follows n dist f h x ∙ ap bit e;
 }
 
--- N is the number of chains: some list of that length has each chain once and nothing else
-pub record Counted (follows : List ℕ → ℕ → Bool) (n : ℕ) : Type 0 where
-  pub chains : List (List ℕ)
-  pub listed : Lists follows n chains
-  pub number : length chains ≡ chainsFrom follows n []
-
-pub chains-counted : (follows : List ℕ → ℕ → Bool) (n : ℕ) → Counted follows n
+chains-counted : (follows : List ℕ → ℕ → Bool) (n : ℕ) → Counted follows n (chainsFrom follows n [])
 chains-counted follows n = record {
   chains = scoredChains follows n (λ c. 0) (chainsFrom follows n []);
   listed = lists follows n (λ c. 0) (chainsFrom follows n []) (omega arith);
   number = omega (arith, how-many follows n (λ c. 0) (chainsFrom follows n []));
 }
+
+-- document 01's N is the number of chains
+pub count-counts : (edge : ℕ → ℕ → Bool) (n : ℕ) (full : Bool) → Counted (mayFollow edge full) n (chainCount edge n full)
+count-counts edge n true = rw (← doc-full edge n) (chains-counted (mayFollow edge true) n)
+count-counts edge n false = rw (← doc-bare edge n) (chains-counted (mayFollow edge false) n)
 
 module _ {R : Type 0} (P : R → Type 0) (le : R → R → Bool) (ord : Order P le) (start : R) (score : List ℕ → R) (good : (c : List ℕ) → P (score c))
     (first : le start (score []) ≡ true) (dist : List ℕ → ℕ) (ext : List ℕ → List (List ℕ)) where

@@ -1,14 +1,13 @@
 -- The least key names the chain that the step rule picks: the nearest, and the earliest queued among equals.
 use mathlib.Core.Path.{_≡_, refl, sym, ap, _∙_}
-use Prim.Native.Nat.{ℕ, zero, suc, _+_, _-_, _*_, _%_, _≤_, _<_}
+use Prim.Native.Nat.{ℕ, zero, suc, _-_, _≤_, _<_}
 use native.Mathlib.Omega.{arith}
 use mathlib.Core.Bool.{Bool, true, false}
 use mathlib.Core.List.{List, [], _∷_, map}
-use lib.Dec.{leb}
 use lib.ListN.{length, getD, set, take}
 use lib.Seq.{take-set-lt, getD-take, length-take-le, take-take}
 use borrow.Author.Tests.{le-leb, lt-leb}
-use Rattle.paths.specs.Search.{choose, pick}
+use Rattle.paths.specs.Search.{before, choose, pick}
 use Rattle.paths.specs.Best.{All}
 use Rattle.paths.specs.Queue.{keyOf, entryOf, without, Rising, Least}
 
@@ -16,7 +15,7 @@ module _ {A : Type 0} (dist : A → ℕ) where
   pick-all : (P : A → Type 0) (x : A) (q : List A) → P x → All P q → P (pick dist x q .0)
   unfolding pick
   pick-all P x [] h a = h
-  pick-all P x (y ∷ q) h a = go (leb (dist x) (dist (pick dist y q .0))) (pick-all P y q (a .0) (a .1))
+  pick-all P x (y ∷ q) h a = go (before dist x (pick dist y q .0)) (pick-all P y q (a .0) (a .1))
     where
       go : (t : Bool) → P (pick dist y q .0) → P (choose t x (y ∷ q) (pick dist y q) .0)
       go true k = h

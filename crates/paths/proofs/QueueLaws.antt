@@ -1,18 +1,17 @@
 -- Taking an entry's key out of the queue, and a turn of the loop that queues a chain's extensions, highest row first: what is queued and what is still to come are the whole.
 use mathlib.Core.Path.{_≡_, refl, sym, ap, _∙_}
 use mathlib.Core.Logic.{_≢_}
-use Prim.Native.Nat.{ℕ, zero, suc, _+_, _-_, _*_, _%_, _≤_, _<_}
+use Prim.Native.Nat.{ℕ, zero, suc, _+_, _-_, _≤_, _<_}
 use native.Mathlib.Omega.{arith}
-use native.Mathlib.Numerals.{add-one}
-use mathlib.Core.Bool.{Bool, true, false, cond, _&&_}
+use mathlib.Core.Bool.{Bool, true, false, _&&_}
 use mathlib.Core.List.{List, [], _∷_, _++_, map, append-nil}
 use lib.Dec.{ltb, eqb}
-use lib.ListN.{length, getD, set, take, length-append}
+use lib.ListN.{length, getD, set, take}
 use lib.Seq.{take-suc-set, append-snoc, getD-set-same, getD-set-other, length-take-le}
 use borrow.Author.Tests.{eqb-true, eqb-false, lt-ltb, ltb-true}
 use Rattle.paths.specs.Chains.{endNode, extends, extensions, isChain}
 use Rattle.paths.specs.Best.{All}
-use Rattle.paths.specs.Queue.{chainAt, Links, keyOf, entryOf, without, Rising, Key, chainsOf, Queue, Queued}
+use Rattle.paths.specs.Queue.{chainAt, keyOf, entryOf, without, Rising, Key, chainsOf, Queue, Queued}
 use Rattle.paths.proofs.BestLaws.{all-map}
 use Rattle.paths.proofs.ChainLaws.{extends-endNode}
 use Rattle.paths.proofs.TableLaws.{chain-frame, chain-push, chain-root}

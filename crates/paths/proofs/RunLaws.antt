@@ -1,17 +1,15 @@
 -- A step over the flat queue is a step of the rule over the list of chains. What is done and what is left come to the whole, so at the end what is done is the whole.
 use mathlib.Core.Path.{_≡_, refl, sym, ap, _∙_}
-use Prim.Native.Nat.{ℕ, zero, suc, _+_, _-_, _*_, _≤_, _<_}
+use Prim.Native.Nat.{ℕ, zero, suc, _+_, _-_, _≤_, _<_}
 use native.Mathlib.Omega.{arith}
-use native.Mathlib.Nat.{mul-le-mul-right}
 use mathlib.Core.Bool.{Bool, true, false, cond}
 use mathlib.Core.List.{List, [], _∷_, _++_, map}
 use lib.ListN.{length, getD, take}
 use lib.Seq.{length-take-le, getD-take}
-use Rattle.paths.specs.Chains.{extensions, isChain}
+use Rattle.paths.specs.Chains.{extensions}
 use Rattle.paths.specs.Search.{none, pick, after, scored, left}
-use Rattle.paths.specs.Best.{All, best}
-use Rattle.paths.specs.Demand.{scoredChains, leftChains}
-use Rattle.paths.specs.Queue.{chainAt, keyOf, entryOf, without, Key, chainsOf, Least, Taken, Queue, Queued, Running, Ended}
+use Rattle.paths.specs.Best.{best}
+use Rattle.paths.specs.Queue.{chainAt, keyOf, entryOf, Key, chainsOf, Taken, Queue, Queued, Running, Ended}
 use Rattle.paths.proofs.BestLaws.{all-map}
 use Rattle.paths.proofs.TableLaws.{chain-root}
 use Rattle.paths.proofs.PickLaws.{all-at, pick-least, least-all, length-without}

@@ -1,21 +1,19 @@
 -- Laws of the search. Assumes nothing.
-use mathlib.Core.Path.{_≡_, refl, sym, ap, _∙_}
-use Prim.Native.Nat.{ℕ, zero, suc, _+_, _*_, _≤_}
+use mathlib.Core.Path.{_≡_, refl}
+use Prim.Native.Nat.{ℕ, zero, suc, _+_}
 use native.Mathlib.Omega.{arith}
-use mathlib.Core.Bool.{Bool, true, false, _&&_, cond}
+use mathlib.Core.Bool.{Bool, true, false}
 use mathlib.Core.List.{List, [], _∷_, _++_}
-use lib.Dec.{leb}
-use lib.ListN.{length}
 use Rattle.paths.specs.Sums.{sumBy}
-use Rattle.paths.specs.Search.{choose, pick, after, scored, left}
-use Rattle.paths.proofs.SumLaws.{sum-append, sum-one}
+use Rattle.paths.specs.Search.{before, choose, pick, after, scored, left}
+use Rattle.paths.proofs.SumLaws.{sum-append}
 
 module _ {A : Type 0} (dist : A → ℕ) where
   -- a pick parts the queue
   pub pick-sum : (w : A → ℕ) (x : A) (q : List A) → w (pick dist x q .0) + sumBy w (pick dist x q .1) ≡ sumBy w (x ∷ q)
   unfolding pick
   pick-sum w x [] = refl
-  pick-sum w x (y ∷ q) = go (leb (dist x) (dist (pick dist y q .0))) (pick dist y q) (pick-sum w y q)
+  pick-sum w x (y ∷ q) = go (before dist x (pick dist y q .0)) (pick dist y q) (pick-sum w y q)
     where
       go : (t : Bool) (p : A × List A) → w (p .0) + sumBy w (p .1) ≡ sumBy w (y ∷ q)
           → w (choose t x (y ∷ q) p .0) + sumBy w (choose t x (y ∷ q) p .1) ≡ sumBy w (x ∷ (y ∷ q))

@@ -1,8 +1,8 @@
 -- Document 01, "Parts, graph, paths": chains, here written LAST ROW FIRST, so that an extension is one row put in front.
 -- `follows c s` is the graph's rule, may row s stand right after chain c. That s comes later than c's last row is not asked of it: that is built in.
-use Prim.Native.Nat.{ℕ, zero, suc, _+_, _-_}
-use mathlib.Core.Bool.{Bool, true, false, cond, _&&_}
-use mathlib.Core.List.{List, [], _∷_}
+use Prim.Native.Nat.{ℕ, zero, suc, _-_}
+use mathlib.Core.Bool.{Bool, true, cond, _&&_}
+use mathlib.Core.List.{List, [], _∷_, _++_}
 use lib.Dec.{leb, ltb}
 use Rattle.paths.specs.Sums.{sumBy}
 

@@ -1,9 +1,9 @@
 -- The queue as flat lists of numbers, in the words of the private contracts of the search: no public promise cites this file.
 -- Entry 0 is the empty chain; any other entry has a parent, an earlier entry, and the row that it adds to the parent's chain.
 use mathlib.Core.Path.{_≡_}
-use Prim.Native.Nat.{ℕ, zero, suc, _+_, _-_, _*_, _/_, _%_, _≤_, _<_}
-use mathlib.Core.Bool.{Bool, true, false}
-use mathlib.Core.List.{List, [], _∷_, _++_, map, reverse}
+use Prim.Native.Nat.{ℕ, zero, suc, _+_, _-_, _*_, _%_, _≤_, _<_}
+use mathlib.Core.Bool.{Bool, true}
+use mathlib.Core.List.{List, [], _∷_, _++_, map}
 use lib.ListN.{length, getD, take}
 use Rattle.paths.specs.Chains.{extensions, isChain}
 use Rattle.paths.specs.Search.{none, scored, left}
