@@ -7,3 +7,6 @@ pub mod CountLaws
 pub mod SettingsLaws
 pub mod ReadLaws
 pub mod WriteLaws
+pub mod RowLaws
+pub mod HeadLaws
+pub mod JobLaws

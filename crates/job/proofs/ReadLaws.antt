@@ -59,7 +59,7 @@ module _ {T A B : Type 0} (put : T → ℕ → A → T) (g : T → List B) (f : 
   front : (t u : T) (xs : List A) → length xs ≤ length (g t) → u ≡ stores put t 0 xs → g u ≡ placed (g t) (map f xs)
   front t u xs h e = ap g e ∙ column t 0 xs ∙ laid (g t) (map f xs) (rw (length-map xs f) h)
 
-both : (a b : Bool) → a && b ≡ true → (a ≡ true) × (b ≡ true)
+pub both : (a b : Bool) → a && b ≡ true → (a ≡ true) × (b ≡ true)
 both true b e = (refl, e)
 both false b e = let z : _≡_ {A = ℕ} 0 1 = cc in absurd (no z)
   where
@@ -175,7 +175,7 @@ module _ (s : List ℕ) (t : Lent) (v : Scan) (is : v ≡ run s 0 start) where
                   let e7 = front putPart (λ (w : PartRows). w .negatives) (λ (x : Part). x .negative) (λ (w : PartRows) (i : ℕ) (x : Part). refl) t3 u3 ys (p .negatives) ps in
                   let e8 = front putPart (λ (w : PartRows). w .counts) (λ (x : Part). length (x .letters)) (λ (w : PartRows) (i : ℕ) (x : Part). refl) t3 u3 ys (p .counts) ps in
                   let e9 : u .letters ≡ placed (t .letters) (lettersOf (jobOf s)) =
-                      ls ∙ laid (t .letters) kinds letters-fit ∙ ap (placed (t .letters)) (sym kinds-are) in
+                  ls ∙ laid (t .letters) kinds letters-fit ∙ ap (placed (t .letters)) (sym kinds-are) in
                   λ i. record { starts = e1 i; ends = e2 i; sizes = e3 i; negatives = e4 i; counts = e5 i; partSizes = e6 i; partNegatives = e7 i; partCounts = e8 i; letters = e9 i }
 
               pub read-job : (head : Settings) → head ≡ settingsOf (take (length s - 1) (drop 1 s))

@@ -35,11 +35,11 @@ enum-known-second c = search needs
 
 -- src/writer.rt:100:1
 returns : tie.Need-returns
-returns c = let a = c .before .before .before .before .before .args in agree-short (now (a .counts)) (now (a .parts)) (a .have) (sym (c .enum-told .given) ∙ c .before .before .left-after .ensures)
+returns c = let a = c .before .before .before .before .before .args in agree-short (now (a .counts)) (now (a .parts)) (a .have) (sym (c .enum-told .given .1) ∙ c .before .before .left-after .ensures)
 
 -- src/writer.rt:100:1
 returns-2 : tie.Need-returns-2
-returns-2 c = let a = c .before .before .before .before .before .before .before .before .before .args in agree-short-2 (now (a .counts)) (now (a .parts)) (a .have) _ (sym (c .before .before .before .before .first .given .1) ∙ c .before .before .before .before .before .before .left-after .ensures) (sym (c .enum-told2 .given) ∙ c .before .before .left-after2 .ensures)
+returns-2 c = let a = c .before .before .before .before .before .before .before .before .before .args in agree-short-2 (now (a .counts)) (now (a .parts)) (a .have) _ (sym (c .before .before .before .before .first .given .1) ∙ c .before .before .before .before .before .before .left-after .ensures) (sym (c .enum-told2 .given .1) ∙ c .before .before .left-after2 .ensures)
 
 -- src/writer.rt:100:1
 returns-3 : tie.Need-returns-3

@@ -32,7 +32,7 @@ left-after-requires-2 c κs = search needs
 
 -- src/writer.rt:117:1
 returns-2 : tie.Need-returns-2
-returns-2 c = let a = c .before .before .before .before .before .before .args in spare-short (total 2 (now (a .counts))) (total 3 (now (a .parts))) (a .room) (c .before .before .before .if1 .left) (sym (c .enum-told .given) ∙ c .before .before .left-after .ensures)
+returns-2 c = let a = c .before .before .before .before .before .before .args in spare-short (total 2 (now (a .counts))) (total 3 (now (a .parts))) (a .room) (c .before .before .before .if1 .left) (sym (c .enum-told .given .1) ∙ c .before .before .left-after .ensures)
 
 -- src/writer.rt:117:1
 returns-3 : tie.Need-returns-3

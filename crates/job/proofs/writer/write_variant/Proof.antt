@@ -1,3 +1,11 @@
+-- The kind and the fields are stored one behind the other.
+use native.Mathlib.Omega.{arith}
+use denote.Ref.{now}
+use mathlib.Core.Path.{refl, ap, _∙_}
+use mathlib.Core.List.{_∷_, []}
+use mir.Syntax.{w32}
+use mir.ValLaws.{toZ-ofZ}
+use Rattle.job.proofs.HeadLaws.{variant-stored}
 use borrow.Author.Needs.{needs}
 use Rattle.job.proofs.writer.write_variant.Statement.{statement}
 use Rattle.job.proofs.writer.write_variant.Tie as tie
@@ -41,7 +49,7 @@ same-length c = search needs
 
 -- src/writer.rt:195:1
 returns : tie.Need-returns
-returns c = ?
+returns c = let a = c .before .before .before .before .before .before .before .before .before .before .before .before .before .before .before .before .before .args in variant-stored (now (a .out)) _ _ _ _ (a .at) (a .first) (a .last) (a .size) (a .negative) (a .count) _ (toZ-ofZ w32 _ (c .before .before .before .before .before .before .before .before .before .before .before .before .before .before .before .before .before .fits .size)) (c .before .before .before .before .before .before .before .before .before .before .before .before .before .before .put-one .ensures) (c .before .before .before .before .before .before .before .before .before .before .put-eight .ensures) (c .before .before .before .before .before .before .put-eight2 .ensures) (c .before .before .write-body .ensures)
 
 pub write-variant-spec : {M : Type 1} → statement M
 write-variant-spec =
