@@ -10,3 +10,5 @@ pub mod WriteLaws
 pub mod RowLaws
 pub mod HeadLaws
 pub mod JobLaws
+pub mod BackLaws
+pub mod RoundTrip

@@ -8,80 +8,55 @@ use Rattle.job.proofs.JobLaws.{write-rows, write-parts, write-letters, 
 use borrow.Author.Needs.{needs}
 use Rattle.job.proofs.writer.write_job.Statement.{statement}
 use Rattle.job.proofs.writer.write_job.Tie as tie
-use Rattle.job.proofs.writer.write_job.Reads as reads
-use Rattle.job.proofs.writer.write_job.Lts as lts
-use Rattle.job.proofs.writer.any_over.Reads as any-over-reads
-use Rattle.job.proofs.writer.lay_job.Reads as lay-job-reads
-use Rattle.job.proofs.writer.letters_agree.Reads as letters-agree-reads
-use Rattle.job.proofs.writer.parts_agree.Reads as parts-agree-reads
-use Rattle.job.proofs.writer.rows_agree.Reads as rows-agree-reads
-use Rattle.job.proofs.writer.spare.Reads as spare-reads
 
--- src/writer.rt:316:9
 rows-agree-requires : tie.Need-rows-agree-requires
 rows-agree-requires c κs = search needs
 
--- src/writer.rt:317:9
 returns : tie.Need-returns
 returns c = let a = c .before .before .before .before .before .before .before .before .before .before .args in write-rows (a .settings) (lent (now (a .starts)) (now (a .ends)) (now (a .sizes)) (now (a .negatives)) (now (a .letter-counts)) (now (a .part-sizes)) (now (a .part-negatives)) (now (a .part-letter-counts)) (now (a .letters))) (now (a .out)) _ (c .before .rows-agree .ensures) (not-true _ (c .if1 .taken))
 
--- src/writer.rt:319:9
 parts-agree-requires : tie.Need-parts-agree-requires
 parts-agree-requires c κs = search needs
 
--- src/writer.rt:320:9
 returns-2 : tie.Need-returns-2
 returns-2 c = let a = c .before .before .before .before .before .before .before .before .before .before .before .before .args in write-parts (a .settings) (lent (now (a .starts)) (now (a .ends)) (now (a .sizes)) (now (a .negatives)) (now (a .letter-counts)) (now (a .part-sizes)) (now (a .part-negatives)) (now (a .part-letter-counts)) (now (a .letters))) (now (a .out)) _ (c .before .before .before .rows-agree .ensures) (not-false _ (c .before .before .if1 .left)) _ (c .before .parts-agree .ensures) (not-true _ (c .if2 .taken))
 
--- src/writer.rt:322:9
 letters-agree-requires : tie.Need-letters-agree-requires
 letters-agree-requires c κs = search needs
 
--- src/writer.rt:323:9
 returns-3 : tie.Need-returns-3
 returns-3 c = let a = c .before .before .before .before .before .before .before .before .before .before .before .before .before .before .args in write-letters (a .settings) (lent (now (a .starts)) (now (a .ends)) (now (a .sizes)) (now (a .negatives)) (now (a .letter-counts)) (now (a .part-sizes)) (now (a .part-negatives)) (now (a .part-letter-counts)) (now (a .letters))) (now (a .out)) _ (c .before .before .before .before .before .rows-agree .ensures) (not-false _ (c .before .before .before .before .if1 .left)) _ (c .before .before .before .parts-agree .ensures) (not-false _ (c .before .before .if2 .left)) _ (c .before .letters-agree .ensures) (not-true _ (c .if3 .taken))
 
--- src/writer.rt:325:8
 any-over-requires : tie.Need-any-over-requires
 any-over-requires c κs = search needs
 
--- src/writer.rt:326:9
 returns-4 : tie.Need-returns-4
 returns-4 c = let a = c .before .before .before .before .before .before .before .before .before .before .before .before .before .before .before .before .args in write-over (a .settings) (lent (now (a .starts)) (now (a .ends)) (now (a .sizes)) (now (a .negatives)) (now (a .letter-counts)) (now (a .part-sizes)) (now (a .part-negatives)) (now (a .part-letter-counts)) (now (a .letters))) (now (a .out)) _ (c .before .before .before .before .before .before .before .rows-agree .ensures) (not-false _ (c .before .before .before .before .before .before .if1 .left)) _ (c .before .before .before .before .before .parts-agree .ensures) (not-false _ (c .before .before .before .before .if2 .left)) _ (c .before .before .before .letters-agree .ensures) (not-false _ (c .before .before .if3 .left)) _ (c .before .any-over .ensures) (c .if4 .taken)
 
--- src/writer.rt:328:8
 any-over-requires-2 : tie.Need-any-over-requires-2
 any-over-requires-2 c κs = search needs
 
--- src/writer.rt:329:9
 returns-5 : tie.Need-returns-5
 returns-5 c = let a = c .before .before .before .before .before .before .before .before .before .before .before .before .before .before .before .before .before .before .args in write-part-over (a .settings) (lent (now (a .starts)) (now (a .ends)) (now (a .sizes)) (now (a .negatives)) (now (a .letter-counts)) (now (a .part-sizes)) (now (a .part-negatives)) (now (a .part-letter-counts)) (now (a .letters))) (now (a .out)) _ (c .before .before .before .before .before .before .before .before .before .rows-agree .ensures) (not-false _ (c .before .before .before .before .before .before .before .before .if1 .left)) _ (c .before .before .before .before .before .before .before .parts-agree .ensures) (not-false _ (c .before .before .before .before .before .before .if2 .left)) _ (c .before .before .before .before .before .letters-agree .ensures) (not-false _ (c .before .before .before .before .if3 .left)) _ (c .before .before .before .any-over .ensures) (c .before .before .if4 .left) _ (c .before .any-over2 .ensures) (c .if5 .taken)
 
--- src/writer.rt:331:9
 spare-requires : tie.Need-spare-requires
 spare-requires c κs = search needs
 
--- src/writer.rt:333:24
 enum-told : tie.Need-enum-told
 enum-told c = search needs
 
--- src/writer.rt:334:22
 enum-known-room : tie.Need-enum-known-room
 enum-known-room c = search needs
 
--- src/writer.rt:334:43
 lay-job-requires : tie.Need-lay-job-requires
 lay-job-requires c κs = let a = c .before .before .before .before .before .before .before .before .before .before .before .before .before .before .before .before .before .before .before .before .before .before .before .args in write-fits (a .settings) (lent (now (a .starts)) (now (a .ends)) (now (a .sizes)) (now (a .negatives)) (now (a .letter-counts)) (now (a .part-sizes)) (now (a .part-negatives)) (now (a .part-letter-counts)) (now (a .letters))) (now (a .out)) _ (c .before .before .before .before .before .before .before .before .before .before .before .before .before .before .rows-agree .ensures) (not-false _ (c .before .before .before .before .before .before .before .before .before .before .before .before .before .if1 .left)) _ (c .before .before .before .before .before .before .before .before .before .before .before .before .parts-agree .ensures) (not-false _ (c .before .before .before .before .before .before .before .before .before .before .before .if2 .left)) _ (c .before .before .before .before .before .before .before .before .before .before .letters-agree .ensures) (not-false _ (c .before .before .before .before .before .before .before .before .before .if3 .left)) _ (c .before .before .before .before .before .before .before .before .any-over .ensures) (c .before .before .before .before .before .before .before .if4 .left) _ (c .before .before .before .before .before .before .any-over2 .ensures) (c .before .before .before .before .before .if5 .left) _ (sym (c .before .before .room .given .1) ∙ c .before .before .before .before .spare .ensures)
 
--- src/writer.rt:296:1
 returns-6 : tie.Need-returns-6
 returns-6 c = let a = c .before .before .before .before .before .before .before .before .before .before .before .before .before .before .before .before .before .before .before .before .before .args in write-short (a .settings) (lent (now (a .starts)) (now (a .ends)) (now (a .sizes)) (now (a .negatives)) (now (a .letter-counts)) (now (a .part-sizes)) (now (a .part-negatives)) (now (a .part-letter-counts)) (now (a .letters))) (now (a .out)) _ (c .before .before .before .before .before .before .before .before .before .before .before .before .rows-agree .ensures) (not-false _ (c .before .before .before .before .before .before .before .before .before .before .before .if1 .left)) _ (c .before .before .before .before .before .before .before .before .before .before .parts-agree .ensures) (not-false _ (c .before .before .before .before .before .before .before .before .before .if2 .left)) _ (c .before .before .before .before .before .before .before .before .letters-agree .ensures) (not-false _ (c .before .before .before .before .before .before .before .if3 .left)) _ (c .before .before .before .before .before .before .any-over .ensures) (c .before .before .before .before .before .if4 .left) _ (c .before .before .before .before .any-over2 .ensures) (c .before .before .before .if5 .left) (sym (c .enum-told .given .1) ∙ c .before .before .spare .ensures)
 
--- src/writer.rt:296:1
 same-length : tie.Need-same-length
 same-length c = search needs
 
--- src/writer.rt:296:1
 returns-7 : tie.Need-returns-7
 returns-7 c = let a = c .before .before .before .before .before .before .before .before .before .before .before .before .before .before .before .before .before .before .before .before .before .before .before .before .before .before .args in wrote (a .settings) (lent (now (a .starts)) (now (a .ends)) (now (a .sizes)) (now (a .negatives)) (now (a .letter-counts)) (now (a .part-sizes)) (now (a .part-negatives)) (now (a .part-letter-counts)) (now (a .letters))) (now (a .out)) _ (c .before .before .before .before .before .before .before .before .before .before .before .before .before .before .before .before .before .rows-agree .ensures) (not-false _ (c .before .before .before .before .before .before .before .before .before .before .before .before .before .before .before .before .if1 .left)) _ (c .before .before .before .before .before .before .before .before .before .before .before .before .before .before .before .parts-agree .ensures) (not-false _ (c .before .before .before .before .before .before .before .before .before .before .before .before .before .before .if2 .left)) _ (c .before .before .before .before .before .before .before .before .before .before .before .before .before .letters-agree .ensures) (not-false _ (c .before .before .before .before .before .before .before .before .before .before .before .before .if3 .left)) _ (c .before .before .before .before .before .before .before .before .before .before .before .any-over .ensures) (c .before .before .before .before .before .before .before .before .before .before .if4 .left) _ (c .before .before .before .before .before .before .before .before .before .any-over2 .ensures) (c .before .before .before .before .before .before .before .before .if5 .left) _ (sym (c .before .before .before .before .before .room .given .1) ∙ c .before .before .before .before .before .before .before .spare .ensures) _ _ (c .before .before .lay-job .ensures)
 
