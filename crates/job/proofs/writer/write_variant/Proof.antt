@@ -1,0 +1,52 @@
+-- The kind and the fields are stored one behind the other.
+use native.Mathlib.Omega.{arith}
+use denote.Ref.{now}
+use mathlib.Core.Path.{refl, ap, _∙_}
+use mathlib.Core.List.{_∷_, []}
+use mir.Syntax.{w32}
+use mir.ValLaws.{toZ-ofZ}
+use Rattle.job.proofs.HeadLaws.{variant-stored}
+use borrow.Author.Needs.{needs}
+use Rattle.job.proofs.writer.write_variant.Statement.{statement}
+use Rattle.job.proofs.writer.write_variant.Tie as tie
+
+put-one-requires : tie.Need-put-one-requires
+put-one-requires c κs = search needs
+
+add-put-eight : tie.Need-add-put-eight
+add-put-eight c = search needs
+
+put-eight-requires : tie.Need-put-eight-requires
+put-eight-requires c κs = search needs
+
+add-put-eight-2 : tie.Need-add-put-eight-2
+add-put-eight-2 c = search needs
+
+put-eight-requires-2 : tie.Need-put-eight-requires-2
+put-eight-requires-2 c κs = search needs
+
+add-write-body : tie.Need-add-write-body
+add-write-body c = search needs
+
+write-body-requires : tie.Need-write-body-requires
+write-body-requires c κs = search needs
+
+same-length : tie.Need-same-length
+same-length c = search needs
+
+returns : tie.Need-returns
+returns c = let a = c .before .before .before .before .before .before .before .before .before .before .before .before .before .before .before .before .before .args in variant-stored (now (a .out)) _ _ _ _ (a .at) (a .first) (a .last) (a .size) (a .negative) (a .count) _ (toZ-ofZ w32 _ (c .before .before .before .before .before .before .before .before .before .before .before .before .before .before .before .before .before .fits .size)) (c .before .before .before .before .before .before .before .before .before .before .before .before .before .before .put-one .ensures) (c .before .before .before .before .before .before .before .before .before .before .put-eight .ensures) (c .before .before .before .before .before .before .put-eight2 .ensures) (c .before .before .write-body .ensures)
+
+pub write-variant-spec : {M : Type 1} → statement M
+write-variant-spec =
+    tie.close
+    (tie.spec
+    put-one-requires
+    add-put-eight
+    put-eight-requires
+    add-put-eight-2
+    put-eight-requires-2
+    add-write-body
+    write-body-requires
+    same-length
+    returns)
