@@ -1,2 +1,5 @@
 -- What is shown of the promises as a whole.
 pub mod Bench
+pub mod Demand3Laws
+pub mod Worked
+pub mod NoParts

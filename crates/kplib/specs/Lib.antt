@@ -11,4 +11,3 @@ pub mod OneToOne
 pub mod Search
 pub mod Answer
 pub mod SearchSteps
-pub mod Demand3

@@ -13,15 +13,15 @@ use Rattle.paths.specs.Best.{Order}
 use Rattle.paths.specs.Search.{none}
 use Rattle.paths.specs.Demand.{Demand3 as Rule}
 use Rattle.paths.proofs.Demand.{demand3}
 use Rattle.kplib.specs.Numbers.{Table, Parts, firstFault, searchMode}
 use Rattle.kplib.specs.Score.{chainScore}
 use Rattle.kplib.specs.Search.{Result, noLower, startResult, followsIn, distanceIn, scoredIn, leftIn, resultOf, bestIn}
 use Rattle.kplib.specs.Answer.{searched, answerWith, foundAfter, answerOf, rowsOf, searches}
-use Rattle.kplib.specs.Demand3.{Demand3, resultIn}
+use Rattle.audit.specs.Demand3.{Demand3, resultIn}
 use Rattle.kplib.specs.declared.graphparams.Settings.{Settings}
 use Rattle.kplib.specs.declared.traverse.Answer.{Answer}
 use Rattle.kplib.proofs.GraphLaws.{counts-chains}
 use Rattle.kplib.proofs.AnswerLaws.{at-least-zero, score-number}
 
 holds : (t : Bool) → t ≡ true → T t
 holds true e = tt
