@@ -1,0 +1,2 @@
+// One job in, its lines of text out, in fixed memory: what the program does.
+mod text;
