@@ -1,0 +1,140 @@
+-- Fields stored one behind the other, and read back: a number is put together from halves, so each law is about two of them. Assumes nothing.
+use Prim.Native.Nat.{ℕ, zero, suc, _+_, _-_, _*_, _/_, _%_, _≤_, _<_, _^_}
+use native.Mathlib.Omega.{arith}
+use native.Mathlib.Numerals.{add-one}
+use native.Mathlib.Nat.{add-zero, add-suc, suc-add}
+use mathlib.Core.Path.{_≡_, refl, sym, ap, subst, _∙_}
+use mathlib.Core.List.{List, [], _∷_, _++_}
+use mathlib.Core.Bool.{Bool, true, false, cond}
+use lib.IntN.{ℤ, pos, negsuc, _-ℤ_, natAbs}
+use lib.Dec.{ltb, eqb}
+use lib.ListN.{length, getD, drop, set, length-set}
+use lib.Seq.{sets}
+use borrow.Author.Tests.{lt-ltb, le-ltb, eq-eqb, ne-eqb}
+use mir.Val.{SFits, Fits, toZ, ofZ}
+use mir.ValLaws.{toZ-ofZ}
+use lib.Signed.{ltZ, nonNeg}
+use lib.Dec.{T}
+use borrow.Author.Tests.{ltb-true}
+use native.Mathlib.Nat.{not-suc-le-zero}
+use mir.Syntax.{w32}
+use Rattle.job.specs.Fields.{le2, le4, le8, signedOf, bytes2, bytes4, bytes8, bitsOf, flag}
+
+pub sets-append : (l : List ℕ) (i : ℕ) (xs ys : List ℕ) → sets l i (xs ++ ys) ≡ sets (sets l i xs) (i + length xs) ys
+sets-append l i [] ys = rw (add-zero i)
+sets-append l i (x ∷ xs) ys = sets-append (set l i x) (suc i) xs ys ∙ ap (λ (n : ℕ). sets (sets (set l i x) (suc i) xs) n ys) (suc-add i (length xs) ∙ sym (add-suc i (length xs)))
+
+pub two-stores : (l : List ℕ) (i x : ℕ) → set (set l i (x % 256)) (i + 1) (x / 256 % 256) ≡ sets l i (bytes2 x)
+unfolding bytes2
+two-stores l i x = rw (add-one i)
+
+-- a number's two halves, one after the other
+module _ (l m n : List ℕ) (i : ℕ) where
+  pub four-stores : (x : ℕ) → m ≡ sets l i (bytes2 (x % 65536)) → n ≡ sets m (i + 2) (bytes2 (x / 65536)) → n ≡ sets l i (bytes4 x)
+  unfolding bytes4 bytes2
+  four-stores x p q = q ∙ rw p (sym (sets-append l i (bytes2 (x % 65536)) (bytes2 (x / 65536))))
+
+  pub eight-stores : (x : ℕ) → m ≡ sets l i (bytes4 (x % 4294967296)) → n ≡ sets m (i + 4) (bytes4 (x / 4294967296)) → n ≡ sets l i (bytes8 x)
+  unfolding bytes8 bytes4 bytes2
+  eight-stores x p q = q ∙ rw p (sym (sets-append l i (bytes4 (x % 4294967296)) (bytes4 (x / 4294967296))))
+
+-- ---- the round trip
+two-back : (x : ℕ) → x < 65536 → x % 256 + 256 * (x / 256 % 256) ≡ x
+two-back x h = omega arith
+
+-- the sum that `le4` makes of the bytes of x
+pub four-back : (x : ℕ) → x < 4294967296
+    → (x % 65536 % 256 + 256 * (x % 65536 / 256 % 256)) + 65536 * (x / 65536 % 256 + 256 * (x / 65536 / 256 % 256)) ≡ x
+four-back x h =
+    let lo : x % 65536 < 65536 = omega arith in
+    let hi : x / 65536 < 65536 = omega arith in
+    rw (two-back (x % 65536) lo, two-back (x / 65536) hi) (omega arith)
+
+pub bits-fit : (z : ℤ) → SFits w32 z → bitsOf z < 4294967296
+unfolding bitsOf
+bits-fit (pos n) f = let h : n < 2147483648 = f .sfits in omega arith
+bits-fit (negsuc n) f = omega arith
+
+pub signed-back : (z : ℤ) → SFits w32 z → signedOf (bitsOf z) ≡ z
+unfolding signedOf bitsOf
+signed-back (pos n) f = simp (lt-ltb n 2147483648 (f .sfits))
+signed-back (negsuc n) f =
+    let h : n < 2147483648 = f .sfits in
+    let g : 2147483648 ≤ 4294967295 - n = omega arith in
+    let e : 4294967295 - (4294967295 - n) ≡ n = omega arith in
+    simp (le-ltb _ _ g) (ap negsuc e)
+
+pub flag-back : (t : Bool) → eqb (flag t) 1 ≡ t
+flag-back true = refl
+flag-back false = refl
+
+pub eight-back : (x a c : ℕ) → x < 18446744073709551616 → a ≡ x % 4294967296 → c ≡ x / 4294967296 → a + 4294967296 * c ≡ x
+eight-back x a c h p q = omega arith
+
+-- ---- a signed number's bits
+turn : (n : ℕ) → negsuc 0 -ℤ negsuc n ≡ pos n
+turn n = let h : suc n - 1 ≡ n = omega arith in simp (le-ltb (suc n) 1 (omega arith), h)
+
+below : ℤ → ℕ
+below (pos n) = 0
+below (negsuc n) = n
+
+-- w stands for what the machine reads back from the bits of z
+module _ (z w : ℤ) (same : w ≡ z) (f : SFits w32 z) where
+  neg-is : (v : ℤ) → ltZ v (pos 0) ≡ true → v ≡ negsuc (below v)
+  unfolding below
+  neg-is (pos n) e = let h = ltb-true n 0 e in absurd (not-suc-le-zero h)
+  neg-is (negsuc n) e = refl
+
+  f′ : SFits w32 w
+  f′ = subst (λ (v : ℤ). SFits w32 v) (sym same) f
+
+  module _ (t : ltZ w (pos 0) ≡ true) where
+    w-is : w ≡ negsuc (below w)
+    w-is = neg-is w t
+
+    small : below w < 2147483648
+    small = (subst (λ (v : ℤ). SFits w32 v) w-is f′) .sfits
+
+    turned : negsuc 0 -ℤ w ≡ pos (below w)
+    turned = ap (λ (v : ℤ). negsuc 0 -ℤ v) w-is ∙ turn (below w)
+
+    pub neg-sub : SFits w32 (negsuc 0 -ℤ w)
+    neg-sub = subst (λ (v : ℤ). SFits w32 v) (sym turned) (record { sfits = small })
+
+    read : toZ w32 (ofZ w32 (negsuc 0 -ℤ w)) ≡ pos (below w)
+    read = toZ-ofZ w32 _ neg-sub ∙ turned
+
+    pub neg-cast : T (nonNeg (toZ w32 (ofZ w32 (negsuc 0 -ℤ w)))) × Fits w32 (natAbs (toZ w32 (ofZ w32 (negsuc 0 -ℤ w))))
+    neg-cast = subst (λ (v : ℤ). T (nonNeg v) × Fits w32 (natAbs v)) (sym read) (tt, record { fits = let h = small in omega arith })
+
+    pub neg-low : natAbs (toZ w32 (ofZ w32 (negsuc 0 -ℤ w))) ≤ 4294967295
+    neg-low = subst (λ (v : ℤ). natAbs v ≤ 4294967295) (sym read) (let h = small in omega arith)
+
+    pub neg-bits : 4294967295 - natAbs (toZ w32 (ofZ w32 (negsuc 0 -ℤ w))) ≡ bitsOf z
+    unfolding bitsOf
+    neg-bits = ap (λ (v : ℤ). 4294967295 - natAbs v) read ∙ ap bitsOf (sym w-is ∙ same)
+
+  module _ (t : ltZ w (pos 0) ≡ false) where
+    pub pos-cast : T (nonNeg w) × Fits w32 (natAbs w)
+    pos-cast = at w t f′
+      where
+        at : (v : ℤ) → ltZ v (pos 0) ≡ false → SFits w32 v → T (nonNeg v) × Fits w32 (natAbs v)
+        at (pos n) e g = (tt, record { fits = let h : n < 2147483648 = g .sfits in omega arith })
+        at (negsuc n) e g = let x : _≡_ {A = ℕ} 0 1 = cc in omega arith
+
+    pub pos-bits : natAbs w ≡ bitsOf z
+    unfolding bitsOf
+    pos-bits = at w t ∙ ap bitsOf same
+      where
+        at : (v : ℤ) → ltZ v (pos 0) ≡ false → natAbs v ≡ bitsOf v
+        at (pos n) e = refl
+        at (negsuc n) e = let x : _≡_ {A = ℕ} 0 1 = cc in omega arith
+
+pub long4 : (x : ℕ) → length (bytes4 x) ≡ 4
+unfolding bytes4 bytes2
+long4 x = refl
+
+pub long8 : (x : ℕ) → length (bytes8 x) ≡ 8
+unfolding bytes8 bytes4 bytes2
+long8 x = refl

@@ -1,0 +1,73 @@
+-- Document 01, "Job form": the job that nine lent slices hold, and what writing it answers.
+use Prim.Native.Nat.{ℕ, zero, suc, _+_}
+use mathlib.Core.List.{List, [], _∷_}
+use mathlib.Core.Bool.{Bool, true, false, not, _&&_, _||_, cond}
+use lib.IntN.{ℤ, pos}
+use lib.ListN.{length, getD}
+use lib.Seq.{slice}
+use lib.Dec.{eqb, ltb}
+use Rattle.kplib.specs.declared.graphparams.Settings.{Settings}
+use Rattle.job.specs.Job.{Variant, Part, Job, jobBytes}
+use Rattle.job.specs.Reading.{Lent, placed}
+use Rattle.job.specs.declared.writer.Writing.{Writing}
+use Rattle.job.specs.declared.writer.Writing.the-variants.{Refused, Wrote}
+
+-- n variants from row r on, whose letters begin at a position
+unfoldable pub variantsFrom : Lent → ℕ → ℕ → ℕ → List Variant
+variantsFrom t r at zero = []
+variantsFrom t r at (suc n) = record {
+    start = getD (t .starts) r 0;
+    end = getD (t .ends) r 0;
+    size = getD (t .sizes) r (pos 0);
+    negative = getD (t .negatives) r false;
+    letters = slice at (at + getD (t .counts) r 0) (t .letters);
+  } ∷ variantsFrom t (suc r) (at + getD (t .counts) r 0) n
+
+unfoldable pub partsFrom : Lent → ℕ → ℕ → ℕ → List Part
+partsFrom t r at zero = []
+partsFrom t r at (suc n) = record {
+    size = getD (t .partSizes) r (pos 0);
+    negative = getD (t .partNegatives) r false;
+    letters = slice at (at + getD (t .partCounts) r 0) (t .letters);
+  } ∷ partsFrom t (suc r) (at + getD (t .partCounts) r 0) n
+
+unfoldable pub sum : List ℕ → ℕ
+sum [] = 0
+sum (n ∷ ns) = n + sum ns
+
+-- V is the number of starts, m the number of part sizes
+unfoldable pub jobFrom : Settings → Lent → Job
+jobFrom s t = record {
+  settings = s;
+  variants = variantsFrom t 0 0 (length (t .starts));
+  parts = partsFrom t 0 (sum (t .counts)) (length (t .partSizes));
+}
+
+unfoldable pub four : ℕ → ℕ → ℕ → ℕ → ℕ → Bool
+four n a b c d = eqb a n && (eqb b n && (eqb c n && eqb d n))
+
+unfoldable pub two : ℕ → ℕ → ℕ → Bool
+two n a b = eqb a n && eqb b n
+
+-- rows that agree with V and m, and as many letters as the counts say
+abbrev pub agree : Lent → Bool
+agree t =
+    four (length (t .starts)) (length (t .ends)) (length (t .sizes)) (length (t .negatives)) (length (t .counts))
+    && (two (length (t .partSizes)) (length (t .partNegatives)) (length (t .partCounts))
+    && eqb (sum (t .counts) + sum (t .partCounts)) (length (t .letters)))
+
+unfoldable pub anyOver : List ℕ → Bool
+anyOver [] = false
+anyOver (n ∷ ns) = ltb 131072 n || anyOver ns
+
+-- refused by 6, 13 and then 30; else the number of bytes written
+unfoldable pub writingOf : Settings → Lent → ℕ → Writing
+writingOf s t room =
+    cond (not (agree t)) (Refused 6)
+    (cond (anyOver (t .counts) || anyOver (t .partCounts)) (Refused 13)
+    (cond (ltb room (length (jobBytes (jobFrom s t)))) (Refused 30) (Wrote (length (jobBytes (jobFrom s t))))))
+
+-- what the lent room holds after the answer: the bytes at the front, or what it held
+unfoldable pub outAfter : Writing → List ℕ → List ℕ → List ℕ
+outAfter (Refused n) bytes old = old
+outAfter (Wrote n) bytes old = placed old bytes
