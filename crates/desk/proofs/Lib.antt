@@ -1,2 +1,5 @@
 pub mod PieceLaws
 pub mod FeatureLaws
+pub mod DeskLaws
+pub mod LetterLaws
+pub mod MemoryLaws

@@ -1,16 +1,18 @@
 -- What the program's memory holds between reading a job and searching. No public promise cites this file.
 use Prim.Native.Nat.{ℕ, _+_, _≤_}
 use mathlib.Core.Path.{_≡_}
-use mathlib.Core.Bool.{Bool}
+use mathlib.Core.Bool.{Bool, cond}
 use mathlib.Core.List.{List}
 use lib.IntN.{ℤ}
-use lib.ListN.{length, drop}
+use lib.Dec.{ltb}
+use lib.ListN.{length, take, drop}
 use Rattle.kplib.specs.declared.graphparams.Settings.{Settings}
 use Rattle.kplib.specs.Numbers.{Table, Parts, tableOf, partsOf}
 use Rattle.kplib.specs.Search.{answerOf, rowsOf}
 use Rattle.job.specs.Job.{Job, Read, Held, readJob}
-use Rattle.job.specs.Reading.{Lent}
+use Rattle.job.specs.Reading.{Lent, lent}
 use Rattle.job.specs.Writing.{sum}
+use Rattle.desk.specs.Text.{refusedText}
 use Rattle.desk.specs.Rows.{rowsFrom}
 use Rattle.desk.specs.Desk.{answerText}
 
@@ -38,6 +40,28 @@ pub record Fits (k : ℕ) (t : Lent) : Type 0 where
   pub part-alike : length (t .partNegatives) ≡ length (t .partCounts)
   pub letters-end : sum (t .counts) + sum (t .partCounts) ≤ length (t .letters)
   pub few : length (t .letters) ≤ 32768
+
+-- v variants and m parts at the fronts of the slices
+abbrev pub cut : ℕ → ℕ → Lent → Lent
+cut v m t = lent (take v (t .starts)) (take v (t .ends)) (take v (t .sizes)) (take v (t .negatives)) (take v (t .counts))
+    (take m (t .partSizes)) (take m (t .partNegatives)) (take m (t .partCounts)) (t .letters)
+
+pub record Loaded (s : Settings) (v m : ℕ) (t : Lent) : Type 0 where
+  pub starts : v ≤ length (t .starts)
+  pub ends : v ≤ length (t .ends)
+  pub sizes : v ≤ length (t .sizes)
+  pub negatives : v ≤ length (t .negatives)
+  pub counts : v ≤ length (t .counts)
+  pub part-sizes : m ≤ length (t .partSizes)
+  pub part-negatives : m ≤ length (t .partNegatives)
+  pub part-counts : m ≤ length (t .partCounts)
+  pub fits : 1 ≤ s .k → s .k ≤ 4 → Fits (s .k) (cut v m t)
+
+-- 26 for k over 4 or maxpaths over 63, 1 for k 0, and else what the search answers
+unfoldable pub loadedText : Settings → ℕ → ℕ → Lent → List ℕ
+loadedText s v m t =
+    cond (ltb 4 (s .k)) (refusedText 26) (cond (ltb 63 (s .maxpaths)) (refusedText 26)
+    (cond (ltb (s .k) 1) (refusedText 1) (memoryText s (cut v m t))))
 
 -- an input whose job fits
 pub record Holds (input : List ℕ) : Type 0 where

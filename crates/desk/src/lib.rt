@@ -1,6 +1,7 @@
 // One job in, its lines of text out, in fixed memory: what the program does.
 mod features;
 mod memory;
+mod room;
 mod text;
 
 use crate::memory::answer_held;

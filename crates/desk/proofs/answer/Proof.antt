@@ -7,55 +7,55 @@ use Rattle.desk.proofs.memory.answer_held.Reads as answer-held-reads
 use Rattle.desk.proofs.text.put_refused.Reads as put-refused-reads
 use Rattle.job.proofs.reader.scan.Reads as scan-reads
 
--- src/lib.rt:23:9
+-- src/lib.rt:24:9
 put-refused-requires : tie.Need-put-refused-requires
 put-refused-requires c κs = search needs
 
--- src/lib.rt:23:9
+-- src/lib.rt:24:9
 returns : tie.Need-returns
 returns c = ?
 
--- src/lib.rt:25:9
+-- src/lib.rt:26:9
 scan-requires : tie.Need-scan-requires
 scan-requires c κs = ?
 
--- src/lib.rt:27:23
+-- src/lib.rt:28:23
 enum-known-found : tie.Need-enum-known-found
 enum-known-found c = search needs
 
--- src/lib.rt:27:29
+-- src/lib.rt:28:29
 put-refused-requires-2 : tie.Need-put-refused-requires-2
 put-refused-requires-2 c κs = search needs
 
--- src/lib.rt:28:20
+-- src/lib.rt:29:20
 enum-known-found-2 : tie.Need-enum-known-found-2
 enum-known-found-2 c = search needs
 
--- src/lib.rt:30:17
+-- src/lib.rt:31:17
 put-refused-requires-3 : tie.Need-put-refused-requires-3
 put-refused-requires-3 c κs = search needs
 
--- src/lib.rt:30:17
+-- src/lib.rt:31:17
 returns-2 : tie.Need-returns-2
 returns-2 c = ?
 
--- src/lib.rt:33:17
+-- src/lib.rt:34:17
 put-refused-requires-4 : tie.Need-put-refused-requires-4
 put-refused-requires-4 c κs = search needs
 
--- src/lib.rt:33:17
+-- src/lib.rt:34:17
 returns-3 : tie.Need-returns-3
 returns-3 c = ?
 
--- src/lib.rt:35:13
+-- src/lib.rt:36:13
 answer-held-requires : tie.Need-answer-held-requires
 answer-held-requires c κs = ?
 
--- src/lib.rt:18:1
+-- src/lib.rt:19:1
 returns-4 : tie.Need-returns-4
 returns-4 c = ?
 
--- src/lib.rt:18:1
+-- src/lib.rt:19:1
 returns-5 : tie.Need-returns-5
 returns-5 c = ?
 
