@@ -138,3 +138,11 @@ long4 x = refl
 pub long8 : (x : ℕ) → length (bytes8 x) ≡ 8
 unfolding bytes8 bytes4 bytes2
 long8 x = refl
+
+-- ---- stores one behind the other
+pub join : (l m n : List ℕ) (i j : ℕ) (xs ys : List ℕ) → i + length xs ≡ j → m ≡ sets l i xs → n ≡ sets m j ys → n ≡ sets l i (xs ++ ys)
+join l m n i j xs ys e p q = q ∙ rw (p, sym e) (sym (sets-append l i xs ys))
+
+-- behind a field of four bytes
+pub join4 : (l m n : List ℕ) (i j x w : ℕ) (ys : List ℕ) → i + 4 ≡ j → w ≡ x → m ≡ sets l i (bytes4 w) → n ≡ sets m j ys → n ≡ sets l i (bytes4 x ++ ys)
+join4 l m n i j x w ys e h p q = join l m n i j (bytes4 x) ys (rw (long4 x) e) (p ∙ ap (λ (v : ℕ). sets l i (bytes4 v)) h) q

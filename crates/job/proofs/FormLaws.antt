@@ -232,11 +232,11 @@ module _ (s : List ℕ) (at : ℕ) (st : State) where
     run-refused f e n = sym (run-here ∙ simp (sym e, ne-eqb _ _ n))
 
     pub run-done : (f : ℕ) → f ≡ faultOf st kind body → f ≡ 0 → kind ≡ 0 → Good (counted st) ≡ run (drop at s) 0 st
-    run-done f e z n = sym (run-here ∙ judge-done _ _ _ _ (sym e ∙ z) n)
+    run-done f e z n = sym (run-here ∙ judge-done _ _ st _ (sym e ∙ z) n)
 
     pub run-more : (f : ℕ) → f ≡ faultOf st kind body → f ≡ 0 → (kind ≡ 0 → ⊥) → (r : State) → r ≡ after st kind body → (n : ℕ) → n ≡ bodyLen kind
         → run (drop (at + 1 + n) s) 0 r ≡ run (drop at s) 0 st
     run-more f e z k r a n m =
         let h : suc at + bodyLen kind ≡ at + 1 + bodyLen kind = omega arith in
-        rw (a, m) (sym (run-here ∙ judge-more _ _ _ _ (sym e ∙ z) k ∙ skip body _ _
+        rw (a, m) (sym (run-here ∙ judge-more _ _ st _ (sym e ∙ z) k ∙ skip body _ _
         ∙ ap (λ (l : List ℕ). run l 0 (after st kind body)) (ap (drop (bodyLen kind)) rest-is ∙ drop-drop (bodyLen kind) (suc at) s ∙ ap (λ (j : ℕ). drop j s) h)))

@@ -1,3 +1,9 @@
 -- Laws that several proofs cite.
 pub mod FieldLaws
 pub mod FormLaws
+pub mod FillLaws
+pub mod RoomLaws
+pub mod CountLaws
+pub mod SettingsLaws
+pub mod ReadLaws
+pub mod WriteLaws

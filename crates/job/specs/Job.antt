@@ -62,19 +62,14 @@ variantHere k b = cond (eqb k 2) (cond (ltb (length b) 25) [] (variantOf b ∷ [
 unfoldable pub partHere : ℕ → List ℕ → List Part
 partHere k b = cond (eqb k 3) (cond (ltb (length b) 9) [] (partOf b ∷ [])) []
 
--- the variants of a form, front to back, and its parts; the first n bytes belong to a record that was read already
-unfoldable pub variantsOf : List ℕ → ℕ → List Variant
-variantsOf [] n = []
-variantsOf (k ∷ b) (suc n) = variantsOf b n
-variantsOf (k ∷ b) zero = variantHere k b ++ variantsOf b (bodyLen k)
-
-unfoldable pub partsOf : List ℕ → ℕ → List Part
-partsOf [] n = []
-partsOf (k ∷ b) (suc n) = partsOf b n
-partsOf (k ∷ b) zero = partHere k b ++ partsOf b (bodyLen k)
+-- what the records of a form add, front to back; the first n bytes belong to a record that was read already
+unfoldable pub gather : {A : Type 0} → (ℕ → List ℕ → List A) → List ℕ → ℕ → List A
+gather here [] n = []
+gather here (k ∷ b) (suc n) = gather here b n
+gather here (k ∷ b) zero = here k b ++ gather here b (bodyLen k)
 
 unfoldable pub jobOf : List ℕ → Job
-jobOf s = record { settings = settingsOf (drop 1 s); variants = variantsOf s 0; parts = partsOf s 0 }
+jobOf s = record { settings = settingsOf (drop 1 s); variants = gather variantHere s 0; parts = gather partHere s 0 }
 
 -- the number of the first fault, or the job
 pub data Read : Type 0 where
@@ -108,16 +103,22 @@ sequenceBytes l = lettersRecords (recordsFor (length l)) l
 unfoldable pub partBody : ℤ → Bool → ℕ → List ℕ
 partBody size negative count = bytes4 (bitsOf size) ++ (flag negative ∷ bytes4 count)
 
-unfoldable pub variantBody : Variant → List ℕ
-variantBody x = bytes8 (x .start) ++ (bytes8 (x .end) ++ partBody (x .size) (x .negative) (length (x .letters)))
+unfoldable pub variantBody : ℕ → ℕ → ℤ → Bool → ℕ → List ℕ
+variantBody first last size negative count = bytes8 first ++ (bytes8 last ++ partBody size negative count)
+
+unfoldable pub variantBytes : Variant → List ℕ
+variantBytes x = 2 ∷ (variantBody (x .start) (x .end) (x .size) (x .negative) (length (x .letters)) ++ sequenceBytes (x .letters))
+
+unfoldable pub partBytes : Part → List ℕ
+partBytes x = 3 ∷ (partBody (x .size) (x .negative) (length (x .letters)) ++ sequenceBytes (x .letters))
 
 unfoldable pub variantsBytes : List Variant → List ℕ
 variantsBytes [] = []
-variantsBytes (x ∷ xs) = 2 ∷ (variantBody x ++ (sequenceBytes (x .letters) ++ variantsBytes xs))
+variantsBytes (x ∷ xs) = variantBytes x ++ variantsBytes xs
 
 unfoldable pub partsBytes : List Part → List ℕ
 partsBytes [] = []
-partsBytes (x ∷ xs) = 3 ∷ (partBody (x .size) (x .negative) (length (x .letters)) ++ (sequenceBytes (x .letters) ++ partsBytes xs))
+partsBytes (x ∷ xs) = partBytes x ++ partsBytes xs
 
 unfoldable pub jobBytes : Job → List ℕ
 jobBytes job = 1 ∷ (settingsBytes (job .settings) ++ (variantsBytes (job .variants) ++ (partsBytes (job .parts) ++ (0 ∷ []))))

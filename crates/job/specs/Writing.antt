@@ -12,24 +12,24 @@ use Rattle.job.specs.Reading.{Lent, placed}
 use Rattle.job.specs.declared.writer.Writing.{Writing}
 use Rattle.job.specs.declared.writer.Writing.the-variants.{Refused, Wrote}
 
--- n variants from row r on, whose letters begin at a position
-unfoldable pub variantsFrom : Lent → ℕ → ℕ → ℕ → List Variant
-variantsFrom t r at zero = []
-variantsFrom t r at (suc n) = record {
-    start = getD (t .starts) r 0;
-    end = getD (t .ends) r 0;
-    size = getD (t .sizes) r (pos 0);
-    negative = getD (t .negatives) r false;
-    letters = slice at (at + getD (t .counts) r 0) (t .letters);
-  } ∷ variantsFrom t (suc r) (at + getD (t .counts) r 0) n
+-- n variants from row r on, whose letters begin at a position; and n parts
+unfoldable pub variantsFrom : List ℕ → List ℕ → List ℤ → List Bool → List ℕ → List ℕ → ℕ → ℕ → ℕ → List Variant
+variantsFrom starts ends sizes negatives counts letters r at zero = []
+variantsFrom starts ends sizes negatives counts letters r at (suc n) = record {
+    start = getD starts r 0;
+    end = getD ends r 0;
+    size = getD sizes r (pos 0);
+    negative = getD negatives r false;
+    letters = slice at (at + getD counts r 0) letters;
+  } ∷ variantsFrom starts ends sizes negatives counts letters (suc r) (at + getD counts r 0) n
 
-unfoldable pub partsFrom : Lent → ℕ → ℕ → ℕ → List Part
-partsFrom t r at zero = []
-partsFrom t r at (suc n) = record {
-    size = getD (t .partSizes) r (pos 0);
-    negative = getD (t .partNegatives) r false;
-    letters = slice at (at + getD (t .partCounts) r 0) (t .letters);
-  } ∷ partsFrom t (suc r) (at + getD (t .partCounts) r 0) n
+unfoldable pub partsFrom : List ℤ → List Bool → List ℕ → List ℕ → ℕ → ℕ → ℕ → List Part
+partsFrom sizes negatives counts letters r at zero = []
+partsFrom sizes negatives counts letters r at (suc n) = record {
+    size = getD sizes r (pos 0);
+    negative = getD negatives r false;
+    letters = slice at (at + getD counts r 0) letters;
+  } ∷ partsFrom sizes negatives counts letters (suc r) (at + getD counts r 0) n
 
 unfoldable pub sum : List ℕ → ℕ
 sum [] = 0
@@ -39,8 +39,8 @@ sum (n ∷ ns) = n + sum ns
 unfoldable pub jobFrom : Settings → Lent → Job
 jobFrom s t = record {
   settings = s;
-  variants = variantsFrom t 0 0 (length (t .starts));
-  parts = partsFrom t 0 (sum (t .counts)) (length (t .partSizes));
+  variants = variantsFrom (t .starts) (t .ends) (t .sizes) (t .negatives) (t .counts) (t .letters) 0 0 (length (t .starts));
+  parts = partsFrom (t .partSizes) (t .partNegatives) (t .partCounts) (t .letters) 0 (sum (t .counts)) (length (t .partSizes));
 }
 
 unfoldable pub four : ℕ → ℕ → ℕ → ℕ → ℕ → Bool

@@ -9,10 +9,9 @@ use crate::form::count_of;
 ghost use mathlib.Core.Path.{_≡_};
 ghost use Prim.Native.Nat.{_≤_, _<_, _+_, _^_};
 ghost use mathlib.Core.List.{_++_};
-ghost use lib.ListN.{length, set, getD, drop};
-ghost use lib.Seq.{sets};
-ghost use Rattle.job.specs.Job.{variantOf, variantHere, variantsOf, partOf, partHere, partsOf, lettersIn};
-ghost use Rattle.job.specs.Steps.{rows, putRow, putRows, RowsPut, partRows, putPart, putParts, PartsPut, lettersHere, lettersOfKind};
+ghost use lib.ListN.{length, set, getD};
+ghost use Rattle.job.specs.Job.{variantOf, variantHere, partOf, partHere, lettersIn, gather};
+ghost use Rattle.job.specs.Steps.{rows, putRow, partRows, putPart, stores, Stored, lettersHere};
 
 fn put_u64(dst: &mut [u64], i: usize, x: u64)
     ensures { λ _. ⌜ now (dst .exit) ≡ set (now (dst .entry)) i x ⌝ }
@@ -80,7 +79,7 @@ fn fill_variant(
     counts: &mut [u32],
 ) -> usize
     requires { ⌜ v < 2 ^ 63 ⌝ }
-    ensures { λ r. ⌜ RowsPut (rows (now (starts .entry)) (now (ends .entry)) (now (sizes .entry)) (now (negatives .entry)) (now (counts .entry)))
+    ensures { λ r. ⌜ Stored putRow (rows (now (starts .entry)) (now (ends .entry)) (now (sizes .entry)) (now (negatives .entry)) (now (counts .entry)))
         (rows (now (starts .exit)) (now (ends .exit)) (now (sizes .exit)) (now (negatives .exit)) (now (counts .exit)))
         v r (variantHere k (now (b .entry))) ⌝ }
 {
@@ -103,8 +102,8 @@ pub(crate) fn fill_variants(
     counts: &mut [u32],
 )
     ensures { λ _. ⌜ rows (now (starts .exit)) (now (ends .exit)) (now (sizes .exit)) (now (negatives .exit)) (now (counts .exit))
-        ≡ putRows (rows (now (starts .entry)) (now (ends .entry)) (now (sizes .entry)) (now (negatives .entry)) (now (counts .entry)))
-        0 (variantsOf (now (s .entry)) 0) ⌝ }
+        ≡ stores putRow (rows (now (starts .entry)) (now (ends .entry)) (now (sizes .entry)) (now (negatives .entry)) (now (counts .entry)))
+        0 (gather variantHere (now (s .entry)) 0) ⌝ }
 {
     let mut at = 0usize;
     let mut v = 0usize;
@@ -135,7 +134,7 @@ fn fill_part(
     counts: &mut [u32],
 ) -> usize
     requires { ⌜ v < 2 ^ 63 ⌝ }
-    ensures { λ r. ⌜ PartsPut (partRows (now (sizes .entry)) (now (negatives .entry)) (now (counts .entry)))
+    ensures { λ r. ⌜ Stored putPart (partRows (now (sizes .entry)) (now (negatives .entry)) (now (counts .entry)))
         (partRows (now (sizes .exit)) (now (negatives .exit)) (now (counts .exit))) v r (partHere k (now (b .entry))) ⌝ }
 {
     if k != PART {
@@ -155,7 +154,7 @@ pub(crate) fn fill_parts(
     counts: &mut [u32],
 )
     ensures { λ _. ⌜ partRows (now (sizes .exit)) (now (negatives .exit)) (now (counts .exit))
-        ≡ putParts (partRows (now (sizes .entry)) (now (negatives .entry)) (now (counts .entry))) 0 (partsOf (now (s .entry)) 0) ⌝ }
+        ≡ stores putPart (partRows (now (sizes .entry)) (now (negatives .entry)) (now (counts .entry))) 0 (gather partHere (now (s .entry)) 0) ⌝ }
 {
     let mut at = 0usize;
     let mut v = 0usize;
@@ -176,7 +175,7 @@ fn byte_or_zero(b: &[u8], i: usize) -> u8
 // n letters of the letters records b, from position `at` on.
 fn copy_letters(out: &mut [u8], at: usize, b: &[u8], n: usize)
     requires { ⌜ (at + n ≤ length (now out)) × (n < 2 ^ 32) ⌝ }
-    ensures { λ _. ⌜ now (out .exit) ≡ sets (now (out .entry)) at (lettersIn (now (b .entry)) 0 n) ⌝ }
+    ensures { λ _. ⌜ now (out .exit) ≡ stores set (now (out .entry)) at (lettersIn (now (b .entry)) 0 n) ⌝ }
 {
     let mut i = 0usize;
     while i < n {
@@ -189,7 +188,7 @@ fn copy_letters(out: &mut [u8], at: usize, b: &[u8], n: usize)
 fn fill_sequence(out: &mut [u8], at: usize, kind: u8, k: u8, b: &[u8]) -> usize
     requires { ⌜ at + length (lettersHere kind k (now b)) ≤ length (now out) ⌝ }
     ensures next { λ r. ⌜ r ≡ at + length (lettersHere kind k (now (b .entry))) ⌝ }
-    ensures is { λ _. ⌜ now (out .exit) ≡ sets (now (out .entry)) at (lettersHere kind k (now (b .entry))) ⌝ }
+    ensures is { λ _. ⌜ now (out .exit) ≡ stores set (now (out .entry)) at (lettersHere kind k (now (b .entry))) ⌝ }
 {
     if k != kind {
         return at;
@@ -204,9 +203,9 @@ fn fill_sequence(out: &mut [u8], at: usize, kind: u8, k: u8, b: &[u8]) -> usize
 }
 
 fn fill_kind(s: &[u8], kind: u8, from: usize, out: &mut [u8]) -> usize
-    requires { ⌜ from + length (lettersOfKind kind (now s) 0) ≤ length (now out) ⌝ }
-    ensures next { λ r. ⌜ r ≡ from + length (lettersOfKind kind (now (s .entry)) 0) ⌝ }
-    ensures is { λ _. ⌜ now (out .exit) ≡ sets (now (out .entry)) from (lettersOfKind kind (now (s .entry)) 0) ⌝ }
+    requires { ⌜ from + length (gather (lettersHere kind) (now s) 0) ≤ length (now out) ⌝ }
+    ensures next { λ r. ⌜ r ≡ from + length (gather (lettersHere kind) (now (s .entry)) 0) ⌝ }
+    ensures is { λ _. ⌜ now (out .exit) ≡ stores set (now (out .entry)) from (gather (lettersHere kind) (now (s .entry)) 0) ⌝ }
 {
     let mut at = 0usize;
     let mut p = from;
@@ -221,8 +220,8 @@ fn fill_kind(s: &[u8], kind: u8, from: usize, out: &mut [u8]) -> usize
 
 // The letters of the variants, and then of the parts.
 pub(crate) fn fill_letters(s: &[u8], out: &mut [u8])
-    requires { ⌜ length (lettersOfKind 2 (now s) 0 ++ lettersOfKind 3 (now s) 0) ≤ length (now out) ⌝ }
-    ensures { λ _. ⌜ now (out .exit) ≡ sets (now (out .entry)) 0 (lettersOfKind 2 (now (s .entry)) 0 ++ lettersOfKind 3 (now (s .entry)) 0) ⌝ }
+    requires { ⌜ length (gather (lettersHere 2) (now s) 0 ++ gather (lettersHere 3) (now s) 0) ≤ length (now out) ⌝ }
+    ensures { λ _. ⌜ now (out .exit) ≡ stores set (now (out .entry)) 0 (gather (lettersHere 2) (now (s .entry)) 0 ++ gather (lettersHere 3) (now (s .entry)) 0) ⌝ }
 {
     let p = fill_kind(s, VARIANT, 0, out);
     fill_kind(s, PART, p, out);

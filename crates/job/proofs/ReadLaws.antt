@@ -1,0 +1,185 @@
+-- What reading answers: a fault changes nothing, and where there is room each column of the rows that were stored is the job's, at the front of its slice.
+-- Assumes nothing.
+use Prim.Native.Nat.{ℕ, zero, suc, _+_, _-_, _≤_, _<_}
+use native.Mathlib.Omega.{arith}
+use mathlib.Core.Path.{_≡_, refl, sym, ap, subst, _∙_}
+use mathlib.Core.Bool.{Bool, true, false, not, cond, _&&_}
+use mathlib.Core.List.{List, [], _∷_, _++_, map}
+use mathlib.Core.Logic.{_⊎_, inl, inr, ⊎-elim}
+use lib.IntN.{ℤ}
+use lib.Dec.{ltb, leb, eqb}
+use lib.ListN.{length, take, drop, set, length-drop, length-map, length-append}
+use lib.Seq.{take-all, sets-eq}
+use borrow.Author.Tests.{le-leb, lt-leb, leb-true, eqb-true}
+use Rattle.kplib.specs.declared.graphparams.Settings.{Settings}
+use Rattle.job.specs.declared.form.State.{State}
+use Rattle.job.specs.declared.form.Counts.{Counts}
+use Rattle.job.specs.declared.form.Scan.{Scan}
+use Rattle.job.specs.declared.form.Scan.the-variants.{Good, Refused}
+use Rattle.job.specs.declared.reader.Reading.{Reading}
+use Rattle.job.specs.declared.reader.Reading.the-variants.{Refused as Declined, Job as Given}
+use Rattle.job.specs.Settings40.{settingsOf}
+use Rattle.job.specs.Form.{bodyLen, inPlace, faultOf, run, judge, start}
+use Rattle.job.specs.Job.{Variant, Part, Job, Read, Faulty, Held, variantHere, partHere, gather, jobOf, readOf, readJob}
+use Rattle.job.specs.Reading.{Lent, lent, five, three, hasRoom, placed, variantLetters, partLetters, lettersOf, countsOf, lentWith, readingOf, lentAfter}
+use Rattle.job.specs.Steps.{Rows, rows, putRow, PartRows, partRows, putPart, stores, lettersHere}
+use Rattle.job.proofs.FormLaws.{split, long}
+use Rattle.job.proofs.FillLaws.{stores-sets}
+use Rattle.job.proofs.CountLaws.{none-placed, none-whole, counts-are, letters-of-variants, letters-of-parts}
+
+-- ---- a good form begins with a whole settings record
+first-kind : (k : ℕ) (b : List ℕ) (c : Counts) (rest : Scan) → judge (faultOf start k b) k start rest ≡ Good c → 40 ≤ length b
+unfolding inPlace bodyLen
+first-kind k b c rest e = ⊎-elim
+    (λ (f : eqb (faultOf start k b) 0 ≡ true).
+    let z : faultOf start k b ≡ 0 = eqb-true _ _ f in
+    long (eqb-true k 1 (none-placed start k b z)) (none-whole start k b z))
+    (λ (f : eqb (faultOf start k b) 0 ≡ false).
+    let w : Refused (faultOf start k b) ≡ Good c = simp f at e in
+    let z : _≡_ {A = ℕ} 0 1 = cc in omega arith)
+    (split (eqb (faultOf start k b) 0))
+
+good-long : (s : List ℕ) (c : Counts) → run s 0 start ≡ Good c → 41 ≤ length s
+unfolding run
+good-long [] c e = let z : _≡_ {A = ℕ} 0 1 = cc in omega arith
+good-long (k ∷ b) c e = let h : 40 ≤ length b = first-kind k b c _ e in omega arith
+
+-- ---- columns
+laid : {A : Type 0} (l ys : List A) → length ys ≤ length l → stores set l 0 ys ≡ placed l ys
+laid l ys h =
+    let z : 0 + length ys ≡ length ys = omega arith in
+    stores-sets l 0 ys ∙ sets-eq ys l 0 (rw z h) ∙ ap (λ (n : ℕ). ys ++ drop n l) z
+
+module _ {T A B : Type 0} (put : T → ℕ → A → T) (g : T → List B) (f : A → B) (stored : (t : T) (v : ℕ) (x : A) → g (put t v x) ≡ set (g t) v (f x)) where
+  column : (t : T) (v : ℕ) (xs : List A) → g (stores put t v xs) ≡ stores set (g t) v (map f xs)
+  unfolding stores
+  column t v [] = refl
+  column t v (x ∷ xs) = column (put t v x) (suc v) xs ∙ ap (λ (l : List B). stores set l (suc v) (map f xs)) (stored t v x)
+
+  front : (t u : T) (xs : List A) → length xs ≤ length (g t) → u ≡ stores put t 0 xs → g u ≡ placed (g t) (map f xs)
+  front t u xs h e = ap g e ∙ column t 0 xs ∙ laid (g t) (map f xs) (rw (length-map xs f) h)
+
+both : (a b : Bool) → a && b ≡ true → (a ≡ true) × (b ≡ true)
+both true b e = (refl, e)
+both false b e = let z : _≡_ {A = ℕ} 0 1 = cc in absurd (no z)
+  where
+    no : {n : ℕ} → 0 ≡ suc n → ⊥
+    no e = omega arith
+
+record RowsFit (n : ℕ) (t : Lent) : Type 0 where
+  starts : n ≤ length (t .starts)
+  ends : n ≤ length (t .ends)
+  sizes : n ≤ length (t .sizes)
+  negatives : n ≤ length (t .negatives)
+  counts : n ≤ length (t .counts)
+
+rows-fit : (n : ℕ) (t : Lent) → five n (length (t .starts)) (length (t .ends)) (length (t .sizes)) (length (t .negatives)) (length (t .counts)) ≡ true → RowsFit n t
+unfolding five
+rows-fit n t h =
+    let a = both _ _ h in let b = both _ _ (a .1) in let c = both _ _ (b .1) in let d = both _ _ (c .1) in
+    record { starts = leb-true _ _ (a .0); ends = leb-true _ _ (b .0); sizes = leb-true _ _ (c .0); negatives = leb-true _ _ (d .0); counts = leb-true _ _ (d .1) }
+
+record PartsFit (n : ℕ) (t : Lent) : Type 0 where
+  sizes : n ≤ length (t .partSizes)
+  negatives : n ≤ length (t .partNegatives)
+  counts : n ≤ length (t .partCounts)
+
+parts-fit : (n : ℕ) (t : Lent) → three n (length (t .partSizes)) (length (t .partNegatives)) (length (t .partCounts)) ≡ true → PartsFit n t
+unfolding three
+parts-fit n t h =
+    let a = both _ _ h in let b = both _ _ (a .1) in
+    record { sizes = leb-true _ _ (a .0); negatives = leb-true _ _ (b .0); counts = leb-true _ _ (b .1) }
+
+module _ (s : List ℕ) (t : Lent) (v : Scan) (is : v ≡ run s 0 start) where
+  pub read-refused : (n : ℕ) → v ≡ Refused n → (Declined n ≡ readingOf (readJob s) t) × (t ≡ lentAfter (readJob s) t)
+  unfolding readJob readingOf lentAfter
+  read-refused n e =
+      let at : run s 0 start ≡ Refused n = sym is ∙ e in
+      (sym (ap (λ (w : Scan). readingOf (readOf w (jobOf s)) t) at), sym (ap (λ (w : Scan). lentAfter (readOf w (jobOf s)) t) at))
+
+  module _ (c : Counts) (e : v ≡ Good c) where
+    at : run s 0 start ≡ Good c
+    at = sym is ∙ e
+
+    pub settings-there : 41 ≤ length s
+    settings-there = good-long s c at
+
+    are : c ≡ countsOf (jobOf s)
+    are = counts-are s c at
+
+    reading-at : readingOf (readJob s) t ≡ cond (hasRoom c t) (Given (settingsOf (drop 1 s)) c) (Declined 30)
+    unfolding readJob readingOf jobOf
+    reading-at = ap (λ (w : Scan). readingOf (readOf w (jobOf s)) t) at ∙ ap (λ (d : Counts). cond (hasRoom d t) (Given (settingsOf (drop 1 s)) d) (Declined 30)) (sym are)
+
+    lent-at : lentAfter (readJob s) t ≡ cond (hasRoom c t) (lentWith (jobOf s) t) t
+    unfolding readJob lentAfter
+    lent-at = ap (λ (w : Scan). lentAfter (readOf w (jobOf s)) t) at ∙ ap (λ (d : Counts). cond (hasRoom d t) (lentWith (jobOf s) t) t) (sym are)
+
+    crowded : hasRoom c t ≡ false → (Declined 30 ≡ readingOf (readJob s) t) × (t ≡ lentAfter (readJob s) t)
+    crowded h = (sym (reading-at ∙ rw h), sym (lent-at ∙ rw h))
+
+    module _ (f : Bool) (f-is : f ≡ five (c .variants) (length (t .starts)) (length (t .ends)) (length (t .sizes)) (length (t .negatives)) (length (t .counts))) where
+      pub crowded-rows : f ≡ false → (Declined 30 ≡ readingOf (readJob s) t) × (t ≡ lentAfter (readJob s) t)
+      crowded-rows h = crowded (rw (sym f-is, h))
+
+      module _ (f-true : f ≡ true) (g : Bool) (g-is : g ≡ three (c .parts) (length (t .partSizes)) (length (t .partNegatives)) (length (t .partCounts))) where
+        pub crowded-parts : g ≡ false → (Declined 30 ≡ readingOf (readJob s) t) × (t ≡ lentAfter (readJob s) t)
+        crowded-parts h = crowded (rw (sym f-is, f-true, sym g-is, h))
+
+        module _ (g-true : g ≡ true) where
+          pub crowded-letters : length (t .letters) < c .letters → (Declined 30 ≡ readingOf (readJob s) t) × (t ≡ lentAfter (readJob s) t)
+          crowded-letters h = crowded (rw (sym f-is, f-true, sym g-is, g-true, lt-leb _ _ h))
+
+          module _ (enough : c .letters ≤ length (t .letters)) where
+            has-room : hasRoom c t ≡ true
+            has-room = rw (sym f-is, f-true, sym g-is, g-true, le-leb _ _ enough)
+
+            kinds : List ℕ
+            kinds = gather (lettersHere 2) s 0 ++ gather (lettersHere 3) s 0
+
+            kinds-are : lettersOf (jobOf s) ≡ kinds
+            unfolding jobOf kinds
+            kinds-are = rw (letters-of-variants s 0, letters-of-parts s 0)
+
+            pub letters-fit : length (gather (lettersHere 2) s 0 ++ gather (lettersHere 3) s 0) ≤ length (t .letters)
+            unfolding countsOf kinds
+            letters-fit =
+                let h : c .letters ≡ length (lettersOf (jobOf s)) = ap (λ (d : Counts). d .letters) are in
+                let g : length (lettersOf (jobOf s)) ≡ length kinds = ap length kinds-are in
+                omega (arith, h, g, enough)
+
+            module _ (u : Lent) (vs : rows (u .starts) (u .ends) (u .sizes) (u .negatives) (u .counts)
+                ≡ stores putRow (rows (t .starts) (t .ends) (t .sizes) (t .negatives) (t .counts)) 0 (gather variantHere s 0))
+                (ps : partRows (u .partSizes) (u .partNegatives) (u .partCounts)
+                ≡ stores putPart (partRows (t .partSizes) (t .partNegatives) (t .partCounts)) 0 (gather partHere s 0))
+                (ls : u .letters ≡ stores set (t .letters) 0 (gather (lettersHere 2) s 0 ++ gather (lettersHere 3) s 0)) where
+              laid-job : u ≡ lentWith (jobOf s) t
+              unfolding lentWith jobOf countsOf kinds
+              laid-job =
+                  let xs : List Variant = gather variantHere s 0 in
+                  let ys : List Part = gather partHere s 0 in
+                  let t5 : Rows = rows (t .starts) (t .ends) (t .sizes) (t .negatives) (t .counts) in
+                  let u5 : Rows = rows (u .starts) (u .ends) (u .sizes) (u .negatives) (u .counts) in
+                  let t3 : PartRows = partRows (t .partSizes) (t .partNegatives) (t .partCounts) in
+                  let u3 : PartRows = partRows (u .partSizes) (u .partNegatives) (u .partCounts) in
+                  let n : c .variants ≡ length xs = ap (λ (d : Counts). d .variants) are in
+                  let m : c .parts ≡ length ys = ap (λ (d : Counts). d .parts) are in
+                  let r : RowsFit (length xs) t = subst (λ (k : ℕ). RowsFit k t) n (rows-fit (c .variants) t (sym f-is ∙ f-true)) in
+                  let p : PartsFit (length ys) t = subst (λ (k : ℕ). PartsFit k t) m (parts-fit (c .parts) t (sym g-is ∙ g-true)) in
+                  let e1 = front putRow (λ (w : Rows). w .starts) (λ (x : Variant). x .start) (λ (w : Rows) (i : ℕ) (x : Variant). refl) t5 u5 xs (r .starts) vs in
+                  let e2 = front putRow (λ (w : Rows). w .ends) (λ (x : Variant). x .end) (λ (w : Rows) (i : ℕ) (x : Variant). refl) t5 u5 xs (r .ends) vs in
+                  let e3 = front putRow (λ (w : Rows). w .sizes) (λ (x : Variant). x .size) (λ (w : Rows) (i : ℕ) (x : Variant). refl) t5 u5 xs (r .sizes) vs in
+                  let e4 = front putRow (λ (w : Rows). w .negatives) (λ (x : Variant). x .negative) (λ (w : Rows) (i : ℕ) (x : Variant). refl) t5 u5 xs (r .negatives) vs in
+                  let e5 = front putRow (λ (w : Rows). w .counts) (λ (x : Variant). length (x .letters)) (λ (w : Rows) (i : ℕ) (x : Variant). refl) t5 u5 xs (r .counts) vs in
+                  let e6 = front putPart (λ (w : PartRows). w .sizes) (λ (x : Part). x .size) (λ (w : PartRows) (i : ℕ) (x : Part). refl) t3 u3 ys (p .sizes) ps in
+                  let e7 = front putPart (λ (w : PartRows). w .negatives) (λ (x : Part). x .negative) (λ (w : PartRows) (i : ℕ) (x : Part). refl) t3 u3 ys (p .negatives) ps in
+                  let e8 = front putPart (λ (w : PartRows). w .counts) (λ (x : Part). length (x .letters)) (λ (w : PartRows) (i : ℕ) (x : Part). refl) t3 u3 ys (p .counts) ps in
+                  let e9 : u .letters ≡ placed (t .letters) (lettersOf (jobOf s)) =
+                      ls ∙ laid (t .letters) kinds letters-fit ∙ ap (placed (t .letters)) (sym kinds-are) in
+                  λ i. record { starts = e1 i; ends = e2 i; sizes = e3 i; negatives = e4 i; counts = e5 i; partSizes = e6 i; partNegatives = e7 i; partCounts = e8 i; letters = e9 i }
+
+              pub read-job : (head : Settings) → head ≡ settingsOf (take (length s - 1) (drop 1 s))
+                  → (Given head c ≡ readingOf (readJob s) t) × (u ≡ lentAfter (readJob s) t)
+              read-job head h =
+                  let x : take (length s - 1) (drop 1 s) ≡ drop 1 s = take-all (length s - 1) (drop 1 s) (simp length-drop (omega arith)) in
+                  (sym (reading-at ∙ rw has-room (ap (λ (y : Settings). Given y c) (sym (h ∙ ap settingsOf x)))), laid-job ∙ sym (lent-at ∙ rw has-room))
