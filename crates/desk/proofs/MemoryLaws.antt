@@ -1,15 +1,15 @@
 -- A job that fits is read whole: the fronts of the program's arrays are its lists, the rows counted from its letters are its features.
 use Prim.Native.Nat.{ℕ, zero, suc, _+_, _*_, _^_, _≤_, _<_}
 use native.Mathlib.Omega.{arith}
-use native.Mathlib.Nat.{mul-le-mul-right}
+use native.Mathlib.Nat.{mul-le-mul-right, zero-add}
 use mathlib.Core.Path.{_≡_, refl, sym, ap, subst, _∙_}
 use mathlib.Core.Bool.{Bool, true, false, cond, _||_, _&&_}
 use mathlib.Core.List.{List, [], _∷_, _++_, map, append-assoc}
 use lib.Dec.{ltb, leb}
-use lib.IntN.{ℤ}
-use lib.ListN.{length, take, drop, length-append, length-map, length-drop}
+use lib.IntN.{ℤ, pos}
+use lib.ListN.{length, take, drop, replicate, length-append, length-map, length-drop}
 use lib.Seq.{take-at, drop-at}
-use borrow.Author.Tests.{lt-ltb, le-ltb, le-leb}
+use borrow.Author.Tests.{ltb-true, lt-ltb, le-ltb, le-leb}
 use Rattle.metrics.specs.Letters.{countsOf}
 use Rattle.kplib.specs.declared.graphparams.Settings.{Settings}
 use Rattle.kplib.specs.Numbers.{Table, Parts, tableOf, partsOf}
@@ -23,17 +23,48 @@ use Rattle.job.specs.Job.{Variant, Part, Job, Read, Faulty, Held, readJob, jobO
 use Rattle.job.specs.Reading.{Lent, lent, variantLetters, partLetters, lettersOf, five, three, hasRoom, placed, lentWith, readingOf, lentAfter}
 use Rattle.job.specs.Reading.{countsOf as countsOfJob}
 use Rattle.job.specs.Writing.{sum}
+use Rattle.job.proofs.LetterLaws.{letters-within}
 use Rattle.desk.specs.Text.{refusedText}
-use Rattle.desk.specs.Desk.{variantFeatures, partFeatures, tableOfJob, partsOfJob, tooLarge, jobText, readText}
-use Rattle.desk.specs.Rows.{rowsFrom, RowsFit}
-use Rattle.desk.specs.Memory.{tableFrom, partsFrom, searchText, memoryText, Fits, Holds}
+use Rattle.desk.specs.Desk.{variantFeatures, partFeatures, tableOfJob, partsOfJob, answerText, tooLarge, jobText, readText}
+use Rattle.desk.specs.Rows.{rowsFrom, RowsFit, Counted}
+use Rattle.desk.proofs.AnswerLaws.{refused-k-zero}
+use Rattle.desk.specs.Memory.{tableFrom, partsFrom, searchText, memoryText, cut, loadedText, Fits, Loaded, Holds}
 
--- rows for at most n sequences of at most 256 entries fit a table of n × 256
-rows-room : (n most width : ℕ) → n ≤ most → width ≤ 256 → n * width ≤ most * 256
-rows-room n most width h w =
-    let a : n * width ≤ most * width = mul-le-mul-right width h in
-    let b : width * most ≤ 256 * most = mul-le-mul-right most w in
-    ?
+-- the rows of 16 variants and of 8 parts fit their tables
+variant-room : (n width : ℕ) → n ≤ 16 → width ≤ 256 → n * width ≤ 4096
+variant-room n width h w = let a : n * width ≤ 16 * width = mul-le-mul-right width h in omega arith
+
+part-room : (n width : ℕ) → n ≤ 8 → width ≤ 256 → n * width ≤ 2048
+part-room n width h w = let a : n * width ≤ 8 * width = mul-le-mul-right width h in omega arith
+
+module _ (k width : ℕ) (t : Lent) (fits : Fits k t) (is : width ≡ 4 ^ k) (small : width ≤ 256) where
+  pub variants-end : length (t .counts) * width ≤ 4096
+  variants-end = variant-room (length (t .counts)) width (fits .variants) small
+
+  pub parts-end : length (t .partCounts) * width ≤ 2048
+  parts-end = part-room (length (t .partCounts)) width (fits .parts) small
+
+  pub variants-fit : (table : List ℤ) → 4096 ≡ length table → RowsFit k width (t .negatives) (t .counts) (t .letters) 0 table
+  variants-fit table e =
+      let a = variants-end in
+      let b = fits .letters-end in
+      record { k-low = fits .k-low; k-high = fits .k-high; width-is = is; alike = fits .alike; letters-end = omega arith; few = fits .few; table-end = omega arith }
+
+  pub parts-fit : (table : List ℤ) → 2048 ≡ length table → (next : ℕ) → next ≡ 0 + sum (t .counts) → RowsFit k width (t .partNegatives) (t .partCounts) (t .letters) next table
+  parts-fit table e next n =
+      let a = parts-end in
+      let b = fits .letters-end in
+      record { k-low = fits .k-low; k-high = fits .k-high; width-is = is; alike = fits .part-alike; letters-end = omega arith; few = fits .few; table-end = omega arith }
+
+-- the text of a search over the counted rows
+pub counted-text : (s : Settings) (t : Lent) (width next end : ℕ) (old new part-old part-new : List ℤ) →
+    Counted (s .k) width (t .negatives) (t .counts) (t .letters) 0 next old new →
+    Counted (s .k) width (t .partNegatives) (t .partCounts) (t .letters) next end part-old part-new →
+    searchText s (tableOf (t .starts) (t .ends) (t .sizes) (take (length (t .counts) * width) new)) (partsOf (t .partSizes) (take (length (t .partCounts) * width) part-new)) ≡ memoryText s t
+unfolding memoryText
+counted-text s t width next end old new part-old part-new a b =
+    let n : next ≡ sum (t .counts) = a .next ∙ zero-add (sum (t .counts)) in
+    rw (a .front, b .front, n)
 
 take-placed : {A : Type 0} (old new : List A) (n : ℕ) → length new ≡ n → take n (placed old new) ≡ new
 take-placed old new n e = take-at new (drop (length new) old) n e
@@ -117,6 +148,44 @@ module _ (job : Job) (more : List ℕ) where
         few = l;
       }
 
+-- which text a loaded job has
+module _ (s : Settings) (v m : ℕ) (t : Lent) where
+  pub load-k : 4 < s .k → refusedText 26 ≡ loadedText s v m t
+  unfolding loadedText
+  load-k h = simp (lt-ltb _ _ h)
+
+  module _ (k : s .k ≤ 4) where
+    pub load-paths : 63 < s .maxpaths → refusedText 26 ≡ loadedText s v m t
+    unfolding loadedText
+    load-paths h = simp (le-ltb _ _ k, lt-ltb _ _ h)
+
+    module _ (paths : s .maxpaths ≤ 63) where
+      pub load-zero : s .k < 1 → refusedText 1 ≡ loadedText s v m t
+      unfolding loadedText
+      load-zero h = simp (le-ltb _ _ k, le-ltb _ _ paths, lt-ltb _ _ h)
+
+      pub load-search : 1 ≤ s .k → memoryText s (cut v m t) ≡ loadedText s v m t
+      unfolding loadedText
+      load-search h = simp (le-ltb _ _ k, le-ltb _ _ paths, le-ltb _ _ h)
+
+-- the limits in two orders
+by-limits : {A : Type 0} (k-over paths-over k-zero : Bool) (large one found text : A) → (k-zero ≡ true → one ≡ text) → found ≡ text →
+    cond k-over large (cond paths-over large (cond k-zero one found)) ≡ cond (k-over || paths-over) large text
+by-limits true paths-over k-zero large one found text z h = refl
+by-limits false true k-zero large one found text z h = refl
+by-limits false false true large one found text z h = z refl
+by-limits false false false large one found text z h = h
+
+-- k 0 is refused by 1
+zero-text : (job : Job) → job .settings .k < 1 → refusedText 1 ≡ jobText job
+unfolding jobText answerText
+zero-text job h =
+    let e : job .settings .k ≡ 0 = omega arith in
+    rw (refused-k-zero (job .settings) (tableOfJob job) (partsOfJob job) 1025 16 e)
+
+placed-long : {A : Type 0} (old new : List A) (n : ℕ) → n ≡ length new → n ≤ length (placed old new)
+placed-long old new n e = rw length-append (omega arith)
+
 -- the program's arrays
 pub record Room (t : Lent) : Type 0 where
   pub starts : length (t .starts) ≡ 16
@@ -129,9 +198,13 @@ pub record Room (t : Lent) : Type 0 where
   pub partCounts : length (t .partCounts) ≡ 8
   pub letters : length (t .letters) ≡ 32768
 
--- the first pass counts the letters that the job has
-letters-counted : (input : List ℕ) (job : Job) → readJob input ≡ Held job → length (lettersOf job) ≤ length input
-letters-counted input job e = ?
+-- the arrays before a job is read
+abbrev pub emptyWith : List ℕ → Lent
+emptyWith letters = lent (replicate 16 0) (replicate 16 0) (replicate 16 (pos 0)) (replicate 16 false) (replicate 16 0)
+    (replicate 8 (pos 0)) (replicate 8 false) (replicate 8 0) letters
+
+pub empty-room : (letters : List ℕ) → 32768 ≡ length letters → Room (emptyWith letters)
+empty-room letters e = record { starts = refl; ends = refl; sizes = refl; negatives = refl; counts = refl; partSizes = refl; partNegatives = refl; partCounts = refl; letters = sym e }
 
 module _ (input : List ℕ) (holds : Holds input) (t : Lent) (room : Room t) where
   abbrev theJob : Job
@@ -140,7 +213,7 @@ module _ (input : List ℕ) (holds : Holds input) (t : Lent) (room : Room t) whe
   has-room : hasRoom (countsOfJob theJob) t ≡ true
   unfolding five three countsOfJob
   has-room =
-      let l = letters-counted input theJob (holds .held) in
+      let l = letters-within input theJob (holds .held) in
       let s = holds .short in
       let few : length (lettersOf theJob) ≤ 32768 = omega arith in
       rw (room .starts, room .ends, room .sizes, room .negatives, room .counts, room .partSizes, room .partNegatives, room .partCounts, room .letters)
@@ -179,10 +252,66 @@ module _ (input : List ℕ) (holds : Holds input) (t : Lent) (room : Room t) whe
     unfolding countsOfJob
     parts-are = ap (λ (x : Counts). x .parts) counts-are
 
+    variant-length : {A : Type 0} (f : Variant → A) → length (map f (theJob .variants)) ≡ c .variants
+    variant-length f = length-map (theJob .variants) f ∙ sym variants-are
+
+    part-length : {A : Type 0} (f : Part → A) → length (map f (theJob .parts)) ≡ c .parts
+    part-length f = length-map (theJob .parts) f ∙ sym parts-are
+
     module _ (u : Lent) (after : u ≡ lentAfter (readJob input) t) where
-      rest : List ℕ
+      abbrev rest : List ℕ
       rest = drop (length (lettersOf theJob)) (t .letters)
 
-      cut-is : cut (c .variants) (c .parts) u ≡ heldIn theJob (drop (length (lettersOf theJob)) (t .letters))
+      u-is : u ≡ lentWith theJob t
+      u-is = after ∙ lent-is
+
+      cut-with : cut (c .variants) (c .parts) (lentWith theJob t) ≡ heldIn theJob rest
       unfolding heldIn lentWith
-      cut-is = ?
+      cut-with =
+          rw (take-placed (t .starts) (map (λ (x : Variant). x .start) (theJob .variants)) (c .variants) (variant-length (λ (x : Variant). x .start)),
+          take-placed (t .ends) (map (λ (x : Variant). x .end) (theJob .variants)) (c .variants) (variant-length (λ (x : Variant). x .end)),
+          take-placed (t .sizes) (map (λ (x : Variant). x .size) (theJob .variants)) (c .variants) (variant-length (λ (x : Variant). x .size)),
+          take-placed (t .negatives) (map (λ (x : Variant). x .negative) (theJob .variants)) (c .variants) (variant-length (λ (x : Variant). x .negative)),
+          take-placed (t .counts) (map (λ (x : Variant). length (x .letters)) (theJob .variants)) (c .variants) (variant-length (λ (x : Variant). length (x .letters))),
+          take-placed (t .partSizes) (map (λ (x : Part). x .size) (theJob .parts)) (c .parts) (part-length (λ (x : Part). x .size)),
+          take-placed (t .partNegatives) (map (λ (x : Part). x .negative) (theJob .parts)) (c .parts) (part-length (λ (x : Part). x .negative)),
+          take-placed (t .partCounts) (map (λ (x : Part). length (x .letters)) (theJob .parts)) (c .parts) (part-length (λ (x : Part). length (x .letters))))
+
+      cut-is : cut (c .variants) (c .parts) u ≡ heldIn theJob rest
+      cut-is = ap (cut (c .variants) (c .parts)) u-is ∙ cut-with
+
+      letters-few : length (lettersOf theJob ++ rest) ≤ 32768
+      letters-few =
+          let l = letters-within input theJob (holds .held) in
+          let h = holds .short in
+          let r = room .letters in
+          rw (length-append, length-drop) (omega arith)
+
+      pub loaded : Loaded s (c .variants) (c .parts) u
+      unfolding lentWith
+      loaded =
+          let v = variants-are in
+          let p = parts-are in
+          let few : (k : ℕ) → k ≡ theJob .settings .k → 1 ≤ k → k ≤ 4 → Fits k (cut (c .variants) (c .parts) (lentWith theJob t)) =
+              λ k e low high. rw (e, cut-with) (fits-held theJob rest (rw e at low) (rw e at high) (holds .variants) (holds .parts) letters-few) in
+          rw u-is record {
+            starts = placed-long (t .starts) (map (λ (x : Variant). x .start) (theJob .variants)) (c .variants) (simp length-map v);
+            ends = placed-long (t .ends) (map (λ (x : Variant). x .end) (theJob .variants)) (c .variants) (simp length-map v);
+            sizes = placed-long (t .sizes) (map (λ (x : Variant). x .size) (theJob .variants)) (c .variants) (simp length-map v);
+            negatives = placed-long (t .negatives) (map (λ (x : Variant). x .negative) (theJob .variants)) (c .variants) (simp length-map v);
+            counts = placed-long (t .counts) (map (λ (x : Variant). length (x .letters)) (theJob .variants)) (c .variants) (simp length-map v);
+            part-sizes = placed-long (t .partSizes) (map (λ (x : Part). x .size) (theJob .parts)) (c .parts) (simp length-map p);
+            part-negatives = placed-long (t .partNegatives) (map (λ (x : Part). x .negative) (theJob .parts)) (c .parts) (simp length-map p);
+            part-counts = placed-long (t .partCounts) (map (λ (x : Part). length (x .letters)) (theJob .parts)) (c .parts) (simp length-map p);
+            fits = few (s .k) (ap (λ (x : Settings). x .k) settings-are);
+          }
+
+      pub loaded-text : loadedText s (c .variants) (c .parts) u ≡ readText (readJob input)
+      unfolding loadedText readText tooLarge
+      loaded-text =
+          let k = theJob .settings .k in
+          let paths = theJob .settings .maxpaths in
+          rw (settings-are, holds .held, le-ltb 16 (length (theJob .variants)) (holds .variants), le-ltb 8 (length (theJob .parts)) (holds .parts))
+          (by-limits (ltb 4 k) (ltb 63 paths) (ltb k 1) (refusedText 26) (refusedText 1) (memoryText (theJob .settings) (cut (c .variants) (c .parts) u)) (jobText theJob)
+          (λ h. zero-text theJob (ltb-true k 1 h))
+          (ap (memoryText (theJob .settings)) cut-is ∙ text-held theJob rest))

@@ -32,6 +32,10 @@ put-then {a} {b} {t} {u} {w} {i} {r} {q} {xs} {ys} p s =
 pub put-wide : {a : ℕ} (b : ℕ) {t u : List ℕ} {i r : ℕ} {xs : List ℕ} → Put a t u i r xs → a ≤ b → Put b t u i r xs
 put-wide {a} b {t} {u} {i} {r} {xs} p h = record { is = p .is; next = p .next; short = let f = p .short in omega arith; kept = p .kept }
 
+-- the same bytes under another name, in more room
+pub put-as : {a : ℕ} (b : ℕ) {t u : List ℕ} {i r : ℕ} {xs ys : List ℕ} → Put a t u i r xs → xs ≡ ys → a ≤ b → Put b t u i r ys
+put-as {a} b {t} {u} {i} {r} {xs} {ys} p e h = subst (λ (l : List ℕ). Put b t u i r l) e (put-wide b p h)
+
 pub put-none : (t : List ℕ) (i a : ℕ) → Put a t t i i []
 put-none t i a = record { is = refl; next = sym (add-zero i); short = omega arith; kept = refl }
 

@@ -1,3 +1,11 @@
+-- Each table has room for its rows; the rows counted are those that the text names.
+use native.Mathlib.Omega.{arith}
+use denote.Ref.{now}
+use mathlib.Core.Path.{sym}
+use lib.Seq.{length-take-le}
+use Rattle.job.specs.Reading.{lent}
+use Rattle.desk.proofs.PieceLaws.{put-as}
+use Rattle.desk.proofs.MemoryLaws.{variants-end, parts-end, variants-fit, parts-fit, counted-text}
 use borrow.Author.Needs.{needs}
 use Rattle.desk.proofs.memory.count_and_search.Statement.{statement}
 use Rattle.desk.proofs.memory.count_and_search.Tie as tie
@@ -9,69 +17,103 @@ use Rattle.desk.proofs.memory.search.Reads as search-reads
 use Rattle.desk.proofs.room.part_table.Reads as part-table-reads
 use Rattle.desk.proofs.room.variant_table.Reads as variant-table-reads
 
--- src/memory.rt:95:9
 entries-requires : tie.Need-entries-requires
 entries-requires c κs = search needs
 
--- src/memory.rt:96:24
 variant-table-requires : tie.Need-variant-table-requires
 variant-table-requires c κs = search needs
 
--- src/memory.rt:97:29
 part-table-requires : tie.Need-part-table-requires
 part-table-requires c κs = search needs
 
--- src/memory.rt:98:70
 slice-aggregate-count-rows : tie.Need-slice-aggregate-count-rows
 slice-aggregate-count-rows c = search needs
 
--- src/memory.rt:98:9
 count-rows-requires : tie.Need-count-rows-requires
-count-rows-requires c κs = ?
+count-rows-requires c κs =
+    let s = c .before .before .before .before .before .before .before .before .before .before .before .before in
+    let t = (lent (now (s .args .starts)) (now (s .args .ends)) (now (s .args .sizes)) (now (s .args .negatives)) (now (s .args .counts)) (now (s .args .part-sizes)) (now (s .args .part-negatives)) (now (s .args .part-counts)) (now (s .args .letters))) in
+    let e = c .before .before .before .entries in
+    variants-fit (s .args .s .k) (e .result) t (s .pre .0) (e .ensures .0) (e .ensures .1) (c .before .before .variant-table .result) (c .before .before .variant-table .ensures)
 
--- src/memory.rt:99:72
 slice-aggregate-count-rows-2 : tie.Need-slice-aggregate-count-rows-2
 slice-aggregate-count-rows-2 c = search needs
 
--- src/memory.rt:99:5
 count-rows-requires-2 : tie.Need-count-rows-requires-2
-count-rows-requires-2 c κs = ?
+count-rows-requires-2 c κs =
+    let s = c .before .before .before .before .before .before .before .before .before .before .before .before .before .before .before in
+    let t = (lent (now (s .args .starts)) (now (s .args .ends)) (now (s .args .sizes)) (now (s .args .negatives)) (now (s .args .counts)) (now (s .args .part-sizes)) (now (s .args .part-negatives)) (now (s .args .part-counts)) (now (s .args .letters))) in
+    let e = c .before .before .before .before .before .before .entries in
+    parts-fit (s .args .s .k) (e .result) t (s .pre .0) (e .ensures .0) (e .ensures .1) (c .before .before .before .before .part-table .result) (c .before .before .before .before .part-table .ensures) (c .before .before .count-rows .result) (c .before .before .count-rows .ensures .next)
 
--- src/memory.rt:100:13
 mul-v : tie.Need-mul-v
-mul-v c = ?
+mul-v c =
+    let s = c .before .before .before .before .before .before .before .before .before .before .before .before .before .before .before .before .before in
+    let t = (lent (now (s .args .starts)) (now (s .args .ends)) (now (s .args .sizes)) (now (s .args .negatives)) (now (s .args .counts)) (now (s .args .part-sizes)) (now (s .args .part-negatives)) (now (s .args .part-counts)) (now (s .args .letters))) in
+    let e = c .before .before .before .before .before .before .before .before .entries in
+    let h = variants-end (s .args .s .k) (e .result) t (s .pre .0) (e .ensures .0) (e .ensures .1) in
+    omega arith
 
--- src/memory.rt:101:13
 mul-m : tie.Need-mul-m
-mul-m c = ?
+mul-m c =
+    let s = c .before .before .before .before .before .before .before .before .before .before .before .before .before .before .before .before .before in
+    let t = (lent (now (s .args .starts)) (now (s .args .ends)) (now (s .args .sizes)) (now (s .args .negatives)) (now (s .args .counts)) (now (s .args .part-sizes)) (now (s .args .part-negatives)) (now (s .args .part-counts)) (now (s .args .letters))) in
+    let e = c .before .before .before .before .before .before .before .before .entries in
+    let h = parts-end (s .args .s .k) (e .result) t (s .pre .0) (e .ensures .0) (e .ensures .1) in
+    omega arith
 
--- src/memory.rt:102:36
 array-share-prefix-features : tie.Need-array-share-prefix-features
-array-share-prefix-features c = ?
+array-share-prefix-features c =
+    let s = c .before .before .before .before .before .before .before .before .before .before .before .before .before .before .before .before .before in
+    let t = (lent (now (s .args .starts)) (now (s .args .ends)) (now (s .args .sizes)) (now (s .args .negatives)) (now (s .args .counts)) (now (s .args .part-sizes)) (now (s .args .part-negatives)) (now (s .args .part-counts)) (now (s .args .letters))) in
+    let e = c .before .before .before .before .before .before .before .before .entries in
+    let h = variants-end (s .args .s .k) (e .result) t (s .pre .0) (e .ensures .0) (e .ensures .1) in
+    let k = c .before .before .before .before .count-rows .ensures .kept in
+    let l = c .before .before .before .before .before .before .before .variant-table .ensures in
+    omega arith
 
--- src/memory.rt:102:36
 slice-aggregate-search : tie.Need-slice-aggregate-search
-slice-aggregate-search c = ?
+slice-aggregate-search c =
+    let s = c .before .before .before .before .before .before .before .before .before .before .before .before .before .before .before .before .before .before in
+    let t = (lent (now (s .args .starts)) (now (s .args .ends)) (now (s .args .sizes)) (now (s .args .negatives)) (now (s .args .counts)) (now (s .args .part-sizes)) (now (s .args .part-negatives)) (now (s .args .part-counts)) (now (s .args .letters))) in
+    let e = c .before .before .before .before .before .before .before .before .before .entries in
+    let h = variants-end (s .args .s .k) (e .result) t (s .pre .0) (e .ensures .0) (e .ensures .1) in
+    let k = c .before .before .before .before .before .count-rows .ensures .kept in
+    let l = c .before .before .before .before .before .before .before .before .variant-table .ensures in
+    sym (length-take-le _ _ (omega arith))
 
--- src/memory.rt:102:64
 array-share-prefix-part-features : tie.Need-array-share-prefix-part-features
-array-share-prefix-part-features c = ?
+array-share-prefix-part-features c =
+    let s = c .before .before .before .before .before .before .before .before .before .before .before .before .before .before .before .before .before .before in
+    let t = (lent (now (s .args .starts)) (now (s .args .ends)) (now (s .args .sizes)) (now (s .args .negatives)) (now (s .args .counts)) (now (s .args .part-sizes)) (now (s .args .part-negatives)) (now (s .args .part-counts)) (now (s .args .letters))) in
+    let e = c .before .before .before .before .before .before .before .before .before .entries in
+    let h = parts-end (s .args .s .k) (e .result) t (s .pre .0) (e .ensures .0) (e .ensures .1) in
+    let k = c .before .before .count-rows2 .ensures .kept in
+    let l = c .before .before .before .before .before .before .before .part-table .ensures in
+    omega arith
 
--- src/memory.rt:102:64
 slice-aggregate-search-2 : tie.Need-slice-aggregate-search-2
-slice-aggregate-search-2 c = ?
+slice-aggregate-search-2 c =
+    let s = c .before .before .before .before .before .before .before .before .before .before .before .before .before .before .before .before .before .before .before in
+    let t = (lent (now (s .args .starts)) (now (s .args .ends)) (now (s .args .sizes)) (now (s .args .negatives)) (now (s .args .counts)) (now (s .args .part-sizes)) (now (s .args .part-negatives)) (now (s .args .part-counts)) (now (s .args .letters))) in
+    let e = c .before .before .before .before .before .before .before .before .before .before .entries in
+    let h = parts-end (s .args .s .k) (e .result) t (s .pre .0) (e .ensures .0) (e .ensures .1) in
+    let k = c .before .before .before .count-rows2 .ensures .kept in
+    let l = c .before .before .before .before .before .before .before .before .part-table .ensures in
+    sym (length-take-le _ _ (omega arith))
 
--- src/memory.rt:102:5
 search-requires : tie.Need-search-requires
 search-requires c κs = search needs
 
--- src/memory.rt:76:1
 same-length : tie.Need-same-length
 same-length c = search needs
 
--- src/memory.rt:76:1
 returns : tie.Need-returns
-returns c = ?
+returns c =
+    let s = c .before .before .before .before .before .before .before .before .before .before .before .before .before .before .before .before .before .before .before .before .before .before .before in
+    let t = (lent (now (s .args .starts)) (now (s .args .ends)) (now (s .args .sizes)) (now (s .args .negatives)) (now (s .args .counts)) (now (s .args .part-sizes)) (now (s .args .part-negatives)) (now (s .args .part-counts)) (now (s .args .letters))) in
+    let e = c .before .before .before .before .before .before .before .before .before .before .before .before .before .before .entries in
+    put-as 281 (c .before .before .search .ensures) (counted-text (s .args .s) t (e .result) (c .before .before .before .before .before .before .before .before .before .before .count-rows .result) (c .before .before .before .before .before .before .before .count-rows2 .result) _ _ _ _ (c .before .before .before .before .before .before .before .before .before .before .count-rows .ensures) (c .before .before .before .before .before .before .before .count-rows2 .ensures)) (omega arith)
 
 pub count-and-search-spec : {M : Type 1} → statement M
 count-and-search-spec =

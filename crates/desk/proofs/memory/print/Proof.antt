@@ -1,3 +1,11 @@
+-- A refusal is its line, any other answer its seven lines.
+use native.Mathlib.Omega.{arith}
+use denote.Ref.{now}
+use mathlib.Core.Path.{sym}
+use lib.ListN.{take}
+use lib.Seq.{length-take-le}
+use Rattle.desk.proofs.PieceLaws.{put-as}
+use Rattle.desk.proofs.DeskLaws.{text-refused, text-accepted}
 use borrow.Author.Needs.{needs}
 use Rattle.desk.proofs.memory.print.Statement.{statement}
 use Rattle.desk.proofs.memory.print.Tie as tie
@@ -6,37 +14,38 @@ use Rattle.desk.proofs.memory.print.Lts as lts
 use Rattle.desk.proofs.text.put_answer.Reads as put-answer-reads
 use Rattle.desk.proofs.text.put_refused.Reads as put-refused-reads
 
--- src/memory.rt:29:9
 put-refused-requires : tie.Need-put-refused-requires
 put-refused-requires c κs = search needs
 
--- src/memory.rt:29:9
 same-length : tie.Need-same-length
 same-length c = search needs
 
--- src/memory.rt:29:9
 returns : tie.Need-returns
-returns c = ?
+returns c =
+    let s = c .before .before .before .before .before .before .before .before in
+    put-as 281 (c .before .before .put-refused .ensures) (text-refused (s .args .a) (take (s .args .a .rows) (now (s .args .rows))) (c .before .before .before .before .if1 .taken)) (omega arith)
 
--- src/memory.rt:31:13
 cast-n : tie.Need-cast-n
 cast-n c = search needs
 
--- src/memory.rt:32:21
 slice-aggregate-put-answer : tie.Need-slice-aggregate-put-answer
-slice-aggregate-put-answer c = ?
+slice-aggregate-put-answer c =
+    let s = c .before .before .before .before .before .before .before in
+    sym (length-take-le (s .args .a .rows) (now (s .args .rows)) (s .pre .0))
 
--- src/memory.rt:32:5
 put-answer-requires : tie.Need-put-answer-requires
-put-answer-requires c κs = ?
+put-answer-requires c κs =
+    let s = c .before .before .before .before .before .before .before in
+    let e = length-take-le (s .args .a .rows) (now (s .args .rows)) (s .pre .0) in
+    (omega arith, omega arith)
 
--- src/memory.rt:24:1
 same-length-2 : tie.Need-same-length-2
 same-length-2 c = search needs
 
--- src/memory.rt:24:1
 returns-2 : tie.Need-returns-2
-returns-2 c = ?
+returns-2 c =
+    let s = c .before .before .before .before .before .before .before .before .before .before in
+    put-as 281 (c .before .before .put-answer .ensures) (text-accepted (s .args .a) (take (s .args .a .rows) (now (s .args .rows))) (c .before .before .before .before .before .before .if1 .left)) (omega arith)
 
 pub print-spec : {M : Type 1} → statement M
 print-spec =

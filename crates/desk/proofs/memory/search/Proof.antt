@@ -1,3 +1,11 @@
+-- The search has the room that the text names, and its rows are the answer's rows.
+use native.Mathlib.Omega.{arith}
+use denote.Ref.{now}
+use mathlib.Core.Path.{refl}
+use lib.ListN.{replicate}
+use Rattle.kplib.specs.Numbers.{tableOf, partsOf}
+use Rattle.desk.proofs.PieceLaws.{put-as}
+use Rattle.desk.proofs.AnswerLaws.{answer-few, answer-text}
 use borrow.Author.Needs.{needs}
 use Rattle.desk.proofs.memory.search.Statement.{statement}
 use Rattle.desk.proofs.memory.search.Tie as tie
@@ -8,53 +16,46 @@ use Rattle.desk.proofs.room.key_room.Reads as key-room-reads
 use Rattle.desk.proofs.room.queue_room.Reads as queue-room-reads
 use Rattle.kplib.proofs.traverse.apply_haplotype.Reads as apply-haplotype-reads
 
--- src/memory.rt:55:23
 queue-room-requires : tie.Need-queue-room-requires
 queue-room-requires c κs = search needs
 
--- src/memory.rt:56:25
 queue-room-requires-2 : tie.Need-queue-room-requires-2
 queue-room-requires-2 c κs = search needs
 
--- src/memory.rt:57:20
 key-room-requires : tie.Need-key-room-requires
 key-room-requires c κs = search needs
 
--- src/memory.rt:67:9
 slice-aggregate-apply-haplotype : tie.Need-slice-aggregate-apply-haplotype
 slice-aggregate-apply-haplotype c = search needs
 
--- src/memory.rt:68:9
 slice-aggregate-apply-haplotype-2 : tie.Need-slice-aggregate-apply-haplotype-2
 slice-aggregate-apply-haplotype-2 c = search needs
 
--- src/memory.rt:69:9
 slice-aggregate-apply-haplotype-3 : tie.Need-slice-aggregate-apply-haplotype-3
 slice-aggregate-apply-haplotype-3 c = search needs
 
--- src/memory.rt:70:9
 slice-aggregate-apply-haplotype-4 : tie.Need-slice-aggregate-apply-haplotype-4
 slice-aggregate-apply-haplotype-4 c = search needs
 
--- src/memory.rt:59:9
 apply-haplotype-requires : tie.Need-apply-haplotype-requires
 apply-haplotype-requires c κs = ?
 
--- src/memory.rt:72:14
 slice-aggregate-print : tie.Need-slice-aggregate-print
 slice-aggregate-print c = search needs
 
--- src/memory.rt:72:5
 print-requires : tie.Need-print-requires
-print-requires c κs = ?
+print-requires c κs =
+    let s = c .before .before .before .before .before .before .before .before .before .before .before .before .before .before .before .before .before in
+    let few = answer-few (s .args .s) (tableOf (now (s .args .starts)) (now (s .args .ends)) (now (s .args .sizes)) (now (s .args .features))) (partsOf (now (s .args .part-sizes)) (now (s .args .part-features))) (c .before .before .before .before .before .before .before .before .before .before .before .before .before .queue-room .result) (c .before .before .before .before .before .before .before .before .before .before .before .before .queue-room2 .result) (c .before .before .before .before .before .before .before .before .before .before .before .key-room .result) (replicate 16 0) (c .before .before .before .before .before .before .before .before .before .before .before .before .before .queue-room .ensures) (c .before .before .before .before .before .before .before .before .before .before .before .before .queue-room2 .ensures) (c .before .before .before .before .before .before .before .before .before .before .before .key-room .ensures) refl _ (c .before .before .before .before .before .before .apply-haplotype .ensures .0) in
+    (omega arith, (omega arith, omega arith))
 
--- src/memory.rt:40:1
 same-length : tie.Need-same-length
 same-length c = search needs
 
--- src/memory.rt:40:1
 returns : tie.Need-returns
-returns c = ?
+returns c =
+    let s = c .before .before .before .before .before .before .before .before .before .before .before .before .before .before .before .before .before .before .before .before in
+    put-as 281 (c .before .before .print .ensures) (answer-text (s .args .s) (tableOf (now (s .args .starts)) (now (s .args .ends)) (now (s .args .sizes)) (now (s .args .features))) (partsOf (now (s .args .part-sizes)) (now (s .args .part-features))) (c .before .before .before .before .before .before .before .before .before .before .before .before .before .before .before .before .queue-room .result) (c .before .before .before .before .before .before .before .before .before .before .before .before .before .before .before .queue-room2 .result) (c .before .before .before .before .before .before .before .before .before .before .before .before .before .before .key-room .result) (replicate 16 0) (c .before .before .before .before .before .before .before .before .before .before .before .before .before .before .before .before .queue-room .ensures) (c .before .before .before .before .before .before .before .before .before .before .before .before .before .before .before .queue-room2 .ensures) (c .before .before .before .before .before .before .before .before .before .before .before .before .before .before .key-room .ensures) refl _ (c .before .before .before .before .before .before .before .before .before .apply-haplotype .ensures .0) _ (c .before .before .before .before .before .before .before .before .before .apply-haplotype .ensures .1)) (omega arith)
 
 pub search-spec : {M : Type 1} → statement M
 search-spec =

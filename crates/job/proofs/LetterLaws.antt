@@ -8,11 +8,14 @@ use mathlib.Core.List.{List, [], _∷_}
 use lib.Dec.{leb, eqb}
 use lib.ListN.{length}
 use borrow.Author.Tests.{eqb-true, leb-true}
 use Rattle.job.specs.declared.form.State.{State}
 use Rattle.job.specs.declared.form.Counts.{Counts}
 use Rattle.job.specs.declared.form.Scan.{Scan}
 use Rattle.job.specs.declared.form.Scan.the-variants.{Good, Refused}
 use Rattle.job.specs.Form.{bodyLen, faultOf, after, counted, judge, run, start}
+use Rattle.job.specs.Job.{Job, Read, Held, readJob}
+use Rattle.job.specs.Reading.{lettersOf, countsOf, scanOf}
+use Rattle.job.proofs.CountLaws.{scan-is}
 
 -- the letters that a record adds
 owed : (t : Bool) (left : ℕ) → leb left 16 ≡ t → cond t left 16 ≤ 16
@@ -49,5 +52,11 @@ run-letters (k ∷ b) zero st c e =
         omega arith) in
     omega arith
 
-pub few-letters : (s : List ℕ) (c : Counts) → run s 0 start ≡ Good c → c .letters ≤ length s
+few-letters : (s : List ℕ) (c : Counts) → run s 0 start ≡ Good c → c .letters ≤ length s
 few-letters s c e = let h = run-letters s 0 start c e in omega arith
+
+pub letters-within : (s : List ℕ) (job : Job) → readJob s ≡ Held job → length (lettersOf job) ≤ length s
+unfolding scanOf countsOf
+letters-within s job e =
+    let good : run s 0 start ≡ Good (countsOf job) = scan-is s ∙ ap scanOf e in
+    few-letters s (countsOf job) good
