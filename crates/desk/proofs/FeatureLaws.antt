@@ -113,7 +113,7 @@ module _ (k width : ℕ) (negatives : List Bool) (counts letters : List ℕ) (fi
         let m : length rowHere ≡ 4 ^ k = row-length k (getD negatives row false) (take (getD counts row 0) (drop at letters)) in
         let g : length (take from table ++ rowHere) ≡ from + width = rw length-append (omega arith) in
         let front : take (from + width) new ≡ take from table ++ rowHere =
-            rw (e, ← append-assoc (take from table) rowHere (drop (from + width) table)) (take-at (take from table ++ rowHere) (drop (from + width) table) (from + width) g) in
+        rw (e, ← append-assoc (take from table) rowHere (drop (from + width) table)) (take-at (take from table ++ rowHere) (drop (from + width) table) (from + width) g) in
         let long : length new ≡ length table = rw (e, length-append, length-append, length-drop, l, m) (omega arith) in
         let b = suc-mul row width in
         let d = now .from-is in
@@ -139,7 +139,7 @@ module _ (k width : ℕ) (negatives : List Bool) (counts letters : List ℕ) (fi
       let no-flags : drop row negatives ≡ [] = drop-of-length-le negatives {i = row} (omega arith) in
       let f : from ≡ length counts * width = now .from-is ∙ ap (λ (n : ℕ). n * width) r in
       let w : take from table ++ [] ≡ rowsFrom k negatives counts (drop first letters) =
-          ap (λ (l : List ℤ). take from table ++ l) (sym (ap (λ (l : List Bool). rowsFrom k l (drop row counts) (drop at letters)) no-flags ∙ rows-none k (drop row counts) (drop at letters))) ∙ now .whole in
+      ap (λ (l : List ℤ). take from table ++ l) (sym (ap (λ (l : List Bool). rowsFrom k l (drop row counts) (drop at letters)) no-flags ∙ rows-none k (drop row counts) (drop at letters))) ∙ now .whole in
       let s : at + 0 ≡ first + sum counts = ap (λ (n : ℕ). at + n) (sym (ap sum no-counts ∙ sum-none)) ∙ now .letters-left in
       record {
         front = rw (← f) (sym (append-nil (take from table)) ∙ w);

@@ -88,20 +88,24 @@ variant-rows : (k : ℕ) (xs : List Variant) (more : List ℕ) →
 unfolding rowsFrom variantFeatures variantLetters
 variant-rows k [] more = refl
 variant-rows k (x ∷ xs) more =
-    rw (append-assoc (x .letters) (variantLetters xs) more,
-    take-at (x .letters) (variantLetters xs ++ more) (length (x .letters)) refl,
-    drop-at (x .letters) (variantLetters xs ++ more) (length (x .letters)) refl,
-    variant-rows k xs more)
+    rw (
+      append-assoc (x .letters) (variantLetters xs) more,
+      take-at (x .letters) (variantLetters xs ++ more) (length (x .letters)) refl,
+      drop-at (x .letters) (variantLetters xs ++ more) (length (x .letters)) refl,
+      variant-rows k xs more,
+    )
 
 part-rows : (k : ℕ) (xs : List Part) (more : List ℕ) →
     rowsFrom k (map (λ (x : Part). x .negative) xs) (map (λ (x : Part). length (x .letters)) xs) (partLetters xs ++ more) ≡ partFeatures k xs
 unfolding rowsFrom partFeatures partLetters
 part-rows k [] more = refl
 part-rows k (x ∷ xs) more =
-    rw (append-assoc (x .letters) (partLetters xs) more,
-    take-at (x .letters) (partLetters xs ++ more) (length (x .letters)) refl,
-    drop-at (x .letters) (partLetters xs ++ more) (length (x .letters)) refl,
-    part-rows k xs more)
+    rw (
+      append-assoc (x .letters) (partLetters xs) more,
+      take-at (x .letters) (partLetters xs ++ more) (length (x .letters)) refl,
+      drop-at (x .letters) (partLetters xs ++ more) (length (x .letters)) refl,
+      part-rows k xs more,
+    )
 
 variant-sum : (xs : List Variant) → sum (map (λ (x : Variant). length (x .letters)) xs) ≡ length (variantLetters xs)
 unfolding sum variantLetters
@@ -122,9 +126,12 @@ module _ (job : Job) (more : List ℕ) where
   parts-held : partsFrom (job .settings .k) (heldIn job more) ≡ partsOfJob job
   unfolding heldIn partsOfJob
   parts-held =
-      rw (append-assoc (variantLetters (job .variants)) (partLetters (job .parts)) more, variant-sum (job .variants),
-      drop-at (variantLetters (job .variants)) (partLetters (job .parts) ++ more) (length (variantLetters (job .variants))) refl,
-      part-rows (job .settings .k) (job .parts) more)
+      rw (
+        append-assoc (variantLetters (job .variants)) (partLetters (job .parts)) more,
+        variant-sum (job .variants),
+        drop-at (variantLetters (job .variants)) (partLetters (job .parts) ++ more) (length (variantLetters (job .variants))) refl,
+        part-rows (job .settings .k) (job .parts) more,
+      )
 
   pub text-held : memoryText (job .settings) (heldIn job more) ≡ jobText job
   unfolding memoryText searchText jobText
@@ -268,14 +275,16 @@ module _ (input : List ℕ) (holds : Holds input) (t : Lent) (room : Room t) whe
       cut-with : cut (c .variants) (c .parts) (lentWith theJob t) ≡ heldIn theJob rest
       unfolding heldIn lentWith
       cut-with =
-          rw (take-placed (t .starts) (map (λ (x : Variant). x .start) (theJob .variants)) (c .variants) (variant-length (λ (x : Variant). x .start)),
-          take-placed (t .ends) (map (λ (x : Variant). x .end) (theJob .variants)) (c .variants) (variant-length (λ (x : Variant). x .end)),
-          take-placed (t .sizes) (map (λ (x : Variant). x .size) (theJob .variants)) (c .variants) (variant-length (λ (x : Variant). x .size)),
-          take-placed (t .negatives) (map (λ (x : Variant). x .negative) (theJob .variants)) (c .variants) (variant-length (λ (x : Variant). x .negative)),
-          take-placed (t .counts) (map (λ (x : Variant). length (x .letters)) (theJob .variants)) (c .variants) (variant-length (λ (x : Variant). length (x .letters))),
-          take-placed (t .partSizes) (map (λ (x : Part). x .size) (theJob .parts)) (c .parts) (part-length (λ (x : Part). x .size)),
-          take-placed (t .partNegatives) (map (λ (x : Part). x .negative) (theJob .parts)) (c .parts) (part-length (λ (x : Part). x .negative)),
-          take-placed (t .partCounts) (map (λ (x : Part). length (x .letters)) (theJob .parts)) (c .parts) (part-length (λ (x : Part). length (x .letters))))
+          rw (
+            take-placed (t .starts) (map (λ (x : Variant). x .start) (theJob .variants)) (c .variants) (variant-length (λ (x : Variant). x .start)),
+            take-placed (t .ends) (map (λ (x : Variant). x .end) (theJob .variants)) (c .variants) (variant-length (λ (x : Variant). x .end)),
+            take-placed (t .sizes) (map (λ (x : Variant). x .size) (theJob .variants)) (c .variants) (variant-length (λ (x : Variant). x .size)),
+            take-placed (t .negatives) (map (λ (x : Variant). x .negative) (theJob .variants)) (c .variants) (variant-length (λ (x : Variant). x .negative)),
+            take-placed (t .counts) (map (λ (x : Variant). length (x .letters)) (theJob .variants)) (c .variants) (variant-length (λ (x : Variant). length (x .letters))),
+            take-placed (t .partSizes) (map (λ (x : Part). x .size) (theJob .parts)) (c .parts) (part-length (λ (x : Part). x .size)),
+            take-placed (t .partNegatives) (map (λ (x : Part). x .negative) (theJob .parts)) (c .parts) (part-length (λ (x : Part). x .negative)),
+            take-placed (t .partCounts) (map (λ (x : Part). length (x .letters)) (theJob .parts)) (c .parts) (part-length (λ (x : Part). length (x .letters))),
+          )
 
       cut-is : cut (c .variants) (c .parts) u ≡ heldIn theJob rest
       cut-is = ap (cut (c .variants) (c .parts)) u-is ∙ cut-with
@@ -293,7 +302,7 @@ module _ (input : List ℕ) (holds : Holds input) (t : Lent) (room : Room t) whe
           let v = variants-are in
           let p = parts-are in
           let few : (k : ℕ) → k ≡ theJob .settings .k → 1 ≤ k → k ≤ 4 → Fits k (cut (c .variants) (c .parts) (lentWith theJob t)) =
-              λ k e low high. rw (e, cut-with) (fits-held theJob rest (rw e at low) (rw e at high) (holds .variants) (holds .parts) letters-few) in
+          λ k e low high. rw (e, cut-with) (fits-held theJob rest (rw e at low) (rw e at high) (holds .variants) (holds .parts) letters-few) in
           rw u-is record {
             starts = placed-long (t .starts) (map (λ (x : Variant). x .start) (theJob .variants)) (c .variants) (simp length-map v);
             ends = placed-long (t .ends) (map (λ (x : Variant). x .end) (theJob .variants)) (c .variants) (simp length-map v);

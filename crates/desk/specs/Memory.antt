@@ -8,7 +8,7 @@ use lib.Dec.{ltb}
 use lib.ListN.{length, take, drop}
 use Rattle.kplib.specs.declared.graphparams.Settings.{Settings}
 use Rattle.kplib.specs.Numbers.{Table, Parts, tableOf, partsOf}
-use Rattle.kplib.specs.Search.{answerOf, rowsOf}
+use Rattle.kplib.specs.Answer.{answerOf, rowsOf}
 use Rattle.job.specs.Job.{Job, Read, Held, readJob}
 use Rattle.job.specs.Reading.{Lent, lent}
 use Rattle.job.specs.Writing.{sum}

@@ -55,7 +55,16 @@ pub(crate) fn count_rows(
     let mut from = 0usize;
     while row < counts.len() {
         let end = at + counts[row] as usize;
-        count_row(k, negatives[row], letters, at, end, table, from, from + width);
+        count_row(
+            k,
+            negatives[row],
+            letters,
+            at,
+            end,
+            table,
+            from,
+            from + width,
+        );
         at = end;
         from += width;
         row += 1;

@@ -96,10 +96,27 @@ fn count_and_search(
     let mut features = variant_table();
     let mut part_features = part_table();
     let next = count_rows(s.k, width, negatives, counts, letters, 0, &mut features);
-    count_rows(s.k, width, part_negatives, part_counts, letters, next, &mut part_features);
+    count_rows(
+        s.k,
+        width,
+        part_negatives,
+        part_counts,
+        letters,
+        next,
+        &mut part_features,
+    );
     let v = counts.len() * width;
     let m = part_counts.len() * width;
-    search(s, starts, ends, sizes, &features[..v], part_sizes, &part_features[..m], out)
+    search(
+        s,
+        starts,
+        ends,
+        sizes,
+        &features[..v],
+        part_sizes,
+        &part_features[..m],
+        out,
+    )
 }
 
 // A job of v variants and m parts that stands at the fronts of the arrays. k 0 has no features to count: 1 is the first row of the table of refusals.

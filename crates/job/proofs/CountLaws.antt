@@ -229,7 +229,7 @@ counts-are s c e =
     let p : c .variants ≡ length (gather variantHere s 0) = t .variants ∙ omega arith in
     let q : c .parts ≡ length (gather partHere s 0) = t .parts ∙ omega arith in
     let r : c .letters ≡ length (variantLetters (gather variantHere s 0) ++ partLetters (gather partHere s 0)) =
-        rw (letters-of-variants s 0, letters-of-parts s 0, length-append) (t .letters ∙ omega arith) in
+    rw (letters-of-variants s 0, letters-of-parts s 0, length-append) (t .letters ∙ omega arith) in
     λ i. record { variants = p i; parts = q i; letters = r i }
 
 pub scan-is : (s : List ℕ) → run s 0 start ≡ scanOf (readJob s)

@@ -47,9 +47,9 @@ run-letters [] n st c e = let y : _≡_ {A = ℕ} 0 1 = cc in omega arith
 run-letters (k ∷ b) (suc n) st c e = let h = run-letters b n st c e in omega arith
 run-letters (k ∷ b) zero st c e =
     let h = one (faultOf st k b) k st (run b (bodyLen k) (after st k b)) c (eqb (faultOf st k b) 0) (eqb k 0) refl refl e (length b) (λ r.
-        let i = run-letters b (bodyLen k) (after st k b) c r in
-        let j = grows (eqb k 4) st k b refl in
-        omega arith) in
+    let i = run-letters b (bodyLen k) (after st k b) c r in
+    let j = grows (eqb k 4) st k b refl in
+    omega arith) in
     omega arith
 
 few-letters : (s : List ℕ) (c : Counts) → run s 0 start ≡ Good c → c .letters ≤ length s

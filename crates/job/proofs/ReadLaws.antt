@@ -175,7 +175,7 @@ module _ (s : List ℕ) (t : Lent) (v : Scan) (is : v ≡ run s 0 start) where
                   let e7 = front putPart (λ (w : PartRows). w .negatives) (λ (x : Part). x .negative) (λ (w : PartRows) (i : ℕ) (x : Part). refl) t3 u3 ys (p .negatives) ps in
                   let e8 = front putPart (λ (w : PartRows). w .counts) (λ (x : Part). length (x .letters)) (λ (w : PartRows) (i : ℕ) (x : Part). refl) t3 u3 ys (p .counts) ps in
                   let e9 : u .letters ≡ placed (t .letters) (lettersOf (jobOf s)) =
-                      ls ∙ laid (t .letters) kinds letters-fit ∙ ap (placed (t .letters)) (sym kinds-are) in
+                  ls ∙ laid (t .letters) kinds letters-fit ∙ ap (placed (t .letters)) (sym kinds-are) in
                   λ i. record { starts = e1 i; ends = e2 i; sizes = e3 i; negatives = e4 i; counts = e5 i; partSizes = e6 i; partNegatives = e7 i; partCounts = e8 i; letters = e9 i }
 
               pub read-job : (head : Settings) → head ≡ settingsOf (take (length s - 1) (drop 1 s))

@@ -16,20 +16,20 @@ use Rattle.job.specs.declared.writer.Writing.the-variants.{Refused, Wrot
 unfoldable pub variantsFrom : List ℕ → List ℕ → List ℤ → List Bool → List ℕ → List ℕ → ℕ → ℕ → ℕ → List Variant
 variantsFrom starts ends sizes negatives counts letters r at zero = []
 variantsFrom starts ends sizes negatives counts letters r at (suc n) = record {
-    start = getD starts r 0;
-    end = getD ends r 0;
-    size = getD sizes r (pos 0);
-    negative = getD negatives r false;
-    letters = slice at (at + getD counts r 0) letters;
-  } ∷ variantsFrom starts ends sizes negatives counts letters (suc r) (at + getD counts r 0) n
+  start = getD starts r 0;
+  end = getD ends r 0;
+  size = getD sizes r (pos 0);
+  negative = getD negatives r false;
+  letters = slice at (at + getD counts r 0) letters;
+} ∷ variantsFrom starts ends sizes negatives counts letters (suc r) (at + getD counts r 0) n
 
 unfoldable pub partsFrom : List ℤ → List Bool → List ℕ → List ℕ → ℕ → ℕ → ℕ → List Part
 partsFrom sizes negatives counts letters r at zero = []
 partsFrom sizes negatives counts letters r at (suc n) = record {
-    size = getD sizes r (pos 0);
-    negative = getD negatives r false;
-    letters = slice at (at + getD counts r 0) letters;
-  } ∷ partsFrom sizes negatives counts letters (suc r) (at + getD counts r 0) n
+  size = getD sizes r (pos 0);
+  negative = getD negatives r false;
+  letters = slice at (at + getD counts r 0) letters;
+} ∷ partsFrom sizes negatives counts letters (suc r) (at + getD counts r 0) n
 
 unfoldable pub sum : List ℕ → ℕ
 sum [] = 0

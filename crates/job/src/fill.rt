@@ -147,12 +147,7 @@ fn fill_part(
     v + 1
 }
 
-pub(crate) fn fill_parts(
-    s: &[u8],
-    sizes: &mut [i32],
-    negatives: &mut [bool],
-    counts: &mut [u32],
-)
+pub(crate) fn fill_parts(s: &[u8], sizes: &mut [i32], negatives: &mut [bool], counts: &mut [u32])
     ensures { λ _. ⌜ partRows (now (sizes .exit)) (now (negatives .exit)) (now (counts .exit))
         ≡ stores putPart (partRows (now (sizes .entry)) (now (negatives .entry)) (now (counts .entry))) 0 (gather partHere (now (s .entry)) 0) ⌝ }
 {

@@ -36,9 +36,13 @@ pub enum Scan {
 }
 
 pub(crate) const END: u8 = 0;
+
 pub(crate) const SETTINGS: u8 = 1;
+
 pub(crate) const VARIANT: u8 = 2;
+
 pub(crate) const PART: u8 = 3;
+
 pub(crate) const LETTERS: u8 = 4;
 // what one sequence may have
 pub(crate) const MOST_LETTERS: u32 = 131072;

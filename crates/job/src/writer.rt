@@ -192,7 +192,15 @@ fn write_body(out: &mut [u8], at: usize, size: i32, negative: bool, count: u32)
 }
 
 // A variant's record, without its letters.
-fn write_variant(out: &mut [u8], at: usize, first: u64, last: u64, size: i32, negative: bool, count: u32)
+fn write_variant(
+    out: &mut [u8],
+    at: usize,
+    first: u64,
+    last: u64,
+    size: i32,
+    negative: bool,
+    count: u32,
+)
     requires { ⌜ at + 26 ≤ length (now out) ⌝ }
     ensures { λ _. ⌜ now (out .exit) ≡ sets (now (out .entry)) at (2 ∷ variantBody first last size negative count) ⌝ }
 {
@@ -286,8 +294,25 @@ fn lay_job(
 {
     put_one(out, 0, SETTINGS);
     write_settings(out, 1, settings);
-    let v = write_variants(out, 41, starts, ends, sizes, negatives, letter_counts, letters);
-    let at = write_parts(out, v.at, part_sizes, part_negatives, part_letter_counts, letters, v.letter);
+    let v = write_variants(
+        out,
+        41,
+        starts,
+        ends,
+        sizes,
+        negatives,
+        letter_counts,
+        letters,
+    );
+    let at = write_parts(
+        out,
+        v.at,
+        part_sizes,
+        part_negatives,
+        part_letter_counts,
+        letters,
+        v.letter,
+    );
     put_one(out, at, END);
     at + 1
 }
@@ -313,10 +338,20 @@ pub fn write_job(
         (lent (now (starts .entry)) (now (ends .entry)) (now (sizes .entry)) (now (negatives .entry)) (now («letter_counts» .entry))
         (now («part_sizes» .entry)) (now («part_negatives» .entry)) (now («part_letter_counts» .entry)) (now (letters .entry))))) (now (out .entry)) ⌝ }
 {
-    if !rows_agree(starts.len(), ends.len(), sizes.len(), negatives.len(), letter_counts.len()) {
+    if !rows_agree(
+        starts.len(),
+        ends.len(),
+        sizes.len(),
+        negatives.len(),
+        letter_counts.len(),
+    ) {
         return Writing::Refused(BAD_LENGTHS);
     }
-    if !parts_agree(part_sizes.len(), part_negatives.len(), part_letter_counts.len()) {
+    if !parts_agree(
+        part_sizes.len(),
+        part_negatives.len(),
+        part_letter_counts.len(),
+    ) {
         return Writing::Refused(BAD_LENGTHS);
     }
     if !letters_agree(letter_counts, part_letter_counts, letters.len()) {

@@ -23,7 +23,7 @@ returns c =
     put-placed (put-as 281 (c .put-refused .ensures) (desk-long i (c .before .before .if1 .taken)) (omega arith)) (omega arith)
 
 scan-requires : tie.Need-scan-requires
-scan-requires c κs = ?
+scan-requires c κs = search needs
 
 enum-known-found : tie.Need-enum-known-found
 enum-known-found c = search needs

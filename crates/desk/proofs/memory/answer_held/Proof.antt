@@ -44,7 +44,7 @@ slice-aggregate-read-job-9 : tie.Need-slice-aggregate-read-job-9
 slice-aggregate-read-job-9 c = search needs
 
 read-job-requires : tie.Need-read-job-requires
-read-job-requires c κs = ?
+read-job-requires c κs = search needs
 
 enum-known-read : tie.Need-enum-known-read
 enum-known-read c = search needs
