@@ -6,3 +6,7 @@ pub mod BestLaws
 pub mod Demand
 pub mod CountLaws
 pub mod FloatOrder
+pub mod TableLaws
+pub mod PickLaws
+pub mod QueueLaws
+pub mod RunLaws
