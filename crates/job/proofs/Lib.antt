@@ -8,3 +8,8 @@ pub mod LetterLaws
 pub mod SettingsLaws
 pub mod ReadLaws
 pub mod WriteLaws
+pub mod RowLaws
+pub mod HeadLaws
+pub mod JobLaws
+pub mod BackLaws
+pub mod RoundTrip

@@ -59,7 +59,7 @@ module _ {T A B : Type 0} (put : T → ℕ → A → T) (g : T → List B) (f : 
   front : (t u : T) (xs : List A) → length xs ≤ length (g t) → u ≡ stores put t 0 xs → g u ≡ placed (g t) (map f xs)
   front t u xs h e = ap g e ∙ column t 0 xs ∙ laid (g t) (map f xs) (rw (length-map xs f) h)
 
-both : (a b : Bool) → a && b ≡ true → (a ≡ true) × (b ≡ true)
+pub both : (a b : Bool) → a && b ≡ true → (a ≡ true) × (b ≡ true)
 both true b e = (refl, e)
 both false b e = let z : _≡_ {A = ℕ} 0 1 = cc in absurd (no z)
   where

@@ -81,11 +81,11 @@ left-zero left =
     sym (rw (le-leb _ _ h, e))
 
 -- what an answer says
-record Had (c have n : ℕ) : Type 0 where
-  fits : c ≤ have
-  is : n ≡ have - c
+pub record Had (c have n : ℕ) : Type 0 where
+  pub fits : c ≤ have
+  pub is : n ≡ have - c
 
-enough-had : (c have n : ℕ) → Enough n ≡ leftOf c have → Had c have n
+pub enough-had : (c have n : ℕ) → Enough n ≡ leftOf c have → Had c have n
 unfolding leftOf
 enough-had c have n e = ⊎-elim
     (λ (t : leb c have ≡ true). let w : Enough n ≡ Enough (have - c) = simp t at e in record { fits = leb-true _ _ t; is = cc })
@@ -95,7 +95,7 @@ enough-had c have n e = ⊎-elim
     no : {n : ℕ} → suc n ≡ 0 → ⊥
     no e = omega arith
 
-short-had : (c have : ℕ) → Short ≡ leftOf c have → have < c
+pub short-had : (c have : ℕ) → Short ≡ leftOf c have → have < c
 unfolding leftOf
 short-had c have e = ⊎-elim
     (λ (t : leb c have ≡ true). let w : Short ≡ Enough (have - c) = simp t at e in let z : _≡_ {A = ℕ} 1 0 = cc in omega arith)

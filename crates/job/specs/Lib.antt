@@ -5,3 +5,4 @@ pub mod Job
 pub mod Reading
 pub mod Writing
 pub mod Steps
+pub mod Holds

@@ -24,7 +24,9 @@ pub(crate) fn four(s: &[u8], at: usize) -> u32
     requires { ⌜ at + 4 ≤ length (now s) ⌝ }
     ensures { λ r. ⌜ r ≡ le4 (now (s .entry)) at ⌝ }
 {
-    two(s, at) + 65536 * two(s, at + 2)
+    let low = two(s, at);
+    let high = two(s, at + 2);
+    low + 65536 * high
 }
 
 pub(crate) fn eight(s: &[u8], at: usize) -> u64

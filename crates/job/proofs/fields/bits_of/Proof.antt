@@ -9,8 +9,6 @@ use lib.Dec.{T, ltb}
 use lib.Ieee.{Float, nan, inf, fin, binary32, toBits, isNan, ne, eq}
 use Rattle.job.proofs.fields.bits_of.Statement.{statement}
 use Rattle.job.proofs.fields.bits_of.Tie as tie
-use Rattle.job.proofs.fields.bits_of.Reads as reads
-use Rattle.job.proofs.fields.bits_of.Lts as lts
 
 equal-no-nan : (x : Float) → ne x x ≡ false → T (not (isNan x))
 unfolding isNan ne eq

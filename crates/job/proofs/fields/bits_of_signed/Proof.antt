@@ -1,32 +1,25 @@
+-- A negative number has the bits that are missing to 2 ^ 32.
 use mir.Syntax.{w32}
 use mir.ValLaws.{toZ-ofZ}
 use Rattle.job.proofs.FieldLaws.{neg-sub, neg-cast, neg-low, neg-bits, pos-cast, pos-bits}
 use Rattle.job.proofs.fields.bits_of_signed.Statement.{statement}
 use Rattle.job.proofs.fields.bits_of_signed.Tie as tie
-use Rattle.job.proofs.fields.bits_of_signed.Reads as reads
-use Rattle.job.proofs.fields.bits_of_signed.Lts as lts
 
--- src/writer.rt:41:24
 sub-result : tie.Need-sub-result
 sub-result c = neg-sub (c .before .args .z) _ (toZ-ofZ w32 _ (c .before .fits .z)) (c .before .fits .z) (c .if1 .taken)
 
--- src/writer.rt:41:23
 cast-result : tie.Need-cast-result
 cast-result c = neg-cast (c .before .args .z) _ (toZ-ofZ w32 _ (c .before .fits .z)) (c .before .fits .z) (c .if1 .taken)
 
--- src/writer.rt:41:9
 sub-result-2 : tie.Need-sub-result-2
 sub-result-2 c = neg-low (c .before .args .z) _ (toZ-ofZ w32 _ (c .before .fits .z)) (c .before .fits .z) (c .if1 .taken)
 
--- src/writer.rt:43:9
 cast-result-2 : tie.Need-cast-result-2
 cast-result-2 c = pos-cast (c .before .args .z) _ (toZ-ofZ w32 _ (c .before .fits .z)) (c .before .fits .z) (c .if1 .left)
 
--- src/writer.rt:37:1
 returns : tie.Need-returns
 returns c = neg-bits (c .before .args .z) _ (toZ-ofZ w32 _ (c .before .fits .z)) (c .before .fits .z) (c .if1 .taken)
 
--- src/writer.rt:37:1
 returns-2 : tie.Need-returns-2
 returns-2 c = pos-bits (c .before .args .z) _ (toZ-ofZ w32 _ (c .before .fits .z)) (c .before .fits .z) (c .if1 .left)
 

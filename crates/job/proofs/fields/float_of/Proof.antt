@@ -9,8 +9,6 @@ use lib.Ieee.Bits.{nanBits-is, nanBits-above}
 use borrow.Author.Tests.{lt-ltb, le-ltb}
 use Rattle.job.proofs.fields.float_of.Statement.{statement}
 use Rattle.job.proofs.fields.float_of.Tie as tie
-use Rattle.job.proofs.fields.float_of.Reads as reads
-use Rattle.job.proofs.fields.float_of.Lts as lts
 
 -- the one value that is a NaN
 is-nan : (x : Float) → isNan x ≡ true → nan ≡ x

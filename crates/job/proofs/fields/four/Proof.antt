@@ -1,32 +1,24 @@
+-- Two halves of two bytes.
 use borrow.Author.Needs.{needs}
 use Rattle.job.specs.Fields.{le2, le4}
 use Rattle.job.proofs.fields.four.Statement.{statement}
 use Rattle.job.proofs.fields.four.Tie as tie
-use Rattle.job.proofs.fields.four.Reads as reads
-use Rattle.job.proofs.fields.four.Lts as lts
-use Rattle.job.proofs.fields.two.Reads as two-reads
 
--- src/fields.rt:25:5
 two-requires : tie.Need-two-requires
 two-requires c κs = search needs
 
--- src/fields.rt:25:33
 add-two : tie.Need-add-two
 add-two c = search needs
 
--- src/fields.rt:25:26
 two-requires-2 : tie.Need-two-requires-2
 two-requires-2 c κs = search needs
 
--- src/fields.rt:25:18
 mul-result : tie.Need-mul-result
 mul-result c = search needs
 
--- src/fields.rt:25:5
 add-result : tie.Need-add-result
 add-result c = search needs
 
--- src/fields.rt:21:1
 returns : tie.Need-returns
 unfolding le4
 returns c = search needs

@@ -1,29 +1,22 @@
+-- Two halves, one behind the other.
 use borrow.Author.Needs.{needs}
 use denote.Ref.{now}
 use Rattle.job.proofs.FieldLaws.{four-stores}
 use Rattle.job.proofs.fields.put_four.Statement.{statement}
 use Rattle.job.proofs.fields.put_four.Tie as tie
-use Rattle.job.proofs.fields.put_four.Reads as reads
-use Rattle.job.proofs.fields.put_four.Lts as lts
-use Rattle.job.proofs.fields.put_two.Reads as put-two-reads
 
--- src/writer.rt:24:5
 put-two-requires : tie.Need-put-two-requires
 put-two-requires c κs = search needs
 
--- src/writer.rt:25:18
 add-put-two : tie.Need-add-put-two
 add-put-two c = search needs
 
--- src/writer.rt:25:5
 put-two-requires-2 : tie.Need-put-two-requires-2
 put-two-requires-2 c κs = search needs
 
--- src/writer.rt:20:1
 same-length : tie.Need-same-length
 same-length c = search needs
 
--- src/writer.rt:20:1
 returns : tie.Need-returns
 returns c = four-stores (now (c .before .before .before .before .before .before .before .before .before .args .out)) _ _ (c .before .before .before .before .before .before .before .before .before .args .at) (c .before .before .before .before .before .before .before .before .before .args .x) (c .before .before .before .before .before .before .put-two .ensures) (c .before .before .put-two2 .ensures)
 

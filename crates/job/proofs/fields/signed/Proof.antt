@@ -12,8 +12,6 @@ use borrow.Author.Tests.{lt-ltb, le-ltb}
 use Rattle.job.specs.Fields.{signedOf}
 use Rattle.job.proofs.fields.signed.Statement.{statement}
 use Rattle.job.proofs.fields.signed.Tie as tie
-use Rattle.job.proofs.fields.signed.Reads as reads
-use Rattle.job.proofs.fields.signed.Lts as lts
 
 minus-one : (y : ℕ) → negsuc 0 -ℤ pos y ≡ negsuc y
 minus-one zero = refl

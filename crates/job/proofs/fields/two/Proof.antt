@@ -1,40 +1,30 @@
+-- Two bytes are less than 2 ^ 16.
 use borrow.Author.Needs.{needs}
 use Rattle.job.specs.Fields.{le2}
 use Rattle.job.proofs.fields.two.Statement.{statement}
 use Rattle.job.proofs.fields.two.Tie as tie
-use Rattle.job.proofs.fields.two.Reads as reads
-use Rattle.job.proofs.fields.two.Lts as lts
-use Rattle.job.proofs.fields.wide.Reads as wide-reads
 
--- src/fields.rt:18:10
 shared-slice-read-wide : tie.Need-shared-slice-read-wide
 shared-slice-read-wide c = search needs
 
--- src/fields.rt:18:5
 wide-requires : tie.Need-wide-requires
 wide-requires c κs = search needs
 
--- src/fields.rt:18:32
 add-wide : tie.Need-add-wide
 add-wide c = search needs
 
--- src/fields.rt:18:30
 shared-slice-read-wide-2 : tie.Need-shared-slice-read-wide-2
 shared-slice-read-wide-2 c = search needs
 
--- src/fields.rt:18:25
 wide-requires-2 : tie.Need-wide-requires-2
 wide-requires-2 c κs = search needs
 
--- src/fields.rt:18:19
 mul-result : tie.Need-mul-result
 mul-result c = search needs
 
--- src/fields.rt:18:5
 add-result : tie.Need-add-result
 add-result c = search needs
 
--- src/fields.rt:14:1
 returns : tie.Need-returns
 unfolding le2
 returns c = search needs

@@ -4,18 +4,13 @@ use Rattle.job.proofs.FillLaws.{past}
 use borrow.Author.Needs.{needs}
 use Rattle.job.proofs.fill.byte_or_zero.Statement.{statement}
 use Rattle.job.proofs.fill.byte_or_zero.Tie as tie
-use Rattle.job.proofs.fill.byte_or_zero.Reads as reads
-use Rattle.job.proofs.fill.byte_or_zero.Lts as lts
 
--- src/fill.rt:172:22
 shared-slice-read-result : tie.Need-shared-slice-read-result
 shared-slice-read-result c = search needs
 
--- src/fill.rt:169:1
 returns : tie.Need-returns
 returns c = search needs
 
--- src/fill.rt:169:1
 returns-2 : tie.Need-returns-2
 returns-2 c = past (now (c .before .args .b)) (c .before .args .i) 0 (c .if1 .left)
 

@@ -10,9 +10,6 @@ use Rattle.job.specs.Steps.{stores}
 use Rattle.job.specs.Job.{lettersIn}
 use Rattle.job.proofs.fill.copy_letters.Statement.{statement}
 use Rattle.job.proofs.fill.copy_letters.Tie as tie
-use Rattle.job.proofs.fill.copy_letters.Reads as reads
-use Rattle.job.proofs.fill.copy_letters.Lts as lts
-use Rattle.job.proofs.fill.byte_or_zero.Reads as byte-or-zero-reads
 
 abbrev Inv-loop : tie.InvT-loop
 Inv-loop out₀ at b n i₀ out i = (stores set out (at + i) (lettersIn b i (n - i)) ≡ stores set out₀ at (lettersIn b 0 n)) × ((i ≤ n) × (length out ≡ length out₀))
@@ -20,47 +17,36 @@ Inv-loop out₀ at b n i₀ out i = (stores set out (at + i) (lettersIn b i (n -
 abbrev μ-loop : tie.MeasureT-loop
 μ-loop out₀ at b n i₀ out i = n - i
 
--- src/fill.rt:181:5
 loop-holds : tie.Need-loop-holds Inv-loop μ-loop
 loop-holds c = let a = c .before .before .args in (copy-start (now (a .b)) (a .n) (a .at) (now (a .out)), (zero-le, refl))
 
--- src/fill.rt:182:39
 add-byte-or-zero : tie.Need-add-byte-or-zero Inv-loop μ-loop
 add-byte-or-zero c = omega arith
 
--- src/fill.rt:182:39
 add-byte-or-zero-2 : tie.Need-add-byte-or-zero-2 Inv-loop μ-loop
 add-byte-or-zero-2 c = omega arith
 
--- src/fill.rt:182:23
 byte-or-zero-requires : tie.Need-byte-or-zero-requires Inv-loop μ-loop
 byte-or-zero-requires c κs = search needs
 
--- src/fill.rt:182:13
 add-out : tie.Need-add-out Inv-loop μ-loop
 add-out c = omega arith
 
--- src/fill.rt:182:9
 slice-write-out : tie.Need-slice-write-out Inv-loop μ-loop
 slice-write-out c = omega arith
 
--- src/fill.rt:183:9
 add-i : tie.Need-add-i Inv-loop μ-loop
 add-i c = omega arith
 
--- src/fill.rt:181:5
 loop-less : tie.Need-loop-less Inv-loop μ-loop
 loop-less c = omega arith
 
--- src/fill.rt:181:5
 loop-again : tie.Need-loop-again Inv-loop μ-loop
 loop-again c = let a = c .before .before .before .before .before .args in (copy-more (now (a .b)) (a .n) (a .at) (c .before .before .loop .out) (c .before .before .loop .i) _ (c .before .loop-test .taken) (c .byte-or-zero .ensures) ∙ c .before .before .loop .inv .0, (omega arith, length-set (c .before .before .loop .out) (a .at + c .before .before .loop .i) (c .byte-or-zero .result) ∙ c .before .before .loop .inv .1 .1))
 
--- src/fill.rt:176:1
 same-length : tie.Need-same-length Inv-loop μ-loop
 same-length c = c .before .loop .inv .1 .1
 
--- src/fill.rt:176:1
 returns : tie.Need-returns Inv-loop μ-loop
 returns c = let a = c .before .before .before .before .args in sym (copy-done (now (a .b)) (a .n) (a .at) (c .before .loop .out) (c .before .loop .i) (c .loop-test .left)) ∙ c .before .loop .inv .0
 

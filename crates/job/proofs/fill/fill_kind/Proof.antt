@@ -10,10 +10,6 @@ use Rattle.job.specs.Steps.{lettersHere, stores}
 use Rattle.job.specs.Job.{gather}
 use Rattle.job.proofs.fill.fill_kind.Statement.{statement}
 use Rattle.job.proofs.fill.fill_kind.Tie as tie
-use Rattle.job.proofs.fill.fill_kind.Reads as reads
-use Rattle.job.proofs.fill.fill_kind.Lts as lts
-use Rattle.job.proofs.fill.fill_sequence.Reads as fill-sequence-reads
-use Rattle.job.proofs.form.body_len.Reads as body-len-reads
 
 abbrev Inv-loop : tie.InvT-loop
 Inv-loop s kind from out₀ at₀ p₀ out at p = (stores set out p (gather (lettersHere kind) (drop at s) 0) ≡ stores set out₀ from (gather (lettersHere kind) s 0)) × ((p + length (gather (lettersHere kind) (drop at s) 0) ≡ from + length (gather (lettersHere kind) s 0)) × (length out ≡ length out₀))
@@ -21,59 +17,45 @@ Inv-loop s kind from out₀ at₀ p₀ out at p = (stores set out p (gather (let
 abbrev μ-loop : tie.MeasureT-loop
 μ-loop s kind from out₀ at₀ p₀ out at p = length s - at
 
--- src/fill.rt:212:5
 loop-holds : tie.Need-loop-holds Inv-loop μ-loop
 loop-holds c = (refl, (refl, refl))
 
--- src/fill.rt:213:17
 shared-slice-read-k : tie.Need-shared-slice-read-k Inv-loop μ-loop
 shared-slice-read-k c = omega arith
 
--- src/fill.rt:214:20
 add-b : tie.Need-add-b Inv-loop μ-loop
 add-b c = omega arith
 
--- src/fill.rt:214:17
 sub-b : tie.Need-sub-b Inv-loop μ-loop
 sub-b c = omega arith
 
--- src/fill.rt:214:17
 part-b-start : tie.Need-part-b-start Inv-loop μ-loop
 part-b-start c = omega arith
 
--- src/fill.rt:214:17
 part-b-end : tie.Need-part-b-end Inv-loop μ-loop
 part-b-end c = omega arith
 
--- src/fill.rt:215:9
 fill-sequence-requires : tie.Need-fill-sequence-requires Inv-loop μ-loop
 fill-sequence-requires c κs = let a = c .before .before .before .before .before .before .before .args in let e = gather-long (lettersHere (a .kind)) (now (a .s)) (c .before .before .before .before .loop .at) (c .before .before .before .loop-test .taken) _ refl in omega (arith, e, c .before .before .before .before .loop .inv .1 .0, c .before .before .before .before .loop .inv .1 .1, c .before .before .before .before .before .before .before .pre)
 
--- src/fill.rt:216:14
 add-at : tie.Need-add-at Inv-loop μ-loop
 add-at c = omega arith
 
--- src/fill.rt:216:23
 body-len-requires : tie.Need-body-len-requires Inv-loop μ-loop
 body-len-requires c κs = search needs
 
--- src/fill.rt:216:14
 add-at-2 : tie.Need-add-at-2 Inv-loop μ-loop
 add-at-2 c = omega (arith, short-body (getD (now (c .before .before .before .before .before .before .before .before .before .before .before .args .s)) (c .before .before .before .before .before .before .before .before .loop .at) 0), c .body-len .ensures, c .before .before .before .before .before .before .before .loop-test .taken, c .before .before .before .before .before .before .before .before .before .before .before .good)
 
--- src/fill.rt:212:5
 loop-less : tie.Need-loop-less Inv-loop μ-loop
 loop-less c = omega (arith, c .before .before .before .before .before .before .before .loop-test .taken)
 
--- src/fill.rt:212:5
 loop-again : tie.Need-loop-again Inv-loop μ-loop
 loop-again c = let a = c .before .before .before .before .before .before .before .before .before .before .before .args in let e = gather-long (lettersHere (a .kind)) (now (a .s)) (c .before .before .before .before .before .before .before .before .loop .at) (c .before .before .before .before .before .before .before .loop-test .taken) _ (c .body-len .ensures) in (put-more set (lettersHere (a .kind)) (now (a .s)) (c .before .before .before .before .before .before .before .before .loop .at) (c .before .before .before .before .before .before .before .loop-test .taken) _ _ _ _ _ (c .body-len .ensures) (c .before .before .before .fill-sequence .ensures .1) (c .before .before .before .fill-sequence .ensures .0) ∙ c .before .before .before .before .before .before .before .before .loop .inv .0, (omega (arith, e, c .before .before .before .fill-sequence .ensures .0, c .before .before .before .before .before .before .before .before .loop .inv .1 .0), c .before .before .before .fill-sequence .kept .0 ∙ c .before .before .before .before .before .before .before .before .loop .inv .1 .1))
 
--- src/fill.rt:205:1
 same-length : tie.Need-same-length Inv-loop μ-loop
 same-length c = c .before .loop .inv .1 .1
 
--- src/fill.rt:205:1
 returns : tie.Need-returns Inv-loop μ-loop
 returns c = let a = c .before .before .before .before .args in let e = ap length (gather-done (lettersHere (a .kind)) (now (a .s)) (c .before .loop .at) (c .loop-test .left)) in (omega (arith, e, c .before .loop .inv .1 .0), sym (put-done set (lettersHere (a .kind)) (now (a .s)) (c .before .loop .at) (c .before .loop .out) (c .before .loop .p) (c .loop-test .left)) ∙ c .before .loop .inv .0)
 

@@ -13,23 +13,16 @@ use Rattle.job.proofs.FillLaws.{laid-both}
 use borrow.Author.Needs.{needs}
 use Rattle.job.proofs.fill.fill_letters.Statement.{statement}
 use Rattle.job.proofs.fill.fill_letters.Tie as tie
-use Rattle.job.proofs.fill.fill_letters.Reads as reads
-use Rattle.job.proofs.fill.fill_letters.Lts as lts
-use Rattle.job.proofs.fill.fill_kind.Reads as fill-kind-reads
 
--- src/fill.rt:226:9
 fill-kind-requires : tie.Need-fill-kind-requires
 fill-kind-requires c κs = let a = c .before .before .before .args in omega (arith, length-append (gather (lettersHere 2) (now (a .s)) 0) (gather (lettersHere 3) (now (a .s)) 0), c .before .before .before .pre)
 
--- src/fill.rt:227:5
 fill-kind-requires-2 : tie.Need-fill-kind-requires-2
 fill-kind-requires-2 c κs = let a = c .before .before .before .before .before .before .before .args in omega (arith, length-append (gather (lettersHere 2) (now (a .s)) 0) (gather (lettersHere 3) (now (a .s)) 0), c .before .before .before .fill-kind .ensures .0, ap length (c .before .before .before .fill-kind .ensures .1), keeps set (λ (l : List ℕ). length l) (λ (l : List ℕ) (v x : ℕ). length-set l v x) (now (a .out)) 0 (gather (lettersHere 2) (now (a .s)) 0), c .before .before .before .before .before .before .before .pre)
 
--- src/fill.rt:222:1
 same-length : tie.Need-same-length
 same-length c = search needs
 
--- src/fill.rt:222:1
 returns : tie.Need-returns
 returns c = let a = c .before .before .before .before .before .before .before .before .before .before .args in laid-both (now (a .out)) _ _ _ (gather (lettersHere 2) (now (a .s)) 0) (gather (lettersHere 3) (now (a .s)) 0) (c .before .before .before .before .before .before .fill-kind .ensures .0) (c .before .before .before .before .before .before .fill-kind .ensures .1) (c .before .before .fill-kind2 .ensures .1)
 

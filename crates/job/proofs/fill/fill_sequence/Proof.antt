@@ -9,57 +9,40 @@ use Rattle.job.proofs.FillLaws.{no-letters, cut-letters, some-letters, 
 use borrow.Author.Needs.{needs}
 use Rattle.job.proofs.fill.fill_sequence.Statement.{statement}
 use Rattle.job.proofs.fill.fill_sequence.Tie as tie
-use Rattle.job.proofs.fill.fill_sequence.Reads as reads
-use Rattle.job.proofs.fill.fill_sequence.Lts as lts
-use Rattle.job.proofs.fill.copy_letters.Reads as copy-letters-reads
-use Rattle.job.proofs.form.body_len.Reads as body-len-reads
-use Rattle.job.proofs.form.count_of.Reads as count-of-reads
 
--- src/fill.rt:194:9
 returns : tie.Need-returns
 returns c = let a = c .before .before .before .args in laid-none (now (a .out)) (a .at) _ (no-letters (a .kind) (a .k) (now (a .b)) (c .if1 .taken))
 
--- src/fill.rt:196:9
 body-len-requires : tie.Need-body-len-requires
 body-len-requires c κs = search needs
 
--- src/fill.rt:198:9
 returns-2 : tie.Need-returns-2
 returns-2 c = let a = c .before .before .before .before .before .args in laid-none (now (a .out)) (a .at) _ (cut-letters (a .kind) (a .k) (now (a .b)) _ (c .before .body-len .ensures) (c .before .before .if1 .left) (c .if2 .taken))
 
--- src/fill.rt:200:13
 count-of-requires : tie.Need-count-of-requires
 count-of-requires c κs = search needs
 
--- src/fill.rt:200:13
 cast-n : tie.Need-cast-n
 cast-n c = search needs
 
--- src/fill.rt:201:27
 sub-copy-letters : tie.Need-sub-copy-letters
 sub-copy-letters c = search needs
 
--- src/fill.rt:201:27
 part-copy-letters-start : tie.Need-part-copy-letters-start
 part-copy-letters-start c = search needs
 
--- src/fill.rt:201:27
 part-copy-letters-end : tie.Need-part-copy-letters-end
 part-copy-letters-end c = search needs
 
--- src/fill.rt:201:5
 copy-letters-requires : tie.Need-copy-letters-requires
 copy-letters-requires c κs = let a = c .before .before .before .before .before .before .before .before .args in let e = ap length (some-letters (a .kind) (a .k) (now (a .b)) _ _ (c .before .before .before .before .body-len .ensures) (c .before .before .count-of .ensures) (c .before .before .before .before .before .if1 .left) (c .before .before .before .if2 .left)) ∙ long-letters _ 0 _ in (omega (arith, e, c .before .before .before .before .before .before .before .before .pre), omega arith)
 
--- src/fill.rt:202:5
 add-result : tie.Need-add-result
 add-result c = search needs
 
--- src/fill.rt:188:1
 same-length : tie.Need-same-length
 same-length c = search needs
 
--- src/fill.rt:188:1
 returns-3 : tie.Need-returns-3
 returns-3 c = let a = c .before .before .before .before .before .before .before .before .before .before .before .args in laid-some (now (a .out)) (a .at) _ _ _ _ (some-letters (a .kind) (a .k) (now (a .b)) _ _ (c .before .before .before .before .before .before .before .body-len .ensures) (c .before .before .before .before .before .count-of .ensures) (c .before .before .before .before .before .before .before .before .if1 .left) (c .before .before .before .before .before .before .if2 .left)) (c .before .before .copy-letters .ensures)
 

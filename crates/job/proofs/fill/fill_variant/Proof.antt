@@ -6,47 +6,34 @@ use Rattle.job.specs.Job.{variantOf}
 use borrow.Author.Needs.{needs}
 use Rattle.job.proofs.fill.fill_variant.Statement.{statement}
 use Rattle.job.proofs.fill.fill_variant.Tie as tie
-use Rattle.job.proofs.fill.fill_variant.Reads as reads
-use Rattle.job.proofs.fill.fill_variant.Lts as lts
-use Rattle.job.proofs.fill.put_variant.Reads as put-variant-reads
 
--- src/fill.rt:87:9
 returns : tie.Need-returns
 returns c = let a = c .before .before .before .before .before .before .args in adds-none putRow (rows (now (a .starts)) (now (a .ends)) (now (a .sizes)) (now (a .negatives)) (now (a .counts))) (a .v) (no-variant (a .k) (now (a .b)) (c .if1 .taken))
 
--- src/fill.rt:90:9
 returns-2 : tie.Need-returns-2
 returns-2 c = let a = c .before .before .before .before .before .before .before .args in adds-none putRow (rows (now (a .starts)) (now (a .ends)) (now (a .sizes)) (now (a .negatives)) (now (a .counts))) (a .v) (cut-variant (a .k) (now (a .b)) (c .before .if1 .left) (c .if2 .taken))
 
--- src/fill.rt:92:5
 put-variant-requires : tie.Need-put-variant-requires
 put-variant-requires c κs = search needs
 
--- src/fill.rt:93:5
 add-result : tie.Need-add-result
 add-result c = search needs
 
--- src/fill.rt:71:1
 same-length : tie.Need-same-length
 same-length c = search needs
 
--- src/fill.rt:71:1
 same-length-2 : tie.Need-same-length-2
 same-length-2 c = search needs
 
--- src/fill.rt:71:1
 same-length-3 : tie.Need-same-length-3
 same-length-3 c = search needs
 
--- src/fill.rt:71:1
 same-length-4 : tie.Need-same-length-4
 same-length-4 c = search needs
 
--- src/fill.rt:71:1
 same-length-5 : tie.Need-same-length-5
 same-length-5 c = search needs
 
--- src/fill.rt:71:1
 returns-3 : tie.Need-returns-3
 returns-3 c = let a = c .before .before .before .before .before .before .before .before .before .before .before .before .before .before .before .before .before .before .before .before .before .before .args in adds-one putRow (rows (now (a .starts)) (now (a .ends)) (now (a .sizes)) (now (a .negatives)) (now (a .counts))) (a .v) (variantOf (now (a .b))) (one-variant (a .k) (now (a .b)) (c .before .before .before .before .before .before .before .before .before .before .before .before .before .before .before .before .if1 .left) (c .before .before .before .before .before .before .before .before .before .before .before .before .before .before .before .if2 .left)) (c .before .before .before .before .before .before .before .before .before .put-variant .ensures)
 

@@ -10,10 +10,6 @@ use Rattle.job.specs.Steps.{Rows, rows, putRow, stores}
 use Rattle.job.specs.Job.{Variant, variantHere, gather}
 use Rattle.job.proofs.fill.fill_variants.Statement.{statement}
 use Rattle.job.proofs.fill.fill_variants.Tie as tie
-use Rattle.job.proofs.fill.fill_variants.Reads as reads
-use Rattle.job.proofs.fill.fill_variants.Lts as lts
-use Rattle.job.proofs.fill.fill_variant.Reads as fill-variant-reads
-use Rattle.job.proofs.form.body_len.Reads as body-len-reads
 
 abbrev Inv-loop : tie.InvT-loop
 Inv-loop s starts₀ ends₀ sizes₀ negatives₀ counts₀ at₀ v₀ starts ends sizes negatives counts at v = (stores putRow (rows starts ends sizes negatives counts) v (gather variantHere (drop at s) 0) ≡ stores putRow (rows starts₀ ends₀ sizes₀ negatives₀ counts₀) 0 (gather variantHere s 0)) × (v ≤ at)
@@ -21,78 +17,60 @@ Inv-loop s starts₀ ends₀ sizes₀ negatives₀ counts₀ at₀ v₀ starts e
 abbrev μ-loop : tie.MeasureT-loop
 μ-loop s starts₀ ends₀ sizes₀ negatives₀ counts₀ at₀ v₀ starts ends sizes negatives counts at v = length s - at
 
--- src/fill.rt:110:5
 loop-holds : tie.Need-loop-holds Inv-loop μ-loop
 loop-holds c = (refl, zero-le)
 
--- src/fill.rt:111:17
 shared-slice-read-k : tie.Need-shared-slice-read-k Inv-loop μ-loop
 shared-slice-read-k c = omega arith
 
--- src/fill.rt:112:20
 add-b : tie.Need-add-b Inv-loop μ-loop
 add-b c = omega arith
 
--- src/fill.rt:112:17
 sub-b : tie.Need-sub-b Inv-loop μ-loop
 sub-b c = omega arith
 
--- src/fill.rt:112:17
 part-b-start : tie.Need-part-b-start Inv-loop μ-loop
 part-b-start c = omega arith
 
--- src/fill.rt:112:17
 part-b-end : tie.Need-part-b-end Inv-loop μ-loop
 part-b-end c = omega arith
 
--- src/fill.rt:113:9
 fill-variant-requires : tie.Need-fill-variant-requires Inv-loop μ-loop
 fill-variant-requires c κs = omega arith
 
--- src/fill.rt:114:14
 add-at : tie.Need-add-at Inv-loop μ-loop
 add-at c = omega arith
 
--- src/fill.rt:114:23
 body-len-requires : tie.Need-body-len-requires Inv-loop μ-loop
 body-len-requires c κs = search needs
 
--- src/fill.rt:114:14
 add-at-2 : tie.Need-add-at-2 Inv-loop μ-loop
 add-at-2 c = omega (arith, short-body (getD (now (c .before .before .before .before .before .before .before .before .before .before .before .before .before .before .before .before .before .before .before .before .before .before .before .before .before .args .s)) (c .before .before .before .before .before .before .before .before .before .before .before .before .before .before .before .before .before .before .before .loop .at) 0), c .body-len .ensures, c .before .before .before .before .before .before .before .before .before .before .before .before .before .before .before .before .before .before .loop-test .taken, c .before .before .before .before .before .before .before .before .before .before .before .before .before .before .before .before .before .before .before .before .before .before .before .before .before .good)
 
--- src/fill.rt:110:5
 loop-less : tie.Need-loop-less Inv-loop μ-loop
 loop-less c = omega (arith, c .before .before .before .before .before .before .before .before .before .before .before .before .before .before .before .before .before .before .loop-test .taken)
 
--- src/fill.rt:110:5
 loop-again : tie.Need-loop-again Inv-loop μ-loop
 loop-again c = (put-more putRow variantHere (now (c .before .before .before .before .before .before .before .before .before .before .before .before .before .before .before .before .before .before .before .before .before .before .before .before .before .args .s)) (c .before .before .before .before .before .before .before .before .before .before .before .before .before .before .before .before .before .before .before .loop .at) (c .before .before .before .before .before .before .before .before .before .before .before .before .before .before .before .before .before .before .loop-test .taken) _ _ _ _ _ (c .body-len .ensures) (c .before .before .before .before .before .before .before .before .before .before .fill-variant .ensures .is) (c .before .before .before .before .before .before .before .before .before .before .fill-variant .ensures .next) ∙ c .before .before .before .before .before .before .before .before .before .before .before .before .before .before .before .before .before .before .before .loop .inv .0, omega (arith, c .before .before .before .before .before .before .before .before .before .before .fill-variant .ensures .one, c .before .before .before .before .before .before .before .before .before .before .before .before .before .before .before .before .before .before .before .loop .inv .1))
 
--- src/fill.rt:96:1
 done : (c : tie.After-loop Inv-loop μ-loop) → rows (c .before .loop .starts) (c .before .loop .ends) (c .before .loop .sizes) (c .before .loop .negatives) (c .before .loop .counts) ≡ stores putRow (rows (now (c .before .before .before .before .before .before .before .args .starts)) (now (c .before .before .before .before .before .before .before .args .ends)) (now (c .before .before .before .before .before .before .before .args .sizes)) (now (c .before .before .before .before .before .before .before .args .negatives)) (now (c .before .before .before .before .before .before .before .args .counts))) 0 (gather variantHere (now (c .before .before .before .before .before .before .before .args .s)) 0)
 done c = sym (put-done putRow variantHere (now (c .before .before .before .before .before .before .before .args .s)) (c .before .loop .at) (rows (c .before .loop .starts) (c .before .loop .ends) (c .before .loop .sizes) (c .before .loop .negatives) (c .before .loop .counts)) (c .before .loop .v) (c .loop-test .left)) ∙ c .before .loop .inv .0
 
 same-length : tie.Need-same-length Inv-loop μ-loop
 same-length c = ap (λ (t : Rows). length (t .starts)) (done c) ∙ keeps putRow (λ (t : Rows). length (t .starts)) (λ (t : Rows) (v : ℕ) (x : Variant). length-set (t .starts) v (x .start)) _ _ _
 
--- src/fill.rt:96:1
 same-length-2 : tie.Need-same-length-2 Inv-loop μ-loop
 same-length-2 c = ap (λ (t : Rows). length (t .ends)) (done c) ∙ keeps putRow (λ (t : Rows). length (t .ends)) (λ (t : Rows) (v : ℕ) (x : Variant). length-set (t .ends) v (x .end)) _ _ _
 
--- src/fill.rt:96:1
 same-length-3 : tie.Need-same-length-3 Inv-loop μ-loop
 same-length-3 c = ap (λ (t : Rows). length (t .sizes)) (done c) ∙ keeps putRow (λ (t : Rows). length (t .sizes)) (λ (t : Rows) (v : ℕ) (x : Variant). length-set (t .sizes) v (x .size)) _ _ _
 
--- src/fill.rt:96:1
 same-length-4 : tie.Need-same-length-4 Inv-loop μ-loop
 same-length-4 c = ap (λ (t : Rows). length (t .negatives)) (done c) ∙ keeps putRow (λ (t : Rows). length (t .negatives)) (λ (t : Rows) (v : ℕ) (x : Variant). length-set (t .negatives) v (x .negative)) _ _ _
 
--- src/fill.rt:96:1
 same-length-5 : tie.Need-same-length-5 Inv-loop μ-loop
 same-length-5 c = ap (λ (t : Rows). length (t .counts)) (done c) ∙ keeps putRow (λ (t : Rows). length (t .counts)) (λ (t : Rows) (v : ℕ) (x : Variant). length-set (t .counts) v (length (x .letters))) _ _ _
 
--- src/fill.rt:96:1
 returns : tie.Need-returns Inv-loop μ-loop
 returns c = done c
 

@@ -8,55 +8,37 @@ use Rattle.job.specs.Steps.{partRows}
 use borrow.Author.Needs.{needs}
 use Rattle.job.proofs.fill.put_part.Statement.{statement}
 use Rattle.job.proofs.fill.put_part.Tie as tie
-use Rattle.job.proofs.fill.put_part.Reads as reads
-use Rattle.job.proofs.fill.put_part.Lts as lts
-use Rattle.job.proofs.fields.four.Reads as four-reads
-use Rattle.job.proofs.fields.signed.Reads as signed-reads
-use Rattle.job.proofs.fill.put_bool.Reads as put-bool-reads
-use Rattle.job.proofs.fill.put_i32.Reads as put-i32-reads
-use Rattle.job.proofs.fill.put_u32.Reads as put-u32-reads
 
--- src/fill.rt:123:30
 four-requires : tie.Need-four-requires
 four-requires c κs = search needs
 
--- src/fill.rt:123:23
 signed-requires : tie.Need-signed-requires
 signed-requires c κs = search needs
 
--- src/fill.rt:123:5
 put-i32-requires : tie.Need-put-i32-requires
 put-i32-requires c κs = search needs
 
--- src/fill.rt:124:28
 shared-slice-read-put-bool : tie.Need-shared-slice-read-put-bool
 shared-slice-read-put-bool c = search needs
 
--- src/fill.rt:124:5
 put-bool-requires : tie.Need-put-bool-requires
 put-bool-requires c κs = search needs
 
--- src/fill.rt:125:24
 four-requires-2 : tie.Need-four-requires-2
 four-requires-2 c κs = search needs
 
--- src/fill.rt:125:5
 put-u32-requires : tie.Need-put-u32-requires
 put-u32-requires c κs = search needs
 
--- src/fill.rt:118:1
 same-length : tie.Need-same-length
 same-length c = search needs
 
--- src/fill.rt:118:1
 same-length-2 : tie.Need-same-length-2
 same-length-2 c = search needs
 
--- src/fill.rt:118:1
 same-length-3 : tie.Need-same-length-3
 same-length-3 c = search needs
 
--- src/fill.rt:118:1
 returns : tie.Need-returns
 returns c = let a = c .before .before .before .before .before .before .before .before .before .before .before .before .before .before .before .before .before .before .args in part-put (partRows (now (a .sizes)) (now (a .negatives)) (now (a .counts))) (a .v) (now (a .b)) (c .before .before .before .before .before .before .before .before .before .before .before .put-i32 .ensures) (toZ-ofZ w32 _ (record { sfits = c .before .before .before .before .before .before .before .before .before .before .before .before .signed .ok }) ∙ c .before .before .before .before .before .before .before .before .before .before .before .before .signed .ensures) (c .before .before .before .before .before .before .before .before .before .before .before .before .before .four .ensures) (c .before .before .before .before .before .before .before .put-bool .ensures) (c .before .before .put-u32 .ensures) (c .before .before .before .four2 .ensures)
 

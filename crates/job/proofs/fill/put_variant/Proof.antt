@@ -8,81 +8,55 @@ use Rattle.job.specs.Steps.{rows}
 use borrow.Author.Needs.{needs}
 use Rattle.job.proofs.fill.put_variant.Statement.{statement}
 use Rattle.job.proofs.fill.put_variant.Tie as tie
-use Rattle.job.proofs.fill.put_variant.Reads as reads
-use Rattle.job.proofs.fill.put_variant.Lts as lts
-use Rattle.job.proofs.fields.eight.Reads as eight-reads
-use Rattle.job.proofs.fields.four.Reads as four-reads
-use Rattle.job.proofs.fields.signed.Reads as signed-reads
-use Rattle.job.proofs.fill.put_bool.Reads as put-bool-reads
-use Rattle.job.proofs.fill.put_i32.Reads as put-i32-reads
-use Rattle.job.proofs.fill.put_u32.Reads as put-u32-reads
-use Rattle.job.proofs.fill.put_u64.Reads as put-u64-reads
 
--- src/fill.rt:63:24
 eight-requires : tie.Need-eight-requires
 eight-requires c κs = search needs
 
--- src/fill.rt:63:5
 put-u64-requires : tie.Need-put-u64-requires
 put-u64-requires c κs = search needs
 
--- src/fill.rt:64:22
 eight-requires-2 : tie.Need-eight-requires-2
 eight-requires-2 c κs = search needs
 
--- src/fill.rt:64:5
 put-u64-requires-2 : tie.Need-put-u64-requires-2
 put-u64-requires-2 c κs = search needs
 
--- src/fill.rt:65:30
 four-requires : tie.Need-four-requires
 four-requires c κs = search needs
 
--- src/fill.rt:65:23
 signed-requires : tie.Need-signed-requires
 signed-requires c κs = search needs
 
--- src/fill.rt:65:5
 put-i32-requires : tie.Need-put-i32-requires
 put-i32-requires c κs = search needs
 
--- src/fill.rt:66:28
 shared-slice-read-put-bool : tie.Need-shared-slice-read-put-bool
 shared-slice-read-put-bool c = search needs
 
--- src/fill.rt:66:5
 put-bool-requires : tie.Need-put-bool-requires
 put-bool-requires c κs = search needs
 
--- src/fill.rt:67:24
 four-requires-2 : tie.Need-four-requires-2
 four-requires-2 c κs = search needs
 
--- src/fill.rt:67:5
 put-u32-requires : tie.Need-put-u32-requires
 put-u32-requires c κs = search needs
 
--- src/fill.rt:49:1
 same-length : tie.Need-same-length
 same-length c = search needs
 
--- src/fill.rt:49:1
 same-length-2 : tie.Need-same-length-2
 same-length-2 c = search needs
 
--- src/fill.rt:49:1
 same-length-3 : tie.Need-same-length-3
 same-length-3 c = search needs
 
--- src/fill.rt:49:1
 same-length-4 : tie.Need-same-length-4
 same-length-4 c = search needs
 
--- src/fill.rt:49:1
 same-length-5 : tie.Need-same-length-5
 same-length-5 c = search needs
 
--- src/fill.rt:49:1
 returns : tie.Need-returns
 returns c = let a = c .before .before .before .before .before .before .before .before .before .before .before .before .before .before .before .before .before .before .before .before .before .before .before .before .before .before .before .before .before .before .args in variant-put (rows (now (a .starts)) (now (a .ends)) (now (a .sizes)) (now (a .negatives)) (now (a .counts))) (a .v) (now (a .b)) (c .before .before .before .before .before .before .before .before .before .before .before .before .before .before .before .before .before .before .before .before .before .before .put-u64 .ensures) (c .before .before .before .before .before .before .before .before .before .before .before .before .before .before .before .before .before .before .before .before .before .before .before .eight .ensures) (c .before .before .before .before .before .before .before .before .before .before .before .before .before .before .before .before .before .put-u642 .ensures) (c .before .before .before .before .before .before .before .before .before .before .before .before .before .before .before .before .before .before .eight2 .ensures) (c .before .before .before .before .before .before .before .before .before .before .before .put-i32 .ensures) (toZ-ofZ w32 _ (record { sfits = c .before .before .before .before .before .before .before .before .before .before .before .before .signed .ok }) ∙ c .before .before .before .before .before .before .before .before .before .before .before .before .signed .ensures) (c .before .before .before .before .before .before .before .before .before .before .before .before .before .four .ensures) (c .before .before .before .before .before .before .before .put-bool .ensures) (c .before .before .put-u32 .ensures) (c .before .before .before .four2 .ensures)
 

@@ -1,31 +1,24 @@
+-- At most sixteen of the letters that are owed are read.
 use borrow.Author.Needs.{needs}
 use Rattle.job.proofs.FormLaws.{next-last, next-letters}
 use Rattle.job.proofs.form.after_letters.Statement.{statement}
 use Rattle.job.proofs.form.after_letters.Tie as tie
-use Rattle.job.proofs.form.after_letters.Reads as reads
-use Rattle.job.proofs.form.after_letters.Lts as lts
 
--- src/form.rt:156:35
 cast-t4 : tie.Need-cast-t4
 cast-t4 c = search needs
 
--- src/form.rt:156:22
 add-t5 : tie.Need-add-t5
 add-t5 c = search needs
 
--- src/form.rt:151:9
 returns : tie.Need-returns
 returns c = next-last (c .before .before .args .st) (c .before .if1 .taken)
 
--- src/form.rt:161:15
 sub-t6 : tie.Need-sub-t6
 sub-t6 c = search needs
 
--- src/form.rt:164:18
 add-t7 : tie.Need-add-t7
 add-t7 c = search needs
 
--- src/form.rt:145:1
 returns-2 : tie.Need-returns-2
 returns-2 c = next-letters (c .before .before .args .st) (c .before .if1 .left)
 

@@ -1,47 +1,35 @@
+-- The kind decides what changes; each count grows by no more than the record is long.
 use borrow.Author.Needs.{needs}
 use denote.Ref.{now}
 use native.Mathlib.Omega.{arith}
 use Rattle.job.proofs.FormLaws.{next-kind, next-settings, next-variant, next-part, next-rest}
 use Rattle.job.proofs.form.after_record.Statement.{statement}
 use Rattle.job.proofs.form.after_record.Tie as tie
-use Rattle.job.proofs.form.after_record.Reads as reads
-use Rattle.job.proofs.form.after_record.Lts as lts
-use Rattle.job.proofs.form.after_letters.Reads as after-letters-reads
-use Rattle.job.proofs.form.count_of.Reads as count-of-reads
 
--- src/form.rt:173:9
 after-letters-requires : tie.Need-after-letters-requires
 after-letters-requires c κs = omega arith
 
--- src/form.rt:173:9
 returns : tie.Need-returns
 returns c = next-kind (c .before .before .before .args .st) (c .before .before .before .args .k) (now (c .before .before .before .args .b)) (c .before .if1 .taken) (c .after-letters .ensures)
 
--- src/form.rt:175:9
 count-of-requires : tie.Need-count-of-requires
 count-of-requires c κs = search needs
 
--- src/form.rt:177:9
 returns-2 : tie.Need-returns-2
 returns-2 c = next-settings (c .before .before .before .before .args .st) (c .before .before .before .before .args .k) (now (c .before .before .before .before .args .b)) (c .before .before .if1 .left) _ (c .before .count-of .ensures) (c .if2 .taken)
 
--- src/form.rt:189:23
 add-t6 : tie.Need-add-t6
 add-t6 c = search needs
 
--- src/form.rt:186:9
 returns-3 : tie.Need-returns-3
 returns-3 c = next-variant (c .before .before .before .before .before .before .args .st) (c .before .before .before .before .before .before .args .k) (now (c .before .before .before .before .before .before .args .b)) (c .before .before .before .before .if1 .left) _ (c .before .before .before .count-of .ensures) (c .before .if3 .taken)
 
--- src/form.rt:199:20
 add-t7 : tie.Need-add-t7
 add-t7 c = search needs
 
--- src/form.rt:195:9
 returns-4 : tie.Need-returns-4
 returns-4 c = next-part (c .before .before .before .before .before .before .before .args .st) (c .before .before .before .before .before .before .before .args .k) (now (c .before .before .before .before .before .before .before .args .b)) (c .before .before .before .before .before .if1 .left) _ (c .before .before .before .before .count-of .ensures) (c .before .if4 .taken)
 
--- src/form.rt:168:1
 returns-5 : tie.Need-returns-5
 returns-5 c = next-rest (c .before .before .before .before .before .before .args .st) (c .before .before .before .before .before .before .args .k) (now (c .before .before .before .before .before .before .args .b)) (c .before .before .before .before .if1 .left) _ (c .before .before .before .count-of .ensures) (c .before .before .if2 .left) (c .before .if3 .left) (c .if4 .left)
 

@@ -1,3 +1,4 @@
+-- What is left to look at decides, since all before is zero.
 use Prim.Native.Nat.{_-_}
 use native.Mathlib.Omega.{arith}
 use mathlib.Core.Path.{_≡_, refl, _∙_}
@@ -6,8 +7,6 @@ use Rattle.job.specs.Form.{allZero}
 use Rattle.job.proofs.FormLaws.{zero-broken, zero-more, zero-done}
 use Rattle.job.proofs.form.all_zero.Statement.{statement}
 use Rattle.job.proofs.form.all_zero.Tie as tie
-use Rattle.job.proofs.form.all_zero.Reads as reads
-use Rattle.job.proofs.form.all_zero.Lts as lts
 
 abbrev Inv-loop : tie.InvT-loop
 Inv-loop b from to i₀ i = allZero (drop i (take to b)) ≡ allZero (drop from (take to b))
@@ -15,31 +14,24 @@ Inv-loop b from to i₀ i = allZero (drop i (take to b)) ≡ allZero (drop from 
 abbrev μ-loop : tie.MeasureT-loop
 μ-loop b from to i₀ i = to - i
 
--- src/form.rt:96:5
 loop-holds : tie.Need-loop-holds Inv-loop μ-loop
 loop-holds c = refl
 
--- src/form.rt:97:12
 shared-slice-read-if1 : tie.Need-shared-slice-read-if1 Inv-loop μ-loop
 shared-slice-read-if1 c = omega arith
 
--- src/form.rt:98:13
 returns : tie.Need-returns Inv-loop μ-loop
 returns c = zero-broken _ _ _ (c .before .before .loop-test .taken) (c .before .before .before .before .pre) (c .if1 .taken) ∙ c .before .before .before .loop .inv
 
--- src/form.rt:100:9
 add-i : tie.Need-add-i Inv-loop μ-loop
 add-i c = omega arith
 
--- src/form.rt:96:5
 loop-less : tie.Need-loop-less Inv-loop μ-loop
 loop-less c = omega arith
 
--- src/form.rt:96:5
 loop-again : tie.Need-loop-again Inv-loop μ-loop
 loop-again c = zero-more _ _ _ (c .before .before .loop-test .taken) (c .before .before .before .before .pre) (c .if1 .left) ∙ c .before .before .before .loop .inv
 
--- src/form.rt:91:1
 returns-2 : tie.Need-returns-2 Inv-loop μ-loop
 returns-2 c = zero-done _ _ _ (c .loop-test .left) ∙ c .before .loop .inv
 

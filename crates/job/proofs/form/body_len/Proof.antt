@@ -1,32 +1,26 @@
+-- Each arm is one kind.
 use Rattle.job.proofs.FormLaws.{body-rest}
 use Rattle.job.specs.Form.{bodyLen}
 use borrow.Author.Tests.{eq-eqb, ne-eqb}
 use Rattle.job.proofs.form.body_len.Statement.{statement}
 use Rattle.job.proofs.form.body_len.Tie as tie
-use Rattle.job.proofs.form.body_len.Reads as reads
-use Rattle.job.proofs.form.body_len.Lts as lts
 
--- src/form.rt:22:1
 returns : tie.Need-returns
 unfolding bodyLen
 returns c = rw (c .match .keys1)
 
--- src/form.rt:22:1
 returns-2 : tie.Need-returns-2
 unfolding bodyLen
 returns-2 c = rw (c .match .keys2)
 
--- src/form.rt:22:1
 returns-3 : tie.Need-returns-3
 unfolding bodyLen
 returns-3 c = rw (c .match .keys3)
 
--- src/form.rt:22:1
 returns-4 : tie.Need-returns-4
 unfolding bodyLen
 returns-4 c = rw (c .match .keys4)
 
--- src/form.rt:22:1
 returns-5 : tie.Need-returns-5
 returns-5 c = body-rest _ (c .match .rest .0 .0 .0 .1) (c .match .rest .0 .0 .1) (c .match .rest .0 .1) (c .match .rest .1)
 

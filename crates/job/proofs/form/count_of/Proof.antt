@@ -1,3 +1,4 @@
+-- Only a variant and a part announce letters.
 use Rattle.job.proofs.FormLaws.{long, count-rest}
 use Rattle.job.specs.Form.{bodyLen, countOf}
 use native.Mathlib.Omega.{arith}
@@ -5,31 +6,23 @@ use mathlib.Core.Path.{_∙_, sym}
 use borrow.Author.Tests.{eq-eqb, ne-eqb, lt-ltb, le-ltb}
 use Rattle.job.proofs.form.count_of.Statement.{statement}
 use Rattle.job.proofs.form.count_of.Tie as tie
-use Rattle.job.proofs.form.count_of.Reads as reads
-use Rattle.job.proofs.form.count_of.Lts as lts
-use Rattle.job.proofs.fields.four.Reads as four-reads
 
--- src/form.rt:70:9
 four-requires : tie.Need-four-requires
 unfolding bodyLen
 four-requires c κs = omega (arith, long (c .if1 .taken) (c .before .before .pre))
 
--- src/form.rt:70:9
 returns : tie.Need-returns
 unfolding countOf
 returns c = c .four .ensures ∙ sym (simp (eq-eqb _ _ (c .before .if1 .taken)))
 
--- src/form.rt:73:9
 four-requires-2 : tie.Need-four-requires-2
 unfolding bodyLen
 four-requires-2 c κs = omega (arith, long (c .if2 .taken) (c .before .before .before .pre))
 
--- src/form.rt:73:9
 returns-2 : tie.Need-returns-2
 unfolding countOf
 returns-2 c = c .four2 .ensures ∙ sym (simp (ne-eqb _ _ (c .before .before .if1 .left), eq-eqb _ _ (c .before .if2 .taken)))
 
--- src/form.rt:65:1
 returns-3 : tie.Need-returns-3
 returns-3 c = count-rest _ _ (c .before .if1 .left) (c .if2 .left)
 

@@ -1,3 +1,4 @@
+-- The tests come in the order of the faults, so each return is the first fault.
 use borrow.Author.Needs.{needs}
 use denote.Ref.{now}
 use mathlib.Core.Path.{_∙_, sym}
@@ -5,67 +6,46 @@ use borrow.Author.Tests.{not-true, not-false}
 use Rattle.job.proofs.FormLaws.{fault-20, fault-21, fault-22, fault-24, fault-13, fault-23, fault-25, fault-none-end, fault-none}
 use Rattle.job.proofs.form.fault_of.Statement.{statement}
 use Rattle.job.proofs.form.fault_of.Tie as tie
-use Rattle.job.proofs.form.fault_of.Reads as reads
-use Rattle.job.proofs.form.fault_of.Lts as lts
-use Rattle.job.proofs.form.body_len.Reads as body-len-reads
-use Rattle.job.proofs.form.count_of.Reads as count-of-reads
-use Rattle.job.proofs.form.flags_ok.Reads as flags-ok-reads
-use Rattle.job.proofs.form.in_place.Reads as in-place-reads
-use Rattle.job.proofs.form.pad_ok.Reads as pad-ok-reads
 
--- src/form.rt:119:9
 returns : tie.Need-returns
 returns c = fault-20 (c .before .before .args .st) (c .before .before .args .k) (now (c .before .before .args .b)) (c .if1 .taken)
 
--- src/form.rt:121:18
 body-len-requires : tie.Need-body-len-requires
 body-len-requires c κs = search needs
 
--- src/form.rt:122:9
 returns-2 : tie.Need-returns-2
 returns-2 c = fault-21 (c .before .before .before .before .args .st) (c .before .before .before .before .args .k) (now (c .before .before .before .before .args .b)) (c .before .before .if1 .left) _ (c .before .body-len .ensures) (c .if2 .taken)
 
--- src/form.rt:124:9
 in-place-requires : tie.Need-in-place-requires
 in-place-requires c κs = search needs
 
--- src/form.rt:125:9
 returns-3 : tie.Need-returns-3
 returns-3 c = fault-22 (c .before .before .before .before .before .before .args .st) (c .before .before .before .before .before .before .args .k) (now (c .before .before .before .before .before .before .args .b)) (c .before .before .before .before .if1 .left) _ (c .before .before .before .body-len .ensures) (c .before .before .if2 .left) (sym (c .before .in-place .ensures) ∙ not-true _ (c .if3 .taken))
 
--- src/form.rt:127:9
 flags-ok-requires : tie.Need-flags-ok-requires
 flags-ok-requires c κs = search needs
 
--- src/form.rt:128:9
 returns-4 : tie.Need-returns-4
 returns-4 c = fault-24 (c .before .before .before .before .before .before .before .before .args .st) (c .before .before .before .before .before .before .before .before .args .k) (now (c .before .before .before .before .before .before .before .before .args .b)) (c .before .before .before .before .before .before .if1 .left) _ (c .before .before .before .before .before .body-len .ensures) (c .before .before .before .before .if2 .left) (sym (c .before .before .before .in-place .ensures) ∙ not-false _ (c .before .before .if3 .left)) (sym (c .before .flags-ok .ensures) ∙ not-true _ (c .if4 .taken))
 
--- src/form.rt:130:17
 count-of-requires : tie.Need-count-of-requires
 count-of-requires c κs = search needs
 
--- src/form.rt:131:9
 returns-5 : tie.Need-returns-5
 returns-5 c = fault-13 (c .before .before .before .before .before .before .before .before .before .before .args .st) (c .before .before .before .before .before .before .before .before .before .before .args .k) (now (c .before .before .before .before .before .before .before .before .before .before .args .b)) (c .before .before .before .before .before .before .before .before .if1 .left) _ (c .before .before .before .before .before .before .before .body-len .ensures) (c .before .before .before .before .before .before .if2 .left) (sym (c .before .before .before .before .before .in-place .ensures) ∙ not-false _ (c .before .before .before .before .if3 .left)) (sym (c .before .before .before .flags-ok .ensures) ∙ not-false _ (c .before .before .if4 .left)) (rw (c .before .count-of .ensures) at (c .if5 .taken))
 
--- src/form.rt:133:9
 pad-ok-requires : tie.Need-pad-ok-requires
 pad-ok-requires c κs = search needs
 
--- src/form.rt:134:9
 returns-6 : tie.Need-returns-6
 returns-6 c = fault-23 (c .before .before .before .before .before .before .before .before .before .before .before .before .args .st) (c .before .before .before .before .before .before .before .before .before .before .before .before .args .k) (now (c .before .before .before .before .before .before .before .before .before .before .before .before .args .b)) (c .before .before .before .before .before .before .before .before .before .before .if1 .left) _ (c .before .before .before .before .before .before .before .before .before .body-len .ensures) (c .before .before .before .before .before .before .before .before .if2 .left) (sym (c .before .before .before .before .before .before .before .in-place .ensures) ∙ not-false _ (c .before .before .before .before .before .before .if3 .left)) (sym (c .before .before .before .before .before .flags-ok .ensures) ∙ not-false _ (c .before .before .before .before .if4 .left)) (rw (c .before .before .before .count-of .ensures) at (c .before .before .if5 .left)) (sym (c .before .pad-ok .ensures) ∙ not-true _ (c .if6 .taken))
 
--- src/form.rt:138:13
 returns-7 : tie.Need-returns-7
 returns-7 c = fault-25 (c .before .before .before .before .before .before .before .before .before .before .before .before .before .before .args .st) (c .before .before .before .before .before .before .before .before .before .before .before .before .before .before .args .k) (now (c .before .before .before .before .before .before .before .before .before .before .before .before .before .before .args .b)) (c .before .before .before .before .before .before .before .before .before .before .before .before .if1 .left) _ (c .before .before .before .before .before .before .before .before .before .before .before .body-len .ensures) (c .before .before .before .before .before .before .before .before .before .before .if2 .left) (sym (c .before .before .before .before .before .before .before .before .before .in-place .ensures) ∙ not-false _ (c .before .before .before .before .before .before .before .before .if3 .left)) (sym (c .before .before .before .before .before .before .before .flags-ok .ensures) ∙ not-false _ (c .before .before .before .before .before .before .if4 .left)) (rw (c .before .before .before .before .before .count-of .ensures) at (c .before .before .before .before .if5 .left)) (sym (c .before .before .before .pad-ok .ensures) ∙ not-false _ (c .before .before .if6 .left)) (c .before .if7 .taken) (c .if8 .taken)
 
--- src/form.rt:115:1
 returns-8 : tie.Need-returns-8
 returns-8 c = fault-none-end (c .before .before .before .before .before .before .before .before .before .before .before .before .before .before .args .st) (c .before .before .before .before .before .before .before .before .before .before .before .before .before .before .args .k) (now (c .before .before .before .before .before .before .before .before .before .before .before .before .before .before .args .b)) (c .before .before .before .before .before .before .before .before .before .before .before .before .if1 .left) _ (c .before .before .before .before .before .before .before .before .before .before .before .body-len .ensures) (c .before .before .before .before .before .before .before .before .before .before .if2 .left) (sym (c .before .before .before .before .before .before .before .before .before .in-place .ensures) ∙ not-false _ (c .before .before .before .before .before .before .before .before .if3 .left)) (sym (c .before .before .before .before .before .before .before .flags-ok .ensures) ∙ not-false _ (c .before .before .before .before .before .before .if4 .left)) (rw (c .before .before .before .before .before .count-of .ensures) at (c .before .before .before .before .if5 .left)) (sym (c .before .before .before .pad-ok .ensures) ∙ not-false _ (c .before .before .if6 .left)) (c .before .if7 .taken) (c .if8 .left)
 
--- src/form.rt:115:1
 returns-9 : tie.Need-returns-9
 returns-9 c = fault-none (c .before .before .before .before .before .before .before .before .before .before .before .before .before .args .st) (c .before .before .before .before .before .before .before .before .before .before .before .before .before .args .k) (now (c .before .before .before .before .before .before .before .before .before .before .before .before .before .args .b)) (c .before .before .before .before .before .before .before .before .before .before .before .if1 .left) _ (c .before .before .before .before .before .before .before .before .before .before .body-len .ensures) (c .before .before .before .before .before .before .before .before .before .if2 .left) (sym (c .before .before .before .before .before .before .before .before .in-place .ensures) ∙ not-false _ (c .before .before .before .before .before .before .before .if3 .left)) (sym (c .before .before .before .before .before .before .flags-ok .ensures) ∙ not-false _ (c .before .before .before .before .before .if4 .left)) (rw (c .before .before .before .before .count-of .ensures) at (c .before .before .before .if5 .left)) (sym (c .before .before .pad-ok .ensures) ∙ not-false _ (c .before .if6 .left)) (c .if7 .left)
 

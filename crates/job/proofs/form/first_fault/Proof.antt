@@ -1,3 +1,4 @@
+-- Reading the rest from here gives the whole's answer; the counts stay below the position, so none can overflow.
 use Prim.Native.Nat.{_≤_, _-_, zero-le}
 use native.Mathlib.Omega.{arith}
 use borrow.Author.Needs.{needs}
@@ -10,11 +11,6 @@ use Rattle.job.specs.Steps.{Small}
 use Rattle.job.proofs.FormLaws.{run-end, run-refused, run-done, run-more}
 use Rattle.job.proofs.form.first_fault.Statement.{statement}
 use Rattle.job.proofs.form.first_fault.Tie as tie
-use Rattle.job.proofs.form.first_fault.Reads as reads
-use Rattle.job.proofs.form.first_fault.Lts as lts
-use Rattle.job.proofs.form.after_record.Reads as after-record-reads
-use Rattle.job.proofs.form.body_len.Reads as body-len-reads
-use Rattle.job.proofs.form.fault_of.Reads as fault-of-reads
 
 abbrev Inv-loop : tie.InvT-loop
 Inv-loop s st₀ at₀ st at = (at ≤ length s) × ((run (drop at s) 0 st ≡ run s 0 start) × Small st at)
@@ -22,63 +18,48 @@ Inv-loop s st₀ at₀ st at = (at ≤ length s) × ((run (drop at s) 0 st ≡ r
 abbrev μ-loop : tie.MeasureT-loop
 μ-loop s st₀ at₀ st at = length s - at
 
--- src/form.rt:223:5
 loop-holds : tie.Need-loop-holds Inv-loop μ-loop
 loop-holds c = (zero-le, (refl, (zero-le, (zero-le, zero-le))))
 
--- src/form.rt:224:17
 shared-slice-read-k : tie.Need-shared-slice-read-k Inv-loop μ-loop
 shared-slice-read-k c = omega arith
 
--- src/form.rt:225:20
 add-b : tie.Need-add-b Inv-loop μ-loop
 add-b c = omega arith
 
--- src/form.rt:225:17
 sub-b : tie.Need-sub-b Inv-loop μ-loop
 sub-b c = omega arith
 
--- src/form.rt:225:17
 part-b-start : tie.Need-part-b-start Inv-loop μ-loop
 part-b-start c = omega arith
 
--- src/form.rt:225:17
 part-b-end : tie.Need-part-b-end Inv-loop μ-loop
 part-b-end c = omega arith
 
--- src/form.rt:226:13
 fault-of-requires : tie.Need-fault-of-requires Inv-loop μ-loop
 fault-of-requires c κs = search needs
 
--- src/form.rt:228:13
 returns : tie.Need-returns Inv-loop μ-loop
 returns c = run-refused (now (c .before .before .before .before .before .before .before .args .s)) _ (c .before .before .before .before .before .loop .st) (c .before .before .before .before .loop-test .taken) _ (c .before .fault-of .ensures) (c .if1 .taken) ∙ c .before .before .before .before .before .loop .inv .1 .0
 
--- src/form.rt:231:13
 returns-2 : tie.Need-returns-2 Inv-loop μ-loop
 returns-2 c = run-done (now (c .before .before .before .before .before .before .before .before .args .s)) _ (c .before .before .before .before .before .before .loop .st) (c .before .before .before .before .before .loop-test .taken) _ (c .before .before .fault-of .ensures) (c .before .if1 .left) (c .if2 .taken) ∙ c .before .before .before .before .before .before .loop .inv .1 .0
 
--- src/form.rt:233:9
 after-record-requires : tie.Need-after-record-requires Inv-loop μ-loop
 after-record-requires c κs = (fault-long _ _ _ (sym (c .before .before .fault-of .ensures) ∙ c .before .if1 .left), omega arith)
 
--- src/form.rt:234:14
 add-at : tie.Need-add-at Inv-loop μ-loop
 add-at c = omega arith
 
--- src/form.rt:234:23
 body-len-requires : tie.Need-body-len-requires Inv-loop μ-loop
 body-len-requires c κs = search needs
 
--- src/form.rt:234:14
 add-at-2 : tie.Need-add-at-2 Inv-loop μ-loop
 add-at-2 c = let h = room (now (c .before .before .before .before .before .before .before .before .before .before .args .s)) _ (c .before .before .before .before .before .before .before .before .loop .st) (c .before .before .before .before .before .before .before .loop-test .taken) _ (c .before .before .before .before .fault-of .ensures) (c .before .before .before .if1 .left) _ (c .body-len .ensures) in omega arith
 
--- src/form.rt:223:5
 loop-less : tie.Need-loop-less Inv-loop μ-loop
 loop-less c = let h = room (now (c .before .before .before .before .before .before .before .before .before .before .args .s)) _ (c .before .before .before .before .before .before .before .before .loop .st) (c .before .before .before .before .before .before .before .loop-test .taken) _ (c .before .before .before .before .fault-of .ensures) (c .before .before .before .if1 .left) _ (c .body-len .ensures) in omega arith
 
--- src/form.rt:223:5
 loop-again : tie.Need-loop-again Inv-loop μ-loop
 loop-again c = (
   room (now (c .before .before .before .before .before .before .before .before .before .before .args .s)) _ (c .before .before .before .before .before .before .before .before .loop .st) (c .before .before .before .before .before .before .before .loop-test .taken) _ (c .before .before .before .before .fault-of .ensures) (c .before .before .before .if1 .left) _ (c .body-len .ensures),
@@ -88,7 +69,6 @@ loop-again c = (
   ),
 )
 
--- src/form.rt:212:1
 returns-3 : tie.Need-returns-3 Inv-loop μ-loop
 returns-3 c = run-end _ _ _ (c .loop-test .left) ∙ c .before .loop .inv .1 .0
 

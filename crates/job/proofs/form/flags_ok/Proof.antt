@@ -1,3 +1,4 @@
+-- The kind decides which bytes are flags.
 use denote.Ref.{now}
 use Rattle.job.specs.Form.{bodyLen, flagsOk}
 use native.Mathlib.Omega.{arith}
@@ -5,40 +6,30 @@ use mathlib.Core.Path.{_∙_, sym}
 use Rattle.job.proofs.FormLaws.{long, flags-kind, flags-rest}
 use Rattle.job.proofs.form.flags_ok.Statement.{statement}
 use Rattle.job.proofs.form.flags_ok.Tie as tie
-use Rattle.job.proofs.form.flags_ok.Reads as reads
-use Rattle.job.proofs.form.flags_ok.Lts as lts
-use Rattle.job.proofs.form.settings_flags.Reads as settings-flags-reads
 
--- src/form.rt:67:9
 settings-flags-requires : tie.Need-settings-flags-requires
 unfolding bodyLen
 settings-flags-requires c κs = omega (arith, long (c .if1 .taken) (c .before .before .pre))
 
--- src/form.rt:67:9
 returns : tie.Need-returns
 returns c = c .settings-flags .ensures ∙ flags-kind _ _ _ (c .before .if1 .taken)
 
--- src/form.rt:70:16
 shared-slice-read-result : tie.Need-shared-slice-read-result
 unfolding bodyLen
 shared-slice-read-result c = omega (arith, long (c .before .if2 .taken) (c .before .before .before .before .pre))
 
--- src/form.rt:70:9
 returns-2 : tie.Need-returns-2
 unfolding flagsOk
 returns-2 c = flags-kind _ 2 (now (c .before .before .before .before .args .b)) (c .before .if2 .taken)
 
--- src/form.rt:73:16
 shared-slice-read-result-2 : tie.Need-shared-slice-read-result-2
 unfolding bodyLen
 shared-slice-read-result-2 c = omega (arith, long (c .before .if3 .taken) (c .before .before .before .before .before .pre))
 
--- src/form.rt:73:9
 returns-3 : tie.Need-returns-3
 unfolding flagsOk
 returns-3 c = flags-kind _ 3 (now (c .before .before .before .before .before .args .b)) (c .before .if3 .taken)
 
--- src/form.rt:62:1
 returns-4 : tie.Need-returns-4
 returns-4 c = flags-rest _ _ (c .before .before .if1 .left) (c .before .if2 .left) (c .if3 .left)
 

@@ -1,3 +1,4 @@
+-- Only letters are padded.
 use borrow.Author.Needs.{needs}
 use Rattle.job.specs.Form.{bodyLen}
 use native.Mathlib.Omega.{arith}
@@ -5,24 +6,17 @@ use mathlib.Core.Path.{_∙_}
 use Rattle.job.proofs.FormLaws.{long, pad-rest, pad-letters}
 use Rattle.job.proofs.form.pad_ok.Statement.{statement}
 use Rattle.job.proofs.form.pad_ok.Tie as tie
-use Rattle.job.proofs.form.pad_ok.Reads as reads
-use Rattle.job.proofs.form.pad_ok.Lts as lts
-use Rattle.job.proofs.form.all_zero.Reads as all-zero-reads
 
--- src/form.rt:110:28
 cast-all-zero : tie.Need-cast-all-zero
 cast-all-zero c = search needs
 
--- src/form.rt:110:9
 all-zero-requires : tie.Need-all-zero-requires
 unfolding bodyLen
 all-zero-requires c κs = omega (arith, long (c .before .if1 .taken) (c .before .before .before .pre))
 
--- src/form.rt:110:9
 returns : tie.Need-returns
 returns c = c .all-zero .ensures ∙ pad-letters _ _ _ (c .before .before .if1 .taken)
 
--- src/form.rt:105:1
 returns-2 : tie.Need-returns-2
 returns-2 c = pad-rest (c .before .before .args .st) _ _ (c .if1 .left)
 

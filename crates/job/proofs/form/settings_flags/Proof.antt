@@ -1,33 +1,26 @@
+-- The three flags are tested in turn.
 use borrow.Author.Needs.{needs}
 use Rattle.job.proofs.FormLaws.{flags-settings-1, flags-settings-2, flags-settings-3}
 use Rattle.job.specs.Form.{flagsOk}
 use borrow.Author.Tests.{eq-eqb, ne-eqb, lt-ltb, le-ltb}
 use Rattle.job.proofs.form.settings_flags.Statement.{statement}
 use Rattle.job.proofs.form.settings_flags.Tie as tie
-use Rattle.job.proofs.form.settings_flags.Reads as reads
-use Rattle.job.proofs.form.settings_flags.Lts as lts
 
--- src/form.rt:53:13
 shared-slice-read-if1 : tie.Need-shared-slice-read-if1
 shared-slice-read-if1 c = search needs
 
--- src/form.rt:54:9
 returns : tie.Need-returns
 returns c = flags-settings-1 _ (c .if1 .taken)
 
--- src/form.rt:56:13
 shared-slice-read-if2 : tie.Need-shared-slice-read-if2
 shared-slice-read-if2 c = search needs
 
--- src/form.rt:57:9
 returns-2 : tie.Need-returns-2
 returns-2 c = flags-settings-2 _ (c .before .before .if1 .left) (c .if2 .taken)
 
--- src/form.rt:59:5
 shared-slice-read-result : tie.Need-shared-slice-read-result
 shared-slice-read-result c = search needs
 
--- src/form.rt:49:1
 returns-3 : tie.Need-returns-3
 returns-3 c = flags-settings-3 _ (c .before .before .before .if1 .left) (c .before .if2 .left)
 

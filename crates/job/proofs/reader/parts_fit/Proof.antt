@@ -1,18 +1,14 @@
+-- The three lengths are tested in turn.
 use Rattle.job.proofs.RoomLaws.{three-1, three-2, three-3}
 use Rattle.job.proofs.reader.parts_fit.Statement.{statement}
 use Rattle.job.proofs.reader.parts_fit.Tie as tie
-use Rattle.job.proofs.reader.parts_fit.Reads as reads
-use Rattle.job.proofs.reader.parts_fit.Lts as lts
 
--- src/reader.rt:49:9
 returns : tie.Need-returns
 returns c = let a = c .before .args in three-1 (a .n) (a .a) (a .b) (a .c) (c .if1 .taken)
 
--- src/reader.rt:52:9
 returns-2 : tie.Need-returns-2
 returns-2 c = let a = c .before .before .args in three-2 (a .n) (a .a) (a .b) (a .c) (c .before .if1 .left) (c .if2 .taken)
 
--- src/reader.rt:45:1
 returns-3 : tie.Need-returns-3
 returns-3 c = let a = c .before .before .args in three-3 (a .n) (a .a) (a .b) (a .c) (c .before .if1 .left) (c .if2 .left)
 

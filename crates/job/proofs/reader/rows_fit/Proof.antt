@@ -1,26 +1,20 @@
+-- The five lengths are tested in turn.
 use Rattle.job.proofs.RoomLaws.{five-1, five-2, five-3, five-4, five-5}
 use Rattle.job.proofs.reader.rows_fit.Statement.{statement}
 use Rattle.job.proofs.reader.rows_fit.Tie as tie
-use Rattle.job.proofs.reader.rows_fit.Reads as reads
-use Rattle.job.proofs.reader.rows_fit.Lts as lts
 
--- src/reader.rt:31:9
 returns : tie.Need-returns
 returns c = let a = c .before .args in five-1 (a .n) (a .a) (a .b) (a .c) (a .d) (a .e) (c .if1 .taken)
 
--- src/reader.rt:34:9
 returns-2 : tie.Need-returns-2
 returns-2 c = let a = c .before .before .args in five-2 (a .n) (a .a) (a .b) (a .c) (a .d) (a .e) (c .before .if1 .left) (c .if2 .taken)
 
--- src/reader.rt:37:9
 returns-3 : tie.Need-returns-3
 returns-3 c = let a = c .before .before .before .args in five-3 (a .n) (a .a) (a .b) (a .c) (a .d) (a .e) (c .before .before .if1 .left) (c .before .if2 .left) (c .if3 .taken)
 
--- src/reader.rt:40:9
 returns-4 : tie.Need-returns-4
 returns-4 c = let a = c .before .before .before .before .args in five-4 (a .n) (a .a) (a .b) (a .c) (a .d) (a .e) (c .before .before .before .if1 .left) (c .before .before .if2 .left) (c .before .if3 .left) (c .if4 .taken)
 
--- src/reader.rt:27:1
 returns-5 : tie.Need-returns-5
 returns-5 c = let a = c .before .before .before .before .args in five-5 (a .n) (a .a) (a .b) (a .c) (a .d) (a .e) (c .before .before .before .if1 .left) (c .before .before .if2 .left) (c .before .if3 .left) (c .if4 .left)
 

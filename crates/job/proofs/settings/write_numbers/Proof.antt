@@ -4,51 +4,37 @@ use Rattle.job.proofs.SettingsLaws.{numbers-stored}
 use borrow.Author.Needs.{needs}
 use Rattle.job.proofs.settings.write_numbers.Statement.{statement}
 use Rattle.job.proofs.settings.write_numbers.Tie as tie
-use Rattle.job.proofs.settings.write_numbers.Reads as reads
-use Rattle.job.proofs.settings.write_numbers.Lts as lts
-use Rattle.job.proofs.fields.put_four.Reads as put-four-reads
 
--- src/settings.rt:40:5
 put-four-requires : tie.Need-put-four-requires
 put-four-requires c κs = search needs
 
--- src/settings.rt:41:19
 add-put-four : tie.Need-add-put-four
 add-put-four c = search needs
 
--- src/settings.rt:41:5
 put-four-requires-2 : tie.Need-put-four-requires-2
 put-four-requires-2 c κs = search needs
 
--- src/settings.rt:42:19
 add-put-four-2 : tie.Need-add-put-four-2
 add-put-four-2 c = search needs
 
--- src/settings.rt:42:5
 put-four-requires-3 : tie.Need-put-four-requires-3
 put-four-requires-3 c κs = search needs
 
--- src/settings.rt:43:19
 add-put-four-3 : tie.Need-add-put-four-3
 add-put-four-3 c = search needs
 
--- src/settings.rt:43:5
 put-four-requires-4 : tie.Need-put-four-requires-4
 put-four-requires-4 c κs = search needs
 
--- src/settings.rt:44:19
 add-put-four-4 : tie.Need-add-put-four-4
 add-put-four-4 c = search needs
 
--- src/settings.rt:44:5
 put-four-requires-5 : tie.Need-put-four-requires-5
 put-four-requires-5 c κs = search needs
 
--- src/settings.rt:36:1
 same-length : tie.Need-same-length
 same-length c = search needs
 
--- src/settings.rt:36:1
 returns : tie.Need-returns
 returns c = let a = c .before .before .before .before .before .before .before .before .before .before .before .before .before .before .before .before .before .before .before .before .before .args in numbers-stored (a .at) (a .s) (now (a .out)) _ _ _ _ _ (c .before .before .before .before .before .before .before .before .before .before .before .before .before .before .before .before .before .before .put-four .ensures) (c .before .before .before .before .before .before .before .before .before .before .before .before .before .before .put-four2 .ensures) (c .before .before .before .before .before .before .before .before .before .before .put-four3 .ensures) (c .before .before .before .before .before .before .put-four4 .ensures) (c .before .before .put-four5 .ensures)
 

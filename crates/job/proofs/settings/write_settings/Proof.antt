@@ -4,74 +4,52 @@ use Rattle.job.proofs.SettingsLaws.{settings-stored}
 use borrow.Author.Needs.{needs}
 use Rattle.job.proofs.settings.write_settings.Statement.{statement}
 use Rattle.job.proofs.settings.write_settings.Tie as tie
-use Rattle.job.proofs.settings.write_settings.Reads as reads
-use Rattle.job.proofs.settings.write_settings.Lts as lts
-use Rattle.job.proofs.fields.flag_of.Reads as flag-of-reads
-use Rattle.job.proofs.fields.put_one.Reads as put-one-reads
-use Rattle.job.proofs.settings.write_floats.Reads as write-floats-reads
-use Rattle.job.proofs.settings.write_numbers.Reads as write-numbers-reads
 
--- src/settings.rt:61:5
 put-one-requires : tie.Need-put-one-requires
 put-one-requires c κs = search needs
 
--- src/settings.rt:62:18
 add-put-one : tie.Need-add-put-one
 add-put-one c = search needs
 
--- src/settings.rt:62:26
 flag-of-requires : tie.Need-flag-of-requires
 flag-of-requires c κs = search needs
 
--- src/settings.rt:62:5
 put-one-requires-2 : tie.Need-put-one-requires-2
 put-one-requires-2 c κs = search needs
 
--- src/settings.rt:63:18
 add-put-one-2 : tie.Need-add-put-one-2
 add-put-one-2 c = search needs
 
--- src/settings.rt:63:26
 flag-of-requires-2 : tie.Need-flag-of-requires-2
 flag-of-requires-2 c κs = search needs
 
--- src/settings.rt:63:5
 put-one-requires-3 : tie.Need-put-one-requires-3
 put-one-requires-3 c κs = search needs
 
--- src/settings.rt:64:18
 add-put-one-3 : tie.Need-add-put-one-3
 add-put-one-3 c = search needs
 
--- src/settings.rt:64:26
 flag-of-requires-3 : tie.Need-flag-of-requires-3
 flag-of-requires-3 c κs = search needs
 
--- src/settings.rt:64:5
 put-one-requires-4 : tie.Need-put-one-requires-4
 put-one-requires-4 c κs = search needs
 
--- src/settings.rt:65:24
 add-write-numbers : tie.Need-add-write-numbers
 add-write-numbers c = search needs
 
--- src/settings.rt:65:5
 write-numbers-requires : tie.Need-write-numbers-requires
 write-numbers-requires c κs = search needs
 
--- src/settings.rt:66:23
 add-write-floats : tie.Need-add-write-floats
 add-write-floats c = search needs
 
--- src/settings.rt:66:5
 write-floats-requires : tie.Need-write-floats-requires
 write-floats-requires c κs = search needs
 
--- src/settings.rt:57:1
 same-length : tie.Need-same-length
 same-length c = search needs
 
--- src/settings.rt:57:1
 returns : tie.Need-returns
 returns c = let a = c .before .before .before .before .before .before .before .before .before .before .before .before .before .before .before .before .before .before .before .before .before .before .before .before .before .before .before .before .args in settings-stored (a .at) (a .s) (now (a .out)) _ _ _ _ _ _ _ _ _ (c .before .before .before .before .before .before .before .before .before .before .before .before .before .before .before .before .before .before .before .before .before .flag-of .ensures) (c .before .before .before .before .before .before .before .before .before .before .before .before .before .before .before .before .flag-of2 .ensures) (c .before .before .before .before .before .before .before .before .before .before .before .flag-of3 .ensures) (c .before .before .before .before .before .before .before .before .before .before .before .before .before .before .before .before .before .before .before .before .before .before .before .before .before .put-one .ensures) (c .before .before .before .before .before .before .before .before .before .before .before .before .before .before .before .before .before .before .before .before .put-one2 .ensures) (c .before .before .before .before .before .before .before .before .before .before .before .before .before .before .before .put-one3 .ensures) (c .before .before .before .before .before .before .before .before .before .before .put-one4 .ensures) (c .before .before .before .before .before .before .write-numbers .ensures) (c .before .before .write-floats .ensures)
 

@@ -8,8 +8,6 @@ use Rattle.job.proofs.WriteLaws.{over-done, over-here, over-more}
 use Rattle.job.specs.Writing.{anyOver}
 use Rattle.job.proofs.writer.any_over.Statement.{statement}
 use Rattle.job.proofs.writer.any_over.Tie as tie
-use Rattle.job.proofs.writer.any_over.Reads as reads
-use Rattle.job.proofs.writer.any_over.Lts as lts
 
 abbrev Inv-loop : tie.InvT-loop
 Inv-loop counts i₀ i = (anyOver (drop i counts) ≡ anyOver counts) × (i ≤ length counts)
@@ -17,35 +15,27 @@ Inv-loop counts i₀ i = (anyOver (drop i counts) ≡ anyOver counts) × (i ≤ 
 abbrev μ-loop : tie.MeasureT-loop
 μ-loop counts i₀ i = length counts - i
 
--- src/writer.rt:134:5
 loop-holds : tie.Need-loop-holds Inv-loop μ-loop
 loop-holds c = (refl, zero-le)
 
--- src/writer.rt:135:27
 mul-if1 : tie.Need-mul-if1 Inv-loop μ-loop
 mul-if1 c = omega arith
 
--- src/writer.rt:135:27
 shared-slice-read-if1 : tie.Need-shared-slice-read-if1 Inv-loop μ-loop
 shared-slice-read-if1 c = omega arith
 
--- src/writer.rt:136:13
 returns : tie.Need-returns Inv-loop μ-loop
 returns c = let a = c .before .before .before .before .args in over-here (now (a .counts)) (c .before .before .before .loop .i) (c .before .before .loop-test .taken) (c .if1 .taken) ∙ c .before .before .before .loop .inv .0
 
--- src/writer.rt:138:9
 add-i : tie.Need-add-i Inv-loop μ-loop
 add-i c = omega arith
 
--- src/writer.rt:134:5
 loop-less : tie.Need-loop-less Inv-loop μ-loop
 loop-less c = omega arith
 
--- src/writer.rt:134:5
 loop-again : tie.Need-loop-again Inv-loop μ-loop
 loop-again c = let a = c .before .before .before .before .args in (over-more (now (a .counts)) (c .before .before .before .loop .i) (c .before .before .loop-test .taken) (c .if1 .left) ∙ c .before .before .before .loop .inv .0, omega arith)
 
--- src/writer.rt:130:1
 returns-2 : tie.Need-returns-2 Inv-loop μ-loop
 returns-2 c = let a = c .before .before .args in over-done (now (a .counts)) (c .before .loop .i) (c .loop-test .left) ∙ c .before .loop .inv .0
 

@@ -1,38 +1,29 @@
+-- A count of 32 bits costs less than 2 ^ 40.
 use native.Mathlib.Omega.{arith}
 use Rattle.job.proofs.FillLaws.{short-body}
 use Rattle.job.proofs.WriteLaws.{cost-letters, cost-bytes}
 use borrow.Author.Needs.{needs}
 use Rattle.job.proofs.writer.cost.Statement.{statement}
 use Rattle.job.proofs.writer.cost.Tie as tie
-use Rattle.job.proofs.writer.cost.Reads as reads
-use Rattle.job.proofs.writer.cost.Lts as lts
-use Rattle.job.proofs.form.body_len.Reads as body-len-reads
 
--- src/writer.rt:78:9
 returns : tie.Need-returns
 returns c = (cost-letters (c .before .args .kind) (c .before .args .count) (c .if1 .taken), omega arith)
 
--- src/writer.rt:80:9
 body-len-requires : tie.Need-body-len-requires
 body-len-requires c κs = search needs
 
--- src/writer.rt:80:5
 add-result : tie.Need-add-result
 add-result c = omega (arith, short-body (c .before .before .args .kind), c .body-len .ensures)
 
--- src/writer.rt:80:33
 add-result-2 : tie.Need-add-result-2
 add-result-2 c = search needs
 
--- src/writer.rt:80:26
 mul-result : tie.Need-mul-result
 mul-result c = search needs
 
--- src/writer.rt:80:5
 add-result-3 : tie.Need-add-result-3
 add-result-3 c = omega (arith, short-body (c .before .before .args .kind), c .body-len .ensures)
 
--- src/writer.rt:73:1
 returns-2 : tie.Need-returns-2
 returns-2 c = (cost-bytes (c .before .before .args .kind) (c .before .before .args .count) _ (c .before .if1 .left) (c .body-len .ensures), omega (arith, short-body (c .before .before .args .kind), c .body-len .ensures))
 

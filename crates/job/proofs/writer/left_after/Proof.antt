@@ -9,9 +9,6 @@ use Rattle.job.proofs.WriteLaws.{left-short, left-more, left-done}
 use Rattle.job.specs.Steps.{leftOf, total}
 use Rattle.job.proofs.writer.left_after.Statement.{statement}
 use Rattle.job.proofs.writer.left_after.Tie as tie
-use Rattle.job.proofs.writer.left_after.Reads as reads
-use Rattle.job.proofs.writer.left_after.Lts as lts
-use Rattle.job.proofs.writer.cost.Reads as cost-reads
 
 abbrev Inv-loop : tie.InvT-loop
 Inv-loop kind counts have left₀ i₀ left i = (leftOf (total kind (drop i counts)) left ≡ leftOf (total kind counts) have) × (i ≤ length counts)
@@ -19,39 +16,30 @@ Inv-loop kind counts have left₀ i₀ left i = (leftOf (total kind (drop i coun
 abbrev μ-loop : tie.MeasureT-loop
 μ-loop kind counts have left₀ i₀ left i = length counts - i
 
--- src/writer.rt:89:5
 loop-holds : tie.Need-loop-holds Inv-loop μ-loop
 loop-holds c = (refl, zero-le)
 
--- src/writer.rt:90:28
 mul-cost : tie.Need-mul-cost Inv-loop μ-loop
 mul-cost c = omega arith
 
--- src/writer.rt:90:28
 shared-slice-read-cost : tie.Need-shared-slice-read-cost Inv-loop μ-loop
 shared-slice-read-cost c = omega arith
 
--- src/writer.rt:90:13
 cost-requires : tie.Need-cost-requires Inv-loop μ-loop
 cost-requires c κs = search needs
 
--- src/writer.rt:92:13
 returns : tie.Need-returns Inv-loop μ-loop
 returns c = let a = c .before .before .before .before .before .before .args in left-short (a .kind) (now (a .counts)) (c .before .before .before .before .loop .i) (c .before .before .before .before .loop .left) (c .before .before .before .loop-test .taken) _ (c .before .cost .ensures .0) (c .if1 .taken) ∙ c .before .before .before .before .loop .inv .0
 
--- src/writer.rt:95:9
 add-i : tie.Need-add-i Inv-loop μ-loop
 add-i c = omega arith
 
--- src/writer.rt:89:5
 loop-less : tie.Need-loop-less Inv-loop μ-loop
 loop-less c = omega arith
 
--- src/writer.rt:89:5
 loop-again : tie.Need-loop-again Inv-loop μ-loop
 loop-again c = let a = c .before .before .before .before .before .before .args in (left-more (a .kind) (now (a .counts)) (c .before .before .before .before .loop .i) (c .before .before .before .before .loop .left) (c .before .before .before .loop-test .taken) _ (c .before .cost .ensures .0) (c .if1 .left) ∙ c .before .before .before .before .loop .inv .0, omega arith)
 
--- src/writer.rt:84:1
 returns-2 : tie.Need-returns-2 Inv-loop μ-loop
 returns-2 c = let a = c .before .before .before .args in left-done (a .kind) (now (a .counts)) (c .before .loop .i) (c .before .loop .left) (c .loop-test .left) ∙ c .before .loop .inv .0
 

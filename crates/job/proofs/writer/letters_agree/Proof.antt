@@ -5,43 +5,31 @@ use Rattle.job.proofs.WriteLaws.{agree-short, agree-short-2, agree-enou
 use borrow.Author.Needs.{needs}
 use Rattle.job.proofs.writer.letters_agree.Statement.{statement}
 use Rattle.job.proofs.writer.letters_agree.Tie as tie
-use Rattle.job.proofs.writer.letters_agree.Reads as reads
-use Rattle.job.proofs.writer.letters_agree.Lts as lts
-use Rattle.job.proofs.writer.left_after.Reads as left-after-reads
 
--- src/writer.rt:103:9
 left-after-requires : tie.Need-left-after-requires
 left-after-requires c κs = search needs
 
--- src/writer.rt:105:24
 enum-told : tie.Need-enum-told
 enum-told c = search needs
 
--- src/writer.rt:106:22
 enum-known-first : tie.Need-enum-known-first
 enum-known-first c = search needs
 
--- src/writer.rt:107:17
 left-after-requires-2 : tie.Need-left-after-requires-2
 left-after-requires-2 c κs = search needs
 
--- src/writer.rt:109:32
 enum-told-2 : tie.Need-enum-told-2
 enum-told-2 c = search needs
 
--- src/writer.rt:110:30
 enum-known-second : tie.Need-enum-known-second
 enum-known-second c = search needs
 
--- src/writer.rt:100:1
 returns : tie.Need-returns
-returns c = let a = c .before .before .before .before .before .args in agree-short (now (a .counts)) (now (a .parts)) (a .have) (sym (c .enum-told .given) ∙ c .before .before .left-after .ensures)
+returns c = let a = c .before .before .before .before .before .args in agree-short (now (a .counts)) (now (a .parts)) (a .have) (sym (c .enum-told .given .1) ∙ c .before .before .left-after .ensures)
 
--- src/writer.rt:100:1
 returns-2 : tie.Need-returns-2
-returns-2 c = let a = c .before .before .before .before .before .before .before .before .before .args in agree-short-2 (now (a .counts)) (now (a .parts)) (a .have) _ (sym (c .before .before .before .before .first .given .1) ∙ c .before .before .before .before .before .before .left-after .ensures) (sym (c .enum-told2 .given) ∙ c .before .before .left-after2 .ensures)
+returns-2 c = let a = c .before .before .before .before .before .before .before .before .before .args in agree-short-2 (now (a .counts)) (now (a .parts)) (a .have) _ (sym (c .before .before .before .before .first .given .1) ∙ c .before .before .before .before .before .before .left-after .ensures) (sym (c .enum-told2 .given .1) ∙ c .before .before .left-after2 .ensures)
 
--- src/writer.rt:100:1
 returns-3 : tie.Need-returns-3
 returns-3 c = let a = c .before .before .before .before .before .before .before .before .before .before .args in agree-enough (now (a .counts)) (now (a .parts)) (a .have) _ (sym (c .before .before .before .before .before .first .given .1) ∙ c .before .before .before .before .before .before .before .left-after .ensures) _ (sym (c .before .second .given .1) ∙ c .before .before .before .left-after2 .ensures)
 

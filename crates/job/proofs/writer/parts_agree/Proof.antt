@@ -1,14 +1,11 @@
+-- The two lengths are tested in turn.
 use Rattle.job.proofs.RoomLaws.{two-1, two-2}
 use Rattle.job.proofs.writer.parts_agree.Statement.{statement}
 use Rattle.job.proofs.writer.parts_agree.Tie as tie
-use Rattle.job.proofs.writer.parts_agree.Reads as reads
-use Rattle.job.proofs.writer.parts_agree.Lts as lts
 
--- src/writer.rt:68:9
 returns : tie.Need-returns
 returns c = let a = c .before .args in two-1 (a .n) (a .a) (a .b) (c .if1 .taken)
 
--- src/writer.rt:64:1
 returns-2 : tie.Need-returns-2
 returns-2 c = let a = c .before .args in two-2 (a .n) (a .a) (a .b) (c .if1 .left)
 

@@ -1,22 +1,17 @@
+-- The four lengths are tested in turn.
 use Rattle.job.proofs.RoomLaws.{four-1, four-2, four-3, four-4}
 use Rattle.job.proofs.writer.rows_agree.Statement.{statement}
 use Rattle.job.proofs.writer.rows_agree.Tie as tie
-use Rattle.job.proofs.writer.rows_agree.Reads as reads
-use Rattle.job.proofs.writer.rows_agree.Lts as lts
 
--- src/writer.rt:53:9
 returns : tie.Need-returns
 returns c = let a = c .before .args in four-1 (a .n) (a .a) (a .b) (a .c) (a .d) (c .if1 .taken)
 
--- src/writer.rt:56:9
 returns-2 : tie.Need-returns-2
 returns-2 c = let a = c .before .before .args in four-2 (a .n) (a .a) (a .b) (a .c) (a .d) (c .before .if1 .left) (c .if2 .taken)
 
--- src/writer.rt:59:9
 returns-3 : tie.Need-returns-3
 returns-3 c = let a = c .before .before .before .args in four-3 (a .n) (a .a) (a .b) (a .c) (a .d) (c .before .before .if1 .left) (c .before .if2 .left) (c .if3 .taken)
 
--- src/writer.rt:49:1
 returns-4 : tie.Need-returns-4
 returns-4 c = let a = c .before .before .before .args in four-4 (a .n) (a .a) (a .b) (a .c) (a .d) (c .before .before .if1 .left) (c .before .if2 .left) (c .if3 .left)
 

@@ -6,35 +6,25 @@ use Rattle.job.proofs.WriteLaws.{spare-none, spare-short, spare-enough}
 use borrow.Author.Needs.{needs}
 use Rattle.job.proofs.writer.spare.Statement.{statement}
 use Rattle.job.proofs.writer.spare.Tie as tie
-use Rattle.job.proofs.writer.spare.Reads as reads
-use Rattle.job.proofs.writer.spare.Lts as lts
-use Rattle.job.proofs.writer.left_after.Reads as left-after-reads
 
--- src/writer.rt:121:9
 returns : tie.Need-returns
 returns c = let a = c .before .before .before .args in spare-none (total 2 (now (a .counts))) (total 3 (now (a .parts))) (a .room) (c .if1 .taken)
 
--- src/writer.rt:123:9
 left-after-requires : tie.Need-left-after-requires
 left-after-requires c κs = search needs
 
--- src/writer.rt:125:24
 enum-told : tie.Need-enum-told
 enum-told c = search needs
 
--- src/writer.rt:126:22
 enum-known-first : tie.Need-enum-known-first
 enum-known-first c = search needs
 
--- src/writer.rt:126:28
 left-after-requires-2 : tie.Need-left-after-requires-2
 left-after-requires-2 c κs = search needs
 
--- src/writer.rt:117:1
 returns-2 : tie.Need-returns-2
-returns-2 c = let a = c .before .before .before .before .before .before .args in spare-short (total 2 (now (a .counts))) (total 3 (now (a .parts))) (a .room) (c .before .before .before .if1 .left) (sym (c .enum-told .given) ∙ c .before .before .left-after .ensures)
+returns-2 c = let a = c .before .before .before .before .before .before .args in spare-short (total 2 (now (a .counts))) (total 3 (now (a .parts))) (a .room) (c .before .before .before .if1 .left) (sym (c .enum-told .given .1) ∙ c .before .before .left-after .ensures)
 
--- src/writer.rt:117:1
 returns-3 : tie.Need-returns-3
 returns-3 c = let a = c .before .before .before .before .before .before .before .before .args in spare-enough (total 2 (now (a .counts))) (total 3 (now (a .parts))) (a .room) (c .before .before .before .before .before .if1 .left) _ _ (sym (c .before .before .first .given .1) ∙ c .before .before .before .before .left-after .ensures) (c .left-after2 .ensures)
 

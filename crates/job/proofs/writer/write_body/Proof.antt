@@ -1,3 +1,4 @@
+-- Size, flag and count are stored one behind the other.
 use denote.Ref.{now}
 use mathlib.Core.Path.{_∙_, ap}
 use mir.Syntax.{w32}
@@ -7,46 +8,31 @@ use Rattle.job.proofs.WriteLaws.{body-stored}
 use borrow.Author.Needs.{needs}
 use Rattle.job.proofs.writer.write_body.Statement.{statement}
 use Rattle.job.proofs.writer.write_body.Tie as tie
-use Rattle.job.proofs.writer.write_body.Reads as reads
-use Rattle.job.proofs.writer.write_body.Lts as lts
-use Rattle.job.proofs.fields.bits_of_signed.Reads as bits-of-signed-reads
-use Rattle.job.proofs.fields.flag_of.Reads as flag-of-reads
-use Rattle.job.proofs.fields.put_four.Reads as put-four-reads
-use Rattle.job.proofs.fields.put_one.Reads as put-one-reads
 
--- src/writer.rt:189:23
 bits-of-signed-requires : tie.Need-bits-of-signed-requires
 bits-of-signed-requires c κs = search needs
 
--- src/writer.rt:189:5
 put-four-requires : tie.Need-put-four-requires
 put-four-requires c κs = search needs
 
--- src/writer.rt:190:18
 add-put-one : tie.Need-add-put-one
 add-put-one c = search needs
 
--- src/writer.rt:190:26
 flag-of-requires : tie.Need-flag-of-requires
 flag-of-requires c κs = search needs
 
--- src/writer.rt:190:5
 put-one-requires : tie.Need-put-one-requires
 put-one-requires c κs = search needs
 
--- src/writer.rt:191:19
 add-put-four : tie.Need-add-put-four
 add-put-four c = search needs
 
--- src/writer.rt:191:5
 put-four-requires-2 : tie.Need-put-four-requires-2
 put-four-requires-2 c κs = search needs
 
--- src/writer.rt:185:1
 same-length : tie.Need-same-length
 same-length c = search needs
 
--- src/writer.rt:185:1
 returns : tie.Need-returns
 returns c = let a = c .before .before .before .before .before .before .before .before .before .before .before .before .before .before .before .args in body-stored (now (a .out)) _ _ _ (a .at) (a .size) (a .negative) (a .count) _ _ (c .before .before .before .before .before .before .before .before .before .before .before .before .bits-of-signed .ensures ∙ ap bitsOf (toZ-ofZ w32 _ (c .before .before .before .before .before .before .before .before .before .before .before .before .before .before .before .fits .size))) (c .before .before .before .before .before .before .before .flag-of .ensures) (c .before .before .before .before .before .before .before .before .before .before .before .put-four .ensures) (c .before .before .before .before .before .before .put-one .ensures) (c .before .before .put-four2 .ensures)
 

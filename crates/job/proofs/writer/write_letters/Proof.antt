@@ -1,3 +1,4 @@
+-- The kind, and then the padded letters.
 use denote.Ref.{now}
 use mathlib.Core.Path.{refl}
 use mathlib.Core.List.{_∷_, []}
@@ -8,28 +9,19 @@ use Rattle.job.proofs.FieldLaws.{join}
 use borrow.Author.Needs.{needs}
 use Rattle.job.proofs.writer.write_letters.Statement.{statement}
 use Rattle.job.proofs.writer.write_letters.Tie as tie
-use Rattle.job.proofs.writer.write_letters.Reads as reads
-use Rattle.job.proofs.writer.write_letters.Lts as lts
-use Rattle.job.proofs.fields.put_one.Reads as put-one-reads
-use Rattle.job.proofs.writer.write_padded.Reads as write-padded-reads
 
--- src/writer.rt:155:5
 put-one-requires : tie.Need-put-one-requires
 put-one-requires c κs = search needs
 
--- src/writer.rt:156:23
 add-write-padded : tie.Need-add-write-padded
 add-write-padded c = search needs
 
--- src/writer.rt:156:5
 write-padded-requires : tie.Need-write-padded-requires
 write-padded-requires c κs = search needs
 
--- src/writer.rt:151:1
 same-length : tie.Need-same-length
 same-length c = search needs
 
--- src/writer.rt:151:1
 returns : tie.Need-returns
 returns c = let a = c .before .before .before .before .before .before .before .before .before .before .args in join (now (a .out)) _ _ (a .at) (a .at + 1) (4 ∷ []) (padded (slice (a .from) (a .end) (now (a .letters)))) refl (c .before .before .before .before .before .before .put-one .ensures) (c .before .before .write-padded .ensures)
 

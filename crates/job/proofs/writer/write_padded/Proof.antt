@@ -10,9 +10,6 @@ use Rattle.job.specs.Job.{padded}
 use Rattle.job.proofs.WriteLaws.{pad-start, pad-more, pad-done}
 use Rattle.job.proofs.writer.write_padded.Statement.{statement}
 use Rattle.job.proofs.writer.write_padded.Tie as tie
-use Rattle.job.proofs.writer.write_padded.Reads as reads
-use Rattle.job.proofs.writer.write_padded.Lts as lts
-use Rattle.job.proofs.writer.letter_or_zero.Reads as letter-or-zero-reads
 
 abbrev Inv-loop : tie.InvT-loop
 Inv-loop out₀ at letters from end j₀ out j = (sets out (at + j) (drop j (padded (slice from end letters))) ≡ sets out₀ at (padded (slice from end letters))) × ((j ≤ 16) × (length out ≡ length out₀))
@@ -20,43 +17,33 @@ Inv-loop out₀ at letters from end j₀ out j = (sets out (at + j) (drop j (pad
 abbrev μ-loop : tie.MeasureT-loop
 μ-loop out₀ at letters from end j₀ out j = 16 - j
 
--- src/writer.rt:164:5
 loop-holds : tie.Need-loop-holds Inv-loop μ-loop
 loop-holds c = let a = c .before .before .args in (pad-start (now (a .letters)) (a .end) (a .from) (a .at) (now (a .out)), (zero-le, refl))
 
--- src/writer.rt:165:47
 add-letter-or-zero : tie.Need-add-letter-or-zero Inv-loop μ-loop
 add-letter-or-zero c = omega arith
 
--- src/writer.rt:165:23
 letter-or-zero-requires : tie.Need-letter-or-zero-requires Inv-loop μ-loop
 letter-or-zero-requires c κs = search needs
 
--- src/writer.rt:165:13
 add-out : tie.Need-add-out Inv-loop μ-loop
 add-out c = omega arith
 
--- src/writer.rt:165:9
 slice-write-out : tie.Need-slice-write-out Inv-loop μ-loop
 slice-write-out c = omega arith
 
--- src/writer.rt:166:9
 add-j : tie.Need-add-j Inv-loop μ-loop
 add-j c = omega arith
 
--- src/writer.rt:164:5
 loop-less : tie.Need-loop-less Inv-loop μ-loop
 loop-less c = omega arith
 
--- src/writer.rt:164:5
 loop-again : tie.Need-loop-again Inv-loop μ-loop
 loop-again c = let a = c .before .before .before .before .before .args in (pad-more (now (a .letters)) (a .end) (a .from) (a .at) (c .before .before .loop .out) (c .before .before .loop .j) _ (c .before .loop-test .taken) (c .letter-or-zero .ensures) ∙ c .before .before .loop .inv .0, (omega arith, length-set (c .before .before .loop .out) (a .at + c .before .before .loop .j) (c .letter-or-zero .result) ∙ c .before .before .loop .inv .1 .1))
 
--- src/writer.rt:159:1
 same-length : tie.Need-same-length Inv-loop μ-loop
 same-length c = c .before .loop .inv .1 .1
 
--- src/writer.rt:159:1
 returns : tie.Need-returns Inv-loop μ-loop
 returns c = let a = c .before .before .before .before .args in sym (pad-done (now (a .letters)) (a .end) (a .from) (a .at) (c .before .loop .out) (c .before .loop .j) (c .loop-test .left)) ∙ c .before .loop .inv .0
 

@@ -1,30 +1,29 @@
+-- The kind and the fields are stored one behind the other.
+use native.Mathlib.Omega.{arith}
+use denote.Ref.{now}
+use mathlib.Core.Path.{refl, ap, _∙_}
+use mathlib.Core.List.{_∷_, []}
+use mir.Syntax.{w32}
+use mir.ValLaws.{toZ-ofZ}
+use Rattle.job.proofs.HeadLaws.{part-stored}
 use borrow.Author.Needs.{needs}
 use Rattle.job.proofs.writer.write_part.Statement.{statement}
 use Rattle.job.proofs.writer.write_part.Tie as tie
-use Rattle.job.proofs.writer.write_part.Reads as reads
-use Rattle.job.proofs.writer.write_part.Lts as lts
-use Rattle.job.proofs.fields.put_one.Reads as put-one-reads
-use Rattle.job.proofs.writer.write_body.Reads as write-body-reads
 
--- src/writer.rt:209:5
 put-one-requires : tie.Need-put-one-requires
 put-one-requires c κs = search needs
 
--- src/writer.rt:210:21
 add-write-body : tie.Need-add-write-body
 add-write-body c = search needs
 
--- src/writer.rt:210:5
 write-body-requires : tie.Need-write-body-requires
 write-body-requires c κs = search needs
 
--- src/writer.rt:205:1
 same-length : tie.Need-same-length
 same-length c = search needs
 
--- src/writer.rt:205:1
 returns : tie.Need-returns
-returns c = ?
+returns c = let a = c .before .before .before .before .before .before .before .before .before .args in part-stored (now (a .out)) _ _ (a .at) (a .size) (a .negative) (a .count) _ (toZ-ofZ w32 _ (c .before .before .before .before .before .before .before .before .before .fits .size)) (c .before .before .before .before .before .before .put-one .ensures) (c .before .before .write-body .ensures)
 
 pub write-part-spec : {M : Type 1} → statement M
 write-part-spec =

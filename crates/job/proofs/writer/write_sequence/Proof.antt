@@ -10,9 +10,6 @@ use Rattle.job.specs.Job.{recordsFor}
 use Rattle.job.proofs.WriteLaws.{recordsAt, records-more, records-none, records-fewer, sequence-put}
 use Rattle.job.proofs.writer.write_sequence.Statement.{statement}
 use Rattle.job.proofs.writer.write_sequence.Tie as tie
-use Rattle.job.proofs.writer.write_sequence.Reads as reads
-use Rattle.job.proofs.writer.write_sequence.Lts as lts
-use Rattle.job.proofs.writer.write_letters.Reads as write-letters-reads
 
 abbrev Inv-loop : tie.InvT-loop
 Inv-loop out₀ at letters from end p₀ a₀ out p a = (sets out a (recordsAt letters end p) ≡ sets out₀ at (recordsAt letters end from)) × ((a + 17 * recordsFor (end - p) ≡ at + 17 * recordsFor (end - from)) × (length out ≡ length out₀))
@@ -20,35 +17,27 @@ Inv-loop out₀ at letters from end p₀ a₀ out p a = (sets out a (recordsAt l
 abbrev μ-loop : tie.MeasureT-loop
 μ-loop out₀ at letters from end p₀ a₀ out p a = end - p
 
--- src/writer.rt:177:5
 loop-holds : tie.Need-loop-holds Inv-loop μ-loop
 loop-holds c = (refl, (refl, refl))
 
--- src/writer.rt:178:9
 write-letters-requires : tie.Need-write-letters-requires Inv-loop μ-loop
 write-letters-requires c κs = let a = c .before .before .before .before .before .args in (c .before .before .before .before .before .pre .0, (c .before .loop-test .taken, omega (arith, records-fewer (now (a .letters)) (a .end) (c .before .before .loop .p) (c .before .loop-test .taken), c .before .before .loop .inv .1 .0, c .before .before .loop .inv .1 .1, c .before .before .before .before .before .pre .1)))
 
--- src/writer.rt:179:9
 add-a : tie.Need-add-a Inv-loop μ-loop
 add-a c = let a = c .before .before .before .before .before .before .before .before .args in omega (arith, records-fewer (now (a .letters)) (a .end) (c .before .before .before .before .before .loop .p) (c .before .before .before .before .loop-test .taken), c .before .before .before .before .before .loop .inv .1 .0, c .before .before .before .before .before .before .before .before .pre .1)
 
--- src/writer.rt:180:9
 add-p : tie.Need-add-p Inv-loop μ-loop
 add-p c = omega arith
 
--- src/writer.rt:177:5
 loop-less : tie.Need-loop-less Inv-loop μ-loop
 loop-less c = omega arith
 
--- src/writer.rt:177:5
 loop-again : tie.Need-loop-again Inv-loop μ-loop
 loop-again c = let a = c .before .before .before .before .before .before .before .before .args in (records-more (now (a .letters)) (a .end) (c .before .before .before .before .before .loop .out) _ (c .before .before .before .before .before .loop .a) (c .before .before .before .before .before .loop .p) (c .before .before .before .before .loop-test .taken) (c .before .before .write-letters .ensures) ∙ c .before .before .before .before .before .loop .inv .0, (omega (arith, records-fewer (now (a .letters)) (a .end) (c .before .before .before .before .before .loop .p) (c .before .before .before .before .loop-test .taken), c .before .before .before .before .before .loop .inv .1 .0), c .before .before .write-letters .kept .0 ∙ c .before .before .before .before .before .loop .inv .1 .1))
 
--- src/writer.rt:171:1
 same-length : tie.Need-same-length Inv-loop μ-loop
 same-length c = c .before .loop .inv .1 .1
 
--- src/writer.rt:171:1
 returns : tie.Need-returns Inv-loop μ-loop
 returns c = let a = c .before .before .before .before .args in let e = records-none (now (a .letters)) (a .end) (c .before .loop .p) (c .loop-test .left) in sequence-put (now (a .letters)) (a .end) (a .from) (a .at) _ (now (a .out)) _ (c .before .before .before .before .pre .0) (ap (sets (c .before .loop .out) (c .before .loop .a)) (sym e) ∙ c .before .loop .inv .0) (omega arith)
 

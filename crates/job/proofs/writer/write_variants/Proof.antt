@@ -1,95 +1,85 @@
+-- The rows written and those still to write are the whole; letters and room suffice for each because they do for the whole.
+use native.Mathlib.Omega.{arith}
+use denote.Ref.{now}
+use borrow.Author.Needs.{needs}
+use mathlib.Core.Path.{_≡_, refl, sym, ap, _∙_}
+use Prim.Native.Nat.{_+_, _-_, _*_, _≤_, _<_, zero-le}
+use native.Mathlib.Nat.{zero-add}
+use lib.ListN.{length, drop, getD}
+use lib.Seq.{sets}
+use mir.Syntax.{w32}
+use mir.ValLaws.{toZ-ofZ}
+use Rattle.job.specs.Writing.{sum}
+use Rattle.job.proofs.RowLaws.{variantsAt, variants-whole, variants-none, variants-more, variants-turn}
+use Rattle.job.proofs.HeadLaws.{rows-written}
 use Rattle.job.proofs.writer.write_variants.Statement.{statement}
 use Rattle.job.proofs.writer.write_variants.Tie as tie
-use Rattle.job.proofs.writer.write_variants.Reads as reads
-use Rattle.job.proofs.writer.write_variants.Lts as lts
-use Rattle.job.proofs.writer.write_sequence.Reads as write-sequence-reads
-use Rattle.job.proofs.writer.write_variant.Reads as write-variant-reads
 
 abbrev Inv-loop : tie.InvT-loop
-Inv-loop out₀ at starts ends sizes negatives counts letters a₀ p₀ r₀ out a p r = ?
+Inv-loop out₀ at starts ends sizes negatives counts letters a₀ p₀ r₀ out a p r = (sets out a (variantsAt starts ends sizes negatives counts letters r p) ≡ sets out₀ at (variantsAt starts ends sizes negatives counts letters 0 0)) × ((a + length (variantsAt starts ends sizes negatives counts letters r p) ≡ at + length (variantsAt starts ends sizes negatives counts letters 0 0)) × ((p + sum (drop r counts) ≡ sum counts) × ((r ≤ length starts) × (length out ≡ length out₀))))
 
 abbrev μ-loop : tie.MeasureT-loop
-μ-loop out₀ at starts ends sizes negatives counts letters a₀ p₀ r₀ out a p r = ?
+μ-loop out₀ at starts ends sizes negatives counts letters a₀ p₀ r₀ out a p r = length starts - r
 
--- src/writer.rt:231:5
 loop-holds : tie.Need-loop-holds Inv-loop μ-loop
-loop-holds c = ?
+loop-holds c = (refl, (refl, (zero-add _, (zero-le, refl))))
 
--- src/writer.rt:232:21
 mul-count : tie.Need-mul-count Inv-loop μ-loop
-mul-count c = ?
+mul-count c = omega (arith, c .before .before .before .before .before .before .before .before .pre .ends-are, c .before .before .before .before .before .before .before .before .pre .sizes-are, c .before .before .before .before .before .before .before .before .pre .negatives-are, c .before .before .before .before .before .before .before .before .pre .counts-are)
 
--- src/writer.rt:232:21
 shared-slice-read-count : tie.Need-shared-slice-read-count Inv-loop μ-loop
-shared-slice-read-count c = ?
+shared-slice-read-count c = omega (arith, c .before .before .before .before .before .before .before .before .before .pre .ends-are, c .before .before .before .before .before .before .before .before .before .pre .sizes-are, c .before .before .before .before .before .before .before .before .before .pre .negatives-are, c .before .before .before .before .before .before .before .before .before .pre .counts-are)
 
--- src/writer.rt:233:23
 cast-end : tie.Need-cast-end Inv-loop μ-loop
-cast-end c = ?
+cast-end c = omega (arith, c .shared-slice-known6 .given (c .before .before .loop .r))
 
--- src/writer.rt:233:19
 add-end : tie.Need-add-end Inv-loop μ-loop
-add-end c = ?
+add-end c = let a = c .before .before .before .before .before .before .before .before .before .args in let t = variants-turn (now (a .starts)) (now (a .ends)) (now (a .sizes)) (now (a .negatives)) (now (a .counts)) (now (a .letters)) (a .at) _ (c .before .before .loop .a) (c .before .before .loop .p) (c .before .before .loop .r) (c .before .before .before .before .before .before .before .before .before .pre) (c .before .loop-test .taken) (c .before .before .loop .inv .1 .0) (c .before .before .loop .inv .1 .1 .0) in omega (arith, t .letters-there)
 
--- src/writer.rt:234:31
 mul-write-variant : tie.Need-mul-write-variant Inv-loop μ-loop
-mul-write-variant c = ?
+mul-write-variant c = omega arith
 
--- src/writer.rt:234:31
 shared-slice-read-write-variant : tie.Need-shared-slice-read-write-variant Inv-loop μ-loop
-shared-slice-read-write-variant c = ?
+shared-slice-read-write-variant c = omega arith
 
--- src/writer.rt:234:42
 mul-write-variant-2 : tie.Need-mul-write-variant-2 Inv-loop μ-loop
-mul-write-variant-2 c = ?
+mul-write-variant-2 c = omega (arith, c .before .before .before .before .before .before .before .before .before .before .before .pre .ends-are, c .before .before .before .before .before .before .before .before .before .before .before .pre .sizes-are, c .before .before .before .before .before .before .before .before .before .before .before .pre .negatives-are, c .before .before .before .before .before .before .before .before .before .before .before .pre .counts-are)
 
--- src/writer.rt:234:42
 shared-slice-read-write-variant-2 : tie.Need-shared-slice-read-write-variant-2 Inv-loop μ-loop
-shared-slice-read-write-variant-2 c = ?
+shared-slice-read-write-variant-2 c = omega (arith, c .before .before .before .before .before .before .before .before .before .before .before .before .pre .ends-are, c .before .before .before .before .before .before .before .before .before .before .before .before .pre .sizes-are, c .before .before .before .before .before .before .before .before .before .before .before .before .pre .negatives-are, c .before .before .before .before .before .before .before .before .before .before .before .before .pre .counts-are)
 
--- src/writer.rt:234:51
 mul-write-variant-3 : tie.Need-mul-write-variant-3 Inv-loop μ-loop
-mul-write-variant-3 c = ?
+mul-write-variant-3 c = omega (arith, c .before .before .before .before .before .before .before .before .before .before .before .before .pre .ends-are, c .before .before .before .before .before .before .before .before .before .before .before .before .pre .sizes-are, c .before .before .before .before .before .before .before .before .before .before .before .before .pre .negatives-are, c .before .before .before .before .before .before .before .before .before .before .before .before .pre .counts-are)
 
--- src/writer.rt:234:51
 shared-slice-copy-out-write-variant : tie.Need-shared-slice-copy-out-write-variant Inv-loop μ-loop
-shared-slice-copy-out-write-variant c = ?
+shared-slice-copy-out-write-variant c = omega (arith, c .before .before .before .before .before .before .before .before .before .before .before .before .pre .ends-are, c .before .before .before .before .before .before .before .before .before .before .before .before .pre .sizes-are, c .before .before .before .before .before .before .before .before .before .before .before .before .pre .negatives-are, c .before .before .before .before .before .before .before .before .before .before .before .before .pre .counts-are)
 
--- src/writer.rt:234:61
 shared-slice-read-write-variant-3 : tie.Need-shared-slice-read-write-variant-3 Inv-loop μ-loop
-shared-slice-read-write-variant-3 c = ?
+shared-slice-read-write-variant-3 c = omega (arith, c .before .before .before .before .before .before .before .before .before .before .before .before .before .before .pre .ends-are, c .before .before .before .before .before .before .before .before .before .before .before .before .before .before .pre .sizes-are, c .before .before .before .before .before .before .before .before .before .before .before .before .before .before .pre .negatives-are, c .before .before .before .before .before .before .before .before .before .before .before .before .before .before .pre .counts-are)
 
--- src/writer.rt:234:9
 write-variant-requires : tie.Need-write-variant-requires Inv-loop μ-loop
-write-variant-requires c κs = ?
+write-variant-requires c κs = let a = c .before .before .before .before .before .before .before .before .before .before .before .before .before .before .args in let t = variants-turn (now (a .starts)) (now (a .ends)) (now (a .sizes)) (now (a .negatives)) (now (a .counts)) (now (a .letters)) (a .at) _ (c .before .before .before .before .before .before .before .loop .a) (c .before .before .before .before .before .before .before .loop .p) (c .before .before .before .before .before .before .before .loop .r) (c .before .before .before .before .before .before .before .before .before .before .before .before .before .before .pre) (c .before .before .before .before .before .before .loop-test .taken) (c .before .before .before .before .before .before .before .loop .inv .1 .0) (c .before .before .before .before .before .before .before .loop .inv .1 .1 .0) in omega (arith, t .room-there, c .before .before .before .before .before .before .before .loop .inv .1 .1 .1 .1)
 
--- src/writer.rt:235:33
 add-write-sequence : tie.Need-add-write-sequence Inv-loop μ-loop
-add-write-sequence c = ?
+add-write-sequence c = let a = c .before .before .before .before .before .before .before .before .before .before .before .before .before .before .before .before .before .before .args in let t = variants-turn (now (a .starts)) (now (a .ends)) (now (a .sizes)) (now (a .negatives)) (now (a .counts)) (now (a .letters)) (a .at) _ (c .before .before .before .before .before .before .before .before .before .before .before .loop .a) (c .before .before .before .before .before .before .before .before .before .before .before .loop .p) (c .before .before .before .before .before .before .before .before .before .before .before .loop .r) (c .before .before .before .before .before .before .before .before .before .before .before .before .before .before .before .before .before .before .pre) (c .before .before .before .before .before .before .before .before .before .before .loop-test .taken) (c .before .before .before .before .before .before .before .before .before .before .before .loop .inv .1 .0) (c .before .before .before .before .before .before .before .before .before .before .before .loop .inv .1 .1 .0) in omega (arith, t .room-there)
 
--- src/writer.rt:235:9
 write-sequence-requires : tie.Need-write-sequence-requires Inv-loop μ-loop
-write-sequence-requires c κs = ?
+write-sequence-requires c κs = let a = c .before .before .before .before .before .before .before .before .before .before .before .before .before .before .before .before .before .before .args in let t = variants-turn (now (a .starts)) (now (a .ends)) (now (a .sizes)) (now (a .negatives)) (now (a .counts)) (now (a .letters)) (a .at) _ (c .before .before .before .before .before .before .before .before .before .before .before .loop .a) (c .before .before .before .before .before .before .before .before .before .before .before .loop .p) (c .before .before .before .before .before .before .before .before .before .before .before .loop .r) (c .before .before .before .before .before .before .before .before .before .before .before .before .before .before .before .before .before .before .pre) (c .before .before .before .before .before .before .before .before .before .before .loop-test .taken) (c .before .before .before .before .before .before .before .before .before .before .before .loop .inv .1 .0) (c .before .before .before .before .before .before .before .before .before .before .before .loop .inv .1 .1 .0) in (t .letters-there, omega (arith, t .room-again, c .before .before .before .write-variant .kept .0 ∙ c .before .before .before .before .before .before .before .before .before .before .before .loop .inv .1 .1 .1 .1))
 
--- src/writer.rt:237:9
 add-r : tie.Need-add-r Inv-loop μ-loop
-add-r c = ?
+add-r c = omega arith
 
--- src/writer.rt:231:5
 loop-less : tie.Need-loop-less Inv-loop μ-loop
-loop-less c = ?
+loop-less c = omega (arith, c .before .before .before .before .before .before .before .before .before .before .before .before .before .loop-test .taken)
 
--- src/writer.rt:231:5
 loop-again : tie.Need-loop-again Inv-loop μ-loop
-loop-again c = ?
+loop-again c = let a = c .before .before .before .before .before .before .before .before .before .before .before .before .before .before .before .before .before .before .before .before .before .args in let t = variants-turn (now (a .starts)) (now (a .ends)) (now (a .sizes)) (now (a .negatives)) (now (a .counts)) (now (a .letters)) (a .at) _ (c .before .before .before .before .before .before .before .before .before .before .before .before .before .before .loop .a) (c .before .before .before .before .before .before .before .before .before .before .before .before .before .before .loop .p) (c .before .before .before .before .before .before .before .before .before .before .before .before .before .before .loop .r) (c .before .before .before .before .before .before .before .before .before .before .before .before .before .before .before .before .before .before .before .before .before .pre) (c .before .before .before .before .before .before .before .before .before .before .before .before .before .loop-test .taken) (c .before .before .before .before .before .before .before .before .before .before .before .before .before .before .loop .inv .1 .0) (c .before .before .before .before .before .before .before .before .before .before .before .before .before .before .loop .inv .1 .1 .0) in let m = variants-more (now (a .starts)) (now (a .ends)) (now (a .sizes)) (now (a .negatives)) (now (a .counts)) (now (a .letters)) (c .before .before .before .before .before .before .before .before .before .before .before .before .before .before .loop .r) (c .before .before .before .before .before .before .before .before .before .before .before .before .before .before .loop .p) (c .before .before .before .before .before .before .before .before .before .before .before .before .before .loop-test .taken) (t .letters-there) (c .before .before .before .before .before .before .before .before .before .before .before .before .before .before .loop .out) _ _ (c .before .before .before .before .before .before .before .before .before .before .before .before .before .before .loop .a) _ _ (toZ-ofZ w32 _ (record { sfits = c .before .before .before .before .before .before .before .before .write-variant-arg2 .given })) (c .before .before .before .before .before .before .write-variant .ensures) (c .before .before .write-sequence .ensures) in (m .0 ∙ c .before .before .before .before .before .before .before .before .before .before .before .before .before .before .loop .inv .0, (m .1 ∙ c .before .before .before .before .before .before .before .before .before .before .before .before .before .before .loop .inv .1 .0, (t .sums-are, (omega (arith, c .before .before .before .before .before .before .before .before .before .before .before .before .before .loop-test .taken), c .before .before .write-sequence .kept .0 ∙ c .before .before .before .before .before .before .write-variant .kept .0 ∙ c .before .before .before .before .before .before .before .before .before .before .before .before .before .before .loop .inv .1 .1 .1 .1))))
 
--- src/writer.rt:213:1
 same-length : tie.Need-same-length Inv-loop μ-loop
-same-length c = ?
+same-length c = c .before .loop .inv .1 .1 .1 .1
 
--- src/writer.rt:213:1
 returns : tie.Need-returns Inv-loop μ-loop
-returns c = ?
+returns c = let a = c .before .before .before .before .before .before .before .before .args in rows-written (now (a .out)) (c .before .loop .out) (a .at) (c .before .loop .a) _ (variantsAt (now (a .starts)) (now (a .ends)) (now (a .sizes)) (now (a .negatives)) (now (a .counts)) (now (a .letters)) (c .before .loop .r) (c .before .loop .p)) _ (now (a .counts)) (c .before .loop .p) (c .before .loop .r) _ (variants-none (now (a .starts)) (now (a .ends)) (now (a .sizes)) (now (a .negatives)) (now (a .counts)) (now (a .letters)) (c .before .loop .r) (c .before .loop .p) (c .loop-test .left)) (variants-whole (now (a .starts)) (now (a .ends)) (now (a .sizes)) (now (a .negatives)) (now (a .counts)) (now (a .letters))) (c .before .loop .inv .0) (c .before .loop .inv .1 .0) (omega (arith, c .loop-test .left, c .before .before .before .before .before .before .before .before .pre .counts-are)) (c .before .loop .inv .1 .1 .0)
 
 pub write-variants-spec : {M : Type 1} → statement M
 write-variants-spec =
