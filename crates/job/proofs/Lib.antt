@@ -4,6 +4,7 @@ pub mod FormLaws
 pub mod FillLaws
 pub mod RoomLaws
 pub mod CountLaws
+pub mod LetterLaws
 pub mod SettingsLaws
 pub mod ReadLaws
 pub mod WriteLaws

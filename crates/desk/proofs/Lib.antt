@@ -1,0 +1,5 @@
+pub mod PieceLaws
+pub mod FeatureLaws
+pub mod DeskLaws
+pub mod AnswerLaws
+pub mod MemoryLaws

@@ -1,0 +1,87 @@
+-- Each way out prints the text that the definition gives there.
+use native.Mathlib.Omega.{arith}
+use denote.Ref.{now}
+use mathlib.Core.Path.{refl, _∙_}
+use Rattle.job.specs.Job.{readJob}
+use Rattle.desk.proofs.PieceLaws.{put-as}
+use Rattle.desk.proofs.DeskLaws.{put-placed, desk-long, desk-read, scan-faulty, found-job, many-variants, many-parts, found-holds}
+use borrow.Author.Needs.{needs}
+use Rattle.desk.proofs.answer.Statement.{statement}
+use Rattle.desk.proofs.answer.Tie as tie
+use Rattle.desk.proofs.answer.Reads as reads
+use Rattle.desk.proofs.answer.Lts as lts
+use Rattle.desk.proofs.memory.answer_held.Reads as answer-held-reads
+use Rattle.desk.proofs.text.put_refused.Reads as put-refused-reads
+use Rattle.job.proofs.reader.scan.Reads as scan-reads
+
+put-refused-requires : tie.Need-put-refused-requires
+put-refused-requires c κs = search needs
+
+returns : tie.Need-returns
+returns c =
+    let i = now (c .before .before .before .before .args .input) in
+    put-placed (put-as 281 (c .put-refused .ensures) (desk-long i (c .before .before .if1 .taken)) (omega arith)) (omega arith)
+
+scan-requires : tie.Need-scan-requires
+scan-requires c κs = search needs
+
+enum-known-found : tie.Need-enum-known-found
+enum-known-found c = search needs
+
+put-refused-requires-2 : tie.Need-put-refused-requires-2
+put-refused-requires-2 c κs = search needs
+
+enum-known-found-2 : tie.Need-enum-known-found-2
+enum-known-found-2 c = search needs
+
+put-refused-requires-3 : tie.Need-put-refused-requires-3
+put-refused-requires-3 c κs = search needs
+
+returns-2 : tie.Need-returns-2
+returns-2 c =
+    let i = now (c .before .before .before .before .before .before .before .before .before .before .args .input) in
+    let f = found-job i _ (c .before .before .before .before .before .before .before .scan .ensures) _ (c .before .before .before .before .before .found2 .given .1) in
+    put-placed (put-as 281 (c .put-refused3 .ensures) (many-variants i _ f (c .before .before .if2 .taken) ∙ desk-read i (c .before .before .before .before .before .before .before .before .if1 .left)) (omega arith)) (omega arith)
+
+put-refused-requires-4 : tie.Need-put-refused-requires-4
+put-refused-requires-4 c κs = search needs
+
+returns-3 : tie.Need-returns-3
+returns-3 c =
+    let i = now (c .before .before .before .before .before .before .before .before .before .before .before .before .args .input) in
+    let f = found-job i _ (c .before .before .before .before .before .before .before .before .before .scan .ensures) _ (c .before .before .before .before .before .before .before .found2 .given .1) in
+    put-placed (put-as 281 (c .put-refused4 .ensures) (many-parts i _ f (c .before .before .before .before .if2 .left) (c .before .before .if3 .taken) ∙ desk-read i (c .before .before .before .before .before .before .before .before .before .before .if1 .left)) (omega arith)) (omega arith)
+
+answer-held-requires : tie.Need-answer-held-requires
+answer-held-requires c κs =
+    let i = now (c .before .before .before .before .before .before .before .before .before .before .before .args .input) in
+    let f = found-job i _ (c .before .before .before .before .before .before .before .before .scan .ensures) _ (c .before .before .before .before .before .before .found2 .given .1) in
+    (found-holds i _ f (c .before .before .before .before .before .before .before .before .before .if1 .left) (c .before .before .before .if2 .left) (c .before .if3 .left), omega arith)
+
+returns-4 : tie.Need-returns-4
+returns-4 c =
+    let i = now (c .before .before .before .before .before .before .before .before .args .input) in
+    put-placed (put-as 281 (c .put-refused2 .ensures) (scan-faulty i (readJob i) _ (c .before .before .before .before .before .scan .ensures) _ (c .before .before .before .found .given .1) ∙ desk-read i (c .before .before .before .before .before .before .if1 .left)) (omega arith)) (omega arith)
+
+returns-5 : tie.Need-returns-5
+returns-5 c =
+    let i = now (c .before .before .before .before .before .before .before .before .before .before .before .before .args .input) in
+    put-placed (put-as 281 (c .answer-held .ensures) (desk-read i (c .before .before .before .before .before .before .before .before .before .before .if1 .left)) (omega arith)) (omega arith)
+
+pub answer-spec : {M : Type 1} → statement M
+answer-spec =
+    tie.close
+    (tie.spec
+    put-refused-requires
+    returns
+    scan-requires
+    enum-known-found
+    put-refused-requires-2
+    enum-known-found-2
+    put-refused-requires-3
+    returns-2
+    put-refused-requires-4
+    returns-3
+    answer-held-requires
+    returns-4
+    returns-5)

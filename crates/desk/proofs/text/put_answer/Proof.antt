@@ -1,0 +1,37 @@
+-- The line of the rows, and twice three lines.
+use Rattle.desk.specs.Text.{sevenLines}
+use Rattle.desk.proofs.PieceLaws.{put-then}
+use borrow.Author.Needs.{needs}
+use Rattle.desk.proofs.text.put_answer.Statement.{statement}
+use Rattle.desk.proofs.text.put_answer.Tie as tie
+use Rattle.desk.proofs.text.put_answer.Reads as reads
+use Rattle.desk.proofs.text.put_answer.Lts as lts
+use Rattle.desk.proofs.text.put_reach.Reads as put-reach-reads
+use Rattle.desk.proofs.text.put_rows_line.Reads as put-rows-line-reads
+use Rattle.desk.proofs.text.put_similarities.Reads as put-similarities-reads
+
+put-rows-line-requires : tie.Need-put-rows-line-requires
+put-rows-line-requires c κs = search needs
+
+put-similarities-requires : tie.Need-put-similarities-requires
+put-similarities-requires c κs = search needs
+
+put-reach-requires : tie.Need-put-reach-requires
+put-reach-requires c κs = search needs
+
+same-length : tie.Need-same-length
+same-length c = search needs
+
+returns : tie.Need-returns
+unfolding sevenLines
+returns c = put-then (put-then (c .before .before .before .before .before .before .before .before .before .before .put-rows-line .ensures) (c .before .before .before .before .before .before .put-similarities .ensures)) (c .before .before .put-reach .ensures)
+
+pub put-answer-spec : {M : Type 1} → statement M
+put-answer-spec =
+    tie.close
+    (tie.spec
+    put-rows-line-requires
+    put-similarities-requires
+    put-reach-requires
+    same-length
+    returns)

@@ -1,0 +1,56 @@
+-- The word, and then one of two endings.
+use native.Mathlib.Omega.{arith}
+use mathlib.Core.Path.{sym}
+use Rattle.desk.specs.Text.{bytesOf, flagLine}
+use Rattle.desk.proofs.PieceLaws.{put-then, put-wide}
+use borrow.Author.Needs.{needs}
+use Rattle.desk.proofs.text.put_flag_line.Statement.{statement}
+use Rattle.desk.proofs.text.put_flag_line.Tie as tie
+use Rattle.desk.proofs.text.put_flag_line.Reads as reads
+use Rattle.desk.proofs.text.put_flag_line.Lts as lts
+use Rattle.desk.proofs.text.put_bytes.Reads as put-bytes-reads
+
+put-bytes-requires : tie.Need-put-bytes-requires
+put-bytes-requires c κs = search needs
+
+slice-aggregate-put-bytes : tie.Need-slice-aggregate-put-bytes
+slice-aggregate-put-bytes c = search needs
+
+put-bytes-requires-2 : tie.Need-put-bytes-requires-2
+put-bytes-requires-2 c κs = search needs
+
+same-length : tie.Need-same-length
+same-length c = search needs
+
+returns : tie.Need-returns
+unfolding bytesOf flagLine
+returns c =
+    rw (c .before .before .before .before .before .if1 .taken) (put-wide 13 (put-then (c .before .before .before .before .before .before .before .before .put-bytes .ensures) (c .before .before .put-bytes2 .ensures)) (omega arith))
+
+slice-aggregate-put-bytes-2 : tie.Need-slice-aggregate-put-bytes-2
+slice-aggregate-put-bytes-2 c = search needs
+
+put-bytes-requires-3 : tie.Need-put-bytes-requires-3
+put-bytes-requires-3 c κs = search needs
+
+same-length-2 : tie.Need-same-length-2
+same-length-2 c = search needs
+
+returns-2 : tie.Need-returns-2
+unfolding bytesOf flagLine
+returns-2 c =
+    rw (c .before .before .before .before .before .if1 .left) (put-wide 13 (put-then (c .before .before .before .before .before .before .before .before .put-bytes .ensures) (c .before .before .put-bytes3 .ensures)) (omega arith))
+
+pub put-flag-line-spec : {M : Type 1} → statement M
+put-flag-line-spec =
+    tie.close
+    (tie.spec
+    put-bytes-requires
+    slice-aggregate-put-bytes
+    put-bytes-requires-2
+    same-length
+    returns
+    slice-aggregate-put-bytes-2
+    put-bytes-requires-3
+    same-length-2
+    returns-2)

@@ -1,0 +1,48 @@
+-- The word, the eight digits of the bits, and the end of the line.
+use native.Mathlib.Omega.{arith}
+use Rattle.desk.specs.Text.{bytesOf, floatLine}
+use mathlib.Core.Path.{sym}
+use Rattle.desk.proofs.PieceLaws.{put-then, put-wide}
+use borrow.Author.Needs.{needs}
+use Rattle.desk.proofs.text.put_float_line.Statement.{statement}
+use Rattle.desk.proofs.text.put_float_line.Tie as tie
+use Rattle.desk.proofs.text.put_float_line.Reads as reads
+use Rattle.desk.proofs.text.put_float_line.Lts as lts
+use Rattle.desk.proofs.text.bits_of.Reads as bits-of-reads
+use Rattle.desk.proofs.text.put_bytes.Reads as put-bytes-reads
+use Rattle.desk.proofs.text.put_hex8.Reads as put-hex8-reads
+
+put-bytes-requires : tie.Need-put-bytes-requires
+put-bytes-requires c κs = search needs
+
+bits-of-requires : tie.Need-bits-of-requires
+bits-of-requires c κs = search needs
+
+put-hex8-requires : tie.Need-put-hex8-requires
+put-hex8-requires c κs = search needs
+
+slice-aggregate-put-bytes : tie.Need-slice-aggregate-put-bytes
+slice-aggregate-put-bytes c = search needs
+
+put-bytes-requires-2 : tie.Need-put-bytes-requires-2
+put-bytes-requires-2 c κs = search needs
+
+same-length : tie.Need-same-length
+same-length c = search needs
+
+returns : tie.Need-returns
+unfolding bytesOf floatLine
+returns c =
+    rw (sym (c .before .before .before .before .before .before .before .before .bits-of .ensures)) (put-wide 18 (put-then (put-then (c .before .before .before .before .before .before .before .before .before .before .before .before .put-bytes .ensures) (c .before .before .before .before .before .before .before .put-hex8 .ensures)) (c .before .before .put-bytes2 .ensures)) (omega arith))
+
+pub put-float-line-spec : {M : Type 1} → statement M
+put-float-line-spec =
+    tie.close
+    (tie.spec
+    put-bytes-requires
+    bits-of-requires
+    put-hex8-requires
+    slice-aggregate-put-bytes
+    put-bytes-requires-2
+    same-length
+    returns)

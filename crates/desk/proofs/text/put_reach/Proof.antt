@@ -1,0 +1,55 @@
+-- Three lines, the first of which asks which target matched.
+use mathlib.Core.Path.{sym}
+use Rattle.desk.specs.Text.{bytesOf, reachLines}
+use Rattle.desk.proofs.PieceLaws.{put-then}
+use borrow.Author.Needs.{needs}
+use Rattle.desk.proofs.text.put_reach.Statement.{statement}
+use Rattle.desk.proofs.text.put_reach.Tie as tie
+use Rattle.desk.proofs.text.put_reach.Reads as reads
+use Rattle.desk.proofs.text.put_reach.Lts as lts
+use Rattle.desk.proofs.text.is_whole.Reads as is-whole-reads
+use Rattle.desk.proofs.text.put_flag_line.Reads as put-flag-line-reads
+use Rattle.desk.proofs.text.put_number_line.Reads as put-number-line-reads
+
+slice-aggregate-put-flag-line : tie.Need-slice-aggregate-put-flag-line
+slice-aggregate-put-flag-line c = search needs
+
+is-whole-requires : tie.Need-is-whole-requires
+is-whole-requires c κs = search needs
+
+put-flag-line-requires : tie.Need-put-flag-line-requires
+put-flag-line-requires c κs = search needs
+
+slice-aggregate-put-number-line : tie.Need-slice-aggregate-put-number-line
+slice-aggregate-put-number-line c = search needs
+
+put-number-line-requires : tie.Need-put-number-line-requires
+put-number-line-requires c κs = search needs
+
+slice-aggregate-put-flag-line-2 : tie.Need-slice-aggregate-put-flag-line-2
+slice-aggregate-put-flag-line-2 c = search needs
+
+put-flag-line-requires-2 : tie.Need-put-flag-line-requires-2
+put-flag-line-requires-2 c κs = search needs
+
+same-length : tie.Need-same-length
+same-length c = search needs
+
+returns : tie.Need-returns
+unfolding bytesOf reachLines
+returns c =
+    rw (sym (c .before .before .before .before .before .before .before .before .before .before .before .before .before .is-whole .ensures)) (put-then (put-then (c .before .before .before .before .before .before .before .before .before .before .before .before .put-flag-line .ensures) (c .before .before .before .before .before .before .before .put-number-line .ensures)) (c .before .before .put-flag-line2 .ensures))
+
+pub put-reach-spec : {M : Type 1} → statement M
+put-reach-spec =
+    tie.close
+    (tie.spec
+    slice-aggregate-put-flag-line
+    is-whole-requires
+    put-flag-line-requires
+    slice-aggregate-put-number-line
+    put-number-line-requires
+    slice-aggregate-put-flag-line-2
+    put-flag-line-requires-2
+    same-length
+    returns)

@@ -1,0 +1,26 @@
+-- The line of a number, at the front.
+use Rattle.desk.specs.Text.{bytesOf, refusedText}
+use borrow.Author.Needs.{needs}
+use Rattle.desk.proofs.text.put_refused.Statement.{statement}
+use Rattle.desk.proofs.text.put_refused.Tie as tie
+use Rattle.desk.proofs.text.put_refused.Reads as reads
+use Rattle.desk.proofs.text.put_refused.Lts as lts
+use Rattle.desk.proofs.text.put_number_line.Reads as put-number-line-reads
+
+slice-aggregate-put-number-line : tie.Need-slice-aggregate-put-number-line
+slice-aggregate-put-number-line c = search needs
+
+put-number-line-requires : tie.Need-put-number-line-requires
+put-number-line-requires c κs = search needs
+
+same-length : tie.Need-same-length
+same-length c = search needs
+
+returns : tie.Need-returns
+unfolding bytesOf refusedText
+returns c = c .before .before .put-number-line .ensures
+
+pub put-refused-spec : {M : Type 1} → statement M
+put-refused-spec =
+    tie.close
+    (tie.spec slice-aggregate-put-number-line put-number-line-requires same-length returns)

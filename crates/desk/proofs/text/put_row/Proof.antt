@@ -1,0 +1,31 @@
+-- A space and then the digits.
+use Rattle.desk.specs.Text.{bytesOf, rowText}
+use Rattle.desk.proofs.PieceLaws.{put-then}
+use borrow.Author.Needs.{needs}
+use Rattle.desk.proofs.text.put_row.Statement.{statement}
+use Rattle.desk.proofs.text.put_row.Tie as tie
+use Rattle.desk.proofs.text.put_row.Reads as reads
+use Rattle.desk.proofs.text.put_row.Lts as lts
+use Rattle.desk.proofs.text.put_bytes.Reads as put-bytes-reads
+use Rattle.desk.proofs.text.put_digits.Reads as put-digits-reads
+
+slice-aggregate-put-bytes : tie.Need-slice-aggregate-put-bytes
+slice-aggregate-put-bytes c = search needs
+
+put-bytes-requires : tie.Need-put-bytes-requires
+put-bytes-requires c κs = search needs
+
+put-digits-requires : tie.Need-put-digits-requires
+put-digits-requires c κs = search needs
+
+same-length : tie.Need-same-length
+same-length c = search needs
+
+returns : tie.Need-returns
+unfolding bytesOf rowText
+returns c = put-then (c .before .before .before .before .before .before .put-bytes .ensures) (c .before .before .put-digits .ensures)
+
+pub put-row-spec : {M : Type 1} → statement M
+put-row-spec =
+    tie.close
+    (tie.spec slice-aggregate-put-bytes put-bytes-requires put-digits-requires same-length returns)

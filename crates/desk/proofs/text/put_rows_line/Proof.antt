@@ -1,0 +1,44 @@
+-- The word, the rows, and the end of the line.
+use Rattle.desk.specs.Text.{bytesOf, rowsLine}
+use Rattle.desk.proofs.PieceLaws.{put-then}
+use borrow.Author.Needs.{needs}
+use Rattle.desk.proofs.text.put_rows_line.Statement.{statement}
+use Rattle.desk.proofs.text.put_rows_line.Tie as tie
+use Rattle.desk.proofs.text.put_rows_line.Reads as reads
+use Rattle.desk.proofs.text.put_rows_line.Lts as lts
+use Rattle.desk.proofs.text.put_bytes.Reads as put-bytes-reads
+use Rattle.desk.proofs.text.put_rows.Reads as put-rows-reads
+
+slice-aggregate-put-bytes : tie.Need-slice-aggregate-put-bytes
+slice-aggregate-put-bytes c = search needs
+
+put-bytes-requires : tie.Need-put-bytes-requires
+put-bytes-requires c κs = search needs
+
+put-rows-requires : tie.Need-put-rows-requires
+put-rows-requires c κs = search needs
+
+slice-aggregate-put-bytes-2 : tie.Need-slice-aggregate-put-bytes-2
+slice-aggregate-put-bytes-2 c = search needs
+
+put-bytes-requires-2 : tie.Need-put-bytes-requires-2
+put-bytes-requires-2 c κs = search needs
+
+same-length : tie.Need-same-length
+same-length c = search needs
+
+returns : tie.Need-returns
+unfolding bytesOf rowsLine
+returns c = put-then (put-then (c .before .before .before .before .before .before .before .before .before .before .before .put-bytes .ensures) (c .before .before .before .before .before .before .before .put-rows .ensures)) (c .before .before .put-bytes2 .ensures)
+
+pub put-rows-line-spec : {M : Type 1} → statement M
+put-rows-line-spec =
+    tie.close
+    (tie.spec
+    slice-aggregate-put-bytes
+    put-bytes-requires
+    put-rows-requires
+    slice-aggregate-put-bytes-2
+    put-bytes-requires-2
+    same-length
+    returns)

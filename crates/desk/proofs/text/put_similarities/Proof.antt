@@ -1,0 +1,47 @@
+-- Three lines of the same form.
+use Rattle.desk.specs.Text.{bytesOf, similarityLines}
+use Rattle.desk.proofs.PieceLaws.{put-then}
+use borrow.Author.Needs.{needs}
+use Rattle.desk.proofs.text.put_similarities.Statement.{statement}
+use Rattle.desk.proofs.text.put_similarities.Tie as tie
+use Rattle.desk.proofs.text.put_similarities.Reads as reads
+use Rattle.desk.proofs.text.put_similarities.Lts as lts
+use Rattle.desk.proofs.text.put_float_line.Reads as put-float-line-reads
+
+slice-aggregate-put-float-line : tie.Need-slice-aggregate-put-float-line
+slice-aggregate-put-float-line c = search needs
+
+put-float-line-requires : tie.Need-put-float-line-requires
+put-float-line-requires c κs = search needs
+
+slice-aggregate-put-float-line-2 : tie.Need-slice-aggregate-put-float-line-2
+slice-aggregate-put-float-line-2 c = search needs
+
+put-float-line-requires-2 : tie.Need-put-float-line-requires-2
+put-float-line-requires-2 c κs = search needs
+
+slice-aggregate-put-float-line-3 : tie.Need-slice-aggregate-put-float-line-3
+slice-aggregate-put-float-line-3 c = search needs
+
+put-float-line-requires-3 : tie.Need-put-float-line-requires-3
+put-float-line-requires-3 c κs = search needs
+
+same-length : tie.Need-same-length
+same-length c = search needs
+
+returns : tie.Need-returns
+unfolding bytesOf similarityLines
+returns c = put-then (put-then (c .before .before .before .before .before .before .before .before .before .before .before .before .put-float-line .ensures) (c .before .before .before .before .before .before .before .put-float-line2 .ensures)) (c .before .before .put-float-line3 .ensures)
+
+pub put-similarities-spec : {M : Type 1} → statement M
+put-similarities-spec =
+    tie.close
+    (tie.spec
+    slice-aggregate-put-float-line
+    put-float-line-requires
+    slice-aggregate-put-float-line-2
+    put-float-line-requires-2
+    slice-aggregate-put-float-line-3
+    put-float-line-requires-3
+    same-length
+    returns)

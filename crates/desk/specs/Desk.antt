@@ -1,0 +1,54 @@
+-- Document 01, "Job form and program": the text that the program prints for the bytes that it is given.
+use Prim.Native.Nat.{ℕ}
+use mathlib.Core.Bool.{Bool, _||_, cond}
+use mathlib.Core.List.{List, [], _∷_, _++_, map}
+use lib.Dec.{ltb, eqb}
+use lib.IntN.{ℤ}
+use lib.ListN.{length}
+use Rattle.metrics.specs.Letters.{countsOf}
+use Rattle.kplib.specs.declared.traverse.Answer.{Answer}
+use Rattle.kplib.specs.Numbers.{Table, Parts, tableOf, partsOf}
+use Rattle.kplib.specs.Answer.{answerOf, rowsOf}
+use Rattle.job.specs.Job.{Variant, Part, Job, Read, Faulty, Held, readJob}
+use Rattle.desk.specs.Text.{sevenLines, refusedText}
+
+-- the feature rows of the variants one behind the other, and of the parts
+unfoldable pub variantFeatures : ℕ → List Variant → List ℤ
+variantFeatures k [] = []
+variantFeatures k (x ∷ xs) = countsOf k (x .negative) (x .letters) ++ variantFeatures k xs
+
+unfoldable pub partFeatures : ℕ → List Part → List ℤ
+partFeatures k [] = []
+partFeatures k (x ∷ xs) = countsOf k (x .negative) (x .letters) ++ partFeatures k xs
+
+unfoldable pub tableOfJob : Job → Table
+tableOfJob job = tableOf
+    (map (λ (x : Variant). x .start) (job .variants))
+    (map (λ (x : Variant). x .end) (job .variants))
+    (map (λ (x : Variant). x .size) (job .variants))
+    (variantFeatures (job .settings .k) (job .variants))
+
+unfoldable pub partsOfJob : Job → Parts
+partsOfJob job = partsOf (map (λ (x : Part). x .size) (job .parts)) (partFeatures (job .settings .k) (job .parts))
+
+-- `refused N`, or the seven lines
+unfoldable pub answerText : Answer → List ℕ → List ℕ
+answerText a rows = cond (eqb (a .refusal) 0) (sevenLines rows a) (refusedText (a .refusal))
+
+-- over 16 variants, 8 parts, k over 4 or maxpaths over 63
+unfoldable pub tooLarge : Job → Bool
+tooLarge job =
+    ltb 16 (length (job .variants)) || (ltb 8 (length (job .parts)) || (ltb 4 (job .settings .k) || ltb 63 (job .settings .maxpaths)))
+
+-- the search has room for 1,025 queue entries and 16 rows
+unfoldable pub jobText : Job → List ℕ
+jobText job = answerText
+    (answerOf (job .settings) (tableOfJob job) (partsOfJob job) 1025 16)
+    (rowsOf (job .settings) (tableOfJob job) (partsOfJob job) 1025 16)
+
+unfoldable pub readText : Read → List ℕ
+readText (Faulty n) = refusedText n
+readText (Held job) = cond (tooLarge job) (refusedText 26) (jobText job)
+
+unfoldable pub deskText : List ℕ → List ℕ
+deskText input = cond (ltb 32768 (length input)) (refusedText 26) (readText (readJob input))

@@ -1,0 +1,5 @@
+pub mod Text
+pub mod Desk
+pub mod Pieces
+pub mod Rows
+pub mod Memory

@@ -1,0 +1,73 @@
+// The feature rows of a job's sequences, counted one behind the other into one table.
+use metrics::kmer::seq_to_kmer;
+ghost use mathlib.Core.Path.{_≡_};
+ghost use Prim.Native.Nat.{_+_, _*_, _≤_, _<_, _^_, _-_};
+ghost use lib.ListN.{length, take, drop};
+ghost use Rattle.metrics.specs.Letters.{countsOf};
+ghost use Rattle.job.specs.Writing.{sum};
+ghost use Rattle.desk.specs.Rows.{rowsFrom, RowFits, RowsFit, Counted, rowStored};
+
+// 4 to the k, for a k that the program takes.
+pub(crate) fn entries(k: u8) -> usize
+    requires { ⌜ (1 ≤ k) × (k ≤ 4) ⌝ }
+    ensures { λ r. ⌜ (r ≡ 4 ^ k) × (r ≤ 256) ⌝ }
+{
+    match k {
+        1 => 4,
+        2 => 16,
+        3 => 64,
+        _ => 256,
+    }
+}
+
+// One row, of the letters from `at` to `end`, into the entries from `from` to `to`.
+fn count_row(
+    k: u8,
+    negative: bool,
+    letters: &[u8],
+    at: usize,
+    end: usize,
+    table: &mut [i32],
+    from: usize,
+    to: usize,
+)
+    requires { ⌜ RowFits k at end from to (now letters) (now table) ⌝ }
+    ensures { λ _. ⌜ now (table .exit) ≡ rowStored from to (now (table .entry)) (countsOf k negative (take (end - at) (drop at (now (letters .entry))))) ⌝ }
+{
+    seq_to_kmer(&letters[at..end], k, negative, &mut table[from..to]);
+}
+
+// A row for each count, of the letters from `first` on. Returns the position behind the last letter.
+pub(crate) fn count_rows(
+    k: u8,
+    width: usize,
+    negatives: &[bool],
+    counts: &[u32],
+    letters: &[u8],
+    first: usize,
+    table: &mut [i32],
+) -> usize
+    requires { ⌜ RowsFit k width (now negatives) (now counts) (now letters) first (now table) ⌝ }
+    ensures { λ r. ⌜ Counted k width (now (negatives .entry)) (now (counts .entry)) (now (letters .entry)) first r (now (table .entry)) (now (table .exit)) ⌝ }
+{
+    let mut row = 0usize;
+    let mut at = first;
+    let mut from = 0usize;
+    while row < counts.len() {
+        let end = at + counts[row] as usize;
+        count_row(
+            k,
+            negatives[row],
+            letters,
+            at,
+            end,
+            table,
+            from,
+            from + width,
+        );
+        at = end;
+        from += width;
+        row += 1;
+    }
+    at
+}
