@@ -1,1 +1,10 @@
 pub mod Checked
+pub mod Numbers
+pub mod CheckSteps
+pub mod Graph
+pub mod GraphWalk
+pub mod Parts
+pub mod Sums
+pub mod Score
+pub mod Scoring
+pub mod OneToOne

@@ -1,4 +1,12 @@
-// The settings of a job (graphparams.rs, the fields that document 01 takes).
+// The settings of a job (graphparams.rs, the fields that document 01 takes), and the refusals that look at nothing else.
+use metrics::refusals::ACCEPTED;
+use metrics::refusals::BAD_FLOAT;
+use metrics::refusals::BAD_K;
+use metrics::refusals::BAD_NUMBER;
+ghost use mathlib.Core.Path.{_≡_};
+ghost use Prim.Native.Nat.{_^_, _≤_};
+ghost use Rattle.kplib.specs.Numbers.{outside, badFloat, badNumber, firstOf, settingsRules, searchMode};
+
 pub struct Settings {
     pub k: u8,
     pub squish: bool,
@@ -13,4 +21,93 @@ pub struct Settings {
     pub seqsim: f32,
     pub fpenalty: f32,
     pub gpenalty: f32,
+}
+
+// 4 to the k: the entries of a feature row.
+pub(crate) fn entries(k: u8) -> usize
+    requires { ⌜ (1 ≤ k) × (k ≤ 6) ⌝ }
+    ensures { λ r. ⌜ r ≡ 4 ^ k ⌝ }
+{
+    match k {
+        1 => 4,
+        2 => 16,
+        3 => 64,
+        4 => 256,
+        5 => 1024,
+        _ => 4096,
+    }
+}
+
+// Whether a job is searched, and not matched one to one.
+pub(crate) fn search_mode(s: Settings, v: usize) -> bool
+    ensures { λ r. ⌜ r ≡ searchMode s v ⌝ }
+{
+    if s.one_to_one {
+        return false;
+    }
+    v <= s.maxnodes as usize
+}
+
+// Not in 0 to `most`; so too a NaN, which no comparison accepts.
+fn out_of_range(x: f32, most: f32) -> bool
+    ensures { λ r. ⌜ r ≡ outside most x ⌝ }
+{
+    if x >= 0.0 {
+        if x <= most {
+            return false;
+        }
+    }
+    true
+}
+
+fn bad_float(s: Settings) -> bool
+    ensures { λ r. ⌜ r ≡ badFloat s ⌝ }
+{
+    if out_of_range(s.sizesim, 1.0) {
+        return true;
+    }
+    if out_of_range(s.seqsim, 1.0) {
+        return true;
+    }
+    if out_of_range(s.fpenalty, 1000.0) {
+        return true;
+    }
+    out_of_range(s.gpenalty, 1000.0)
+}
+
+fn bad_number(s: Settings) -> bool
+    ensures { λ r. ⌜ r ≡ badNumber s ⌝ }
+{
+    if s.maxpaths > 4095 {
+        return true;
+    }
+    if s.maxnodes > 65535 {
+        return true;
+    }
+    if s.fnmax > 65535 {
+        return true;
+    }
+    if s.pileupmax > 12 {
+        return true;
+    }
+    s.minkfreq > 16777216
+}
+
+// The first of the settings' refusals.
+pub(crate) fn settings_fault(s: Settings) -> u32
+    ensures { λ r. ⌜ r ≡ firstOf (settingsRules s) ⌝ }
+{
+    if s.k < 1 {
+        return BAD_K;
+    }
+    if s.k > 6 {
+        return BAD_K;
+    }
+    if bad_float(s) {
+        return BAD_FLOAT;
+    }
+    if bad_number(s) {
+        return BAD_NUMBER;
+    }
+    ACCEPTED
 }

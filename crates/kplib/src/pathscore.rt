@@ -1,4 +1,17 @@
 // The score of a chain against the part lists of a haplotype (pathscore.rs).
+ghost use mathlib.Core.Path.{_≡_};
+ghost use mathlib.Core.Bool.{Bool, _&&_};
+ghost use Prim.Native.Nat.{ℕ, _≤_, _^_};
+ghost use lib.Dec.{eqb};
+ghost use lib.IntN.{ℤ, natAbs};
+ghost use lib.ListN.{length};
+ghost use Rattle.metrics.specs.Similarity.{sizesimValue, magnitudeSum};
+ghost use Rattle.kplib.specs.Sums.{rowPlus, zeros, featuresFrom, featuresOf, Total};
+ghost use Rattle.kplib.specs.Score.{sign, seqsimOfRows, gapOf, scoreValue, listScore, start, targetOf, greaterOf, chainScore};
+ghost use Rattle.kplib.specs.Scoring.{Summable, Ready, Comparable, mayWin, total, listOfCode, Attempt, Attempted, Scorable};
+use crate::graphparams::Settings;
+use crate::haplotype::positions;
+use metrics::Sim;
 
 // Which part list matched; a partial one says how many parts it leaves out.
 pub enum Target {
@@ -12,4 +25,326 @@ pub struct Scored {
     pub score: f32,
     pub sizesim: f32,
     pub seqsim: f32,
+}
+
+// One part list against one chain: skipped, or its score, sizesim and seqsim.
+pub(crate) enum Verdict {
+    Skipped,
+    Scores(f32, f32, f32),
+}
+
+// The best so far, and whether the chain's feature row is summed.
+pub(crate) struct Best {
+    scored: Scored,
+    summed: bool,
+}
+
+// The scoring's start.
+pub(crate) fn nothing() -> Scored
+    ensures { λ r. ⌜ r ≡ start ⌝ }
+{
+    Scored {
+        target: Target::Nothing,
+        score: 0.0,
+        sizesim: 0.0,
+        seqsim: 0.0,
+    }
+}
+
+fn sign_of(x: i32) -> u32
+    requires { ⌜ natAbs x ≤ 8388608 ⌝ }
+    ensures { λ r. ⌜ r ≡ sign x ⌝ }
+{
+    if x < 0 {
+        return 0;
+    }
+    if 0 < x { 2 } else { 1 }
+}
+
+fn magnitude(x: i32) -> u64
+    requires { ⌜ natAbs x ≤ 8388608 ⌝ }
+    ensures { λ r. ⌜ r ≡ natAbs x ⌝ }
+{
+    if x < 0 { (0 - x) as u64 } else { x as u64 }
+}
+
+// sizesim of two sizes that the lower crate does not refuse.
+fn size_alike(a: i32, b: i32) -> f32
+    requires { ⌜ (natAbs a ≤ 8388608) × (natAbs b ≤ 8388608) ⌝ }
+    ensures { λ r. ⌜ r ≡ sizesimValue (natAbs a) (natAbs b) ⌝ }
+{
+    match metrics::sizesim(magnitude(a), magnitude(b)) {
+        Sim::Value(x) => x,
+        Sim::Refused(n) => 0.0,
+    }
+}
+
+// seqsim of two rows that the lower crate does not refuse.
+fn seq_alike(a: &[i32], b: &[i32], minkfreq: u32) -> f32
+    requires { ⌜ (length (now a) ≡ length (now b)) × (magnitudeSum (now a) ≤ 8388608) × (magnitudeSum (now b) ≤ 8388608) × (minkfreq ≤ 16777216) ⌝ }
+    ensures { λ r. ⌜ r ≡ seqsimOfRows minkfreq (now (a .entry)) (now (b .entry)) ⌝ }
+{
+    match metrics::seqsim(a, b, minkfreq) {
+        Sim::Value(x) => x,
+        Sim::Refused(n) => 0.0,
+    }
+}
+
+fn gap_of(squish: bool, n: usize, len: usize) -> usize
+    requires { ⌜ (n ≤ 64) × (len ≤ 64) ⌝ }
+    ensures { λ r. ⌜ (r ≡ gapOf squish n len) × (r ≤ 64) ⌝ }
+{
+    if squish {
+        if len == 0 {
+            return 0;
+        }
+        return len - 1;
+    }
+    if n < len { len - n } else { n - len }
+}
+
+fn score_value(s: Settings, seq: f32, size: f32, partial: usize, g: usize) -> f32
+    requires { ⌜ (partial ≤ 64) × (g ≤ 64) ⌝ }
+    ensures { λ r. ⌜ r ≡ scoreValue s seq size partial g ⌝ }
+{
+    (seq + size) / 2.0 - s.fpenalty * (partial as f32) - s.gpenalty * (g as f32)
+}
+
+// An empty chain under squish accepts no list.
+fn accepts_none(squish: bool, len: usize) -> bool
+    ensures { λ r. ⌜ r ≡ (squish && eqb len 0) ⌝ }
+{
+    if squish { len == 0 } else { false }
+}
+
+// A list's score against a chain, both summed.
+pub(crate) fn list_score(
+    s: Settings,
+    chain_size: i32,
+    chain_row: &[i32],
+    chain_len: usize,
+    list_size: i32,
+    list_row: &[i32],
+    list_len: usize,
+    partial: usize,
+) -> Verdict
+    requires { ⌜ Comparable s «chain_size» (now «chain_row») «chain_len» «list_size» (now «list_row») «list_len» partial ⌝ }
+    ensures { λ r. ⌜ r ≡ listScore s (total «chain_size» (now («chain_row» .entry)) «chain_len») (total «list_size» (now («list_row» .entry)) «list_len») partial ⌝ }
+{
+    if accepts_none(s.squish, chain_len) {
+        return Verdict::Skipped;
+    }
+    if sign_of(chain_size) != sign_of(list_size) {
+        return Verdict::Skipped;
+    }
+    let size = size_alike(chain_size, list_size);
+    if size < s.sizesim {
+        return Verdict::Skipped;
+    }
+    let seq = seq_alike(chain_row, list_row, s.minkfreq);
+    if seq < s.seqsim {
+        return Verdict::Skipped;
+    }
+    let g = gap_of(s.squish, list_len, chain_len);
+    Verdict::Scores(score_value(s, seq, size, partial, g), size, seq)
+}
+
+fn target_of(partial: usize) -> Target
+    requires { ⌜ partial ≤ 64 ⌝ }
+    ensures { λ r. ⌜ r ≡ targetOf partial ⌝ }
+{
+    if partial == 0 {
+        return Target::Whole;
+    }
+    Target::Partial(partial as u32)
+}
+
+// The best, or the new one where it is greater.
+pub(crate) fn greater_of(best: Scored, partial: usize, verdict: Verdict) -> Scored
+    requires { ⌜ partial ≤ 64 ⌝ }
+    ensures { λ r. ⌜ r ≡ greaterOf best partial verdict ⌝ }
+{
+    match verdict {
+        Verdict::Skipped => best,
+        Verdict::Scores(score, sizesim, seqsim) => {
+            if best.score < score {
+                let target = target_of(partial);
+                return Scored {
+                    target,
+                    score,
+                    sizesim,
+                    seqsim,
+                };
+            }
+            best
+        }
+    }
+}
+
+fn add_row(acc: &mut [i32], row: &[i32])
+    requires { ⌜ (length (now row) ≡ length (now acc)) × (magnitudeSum (now acc) ≤ 8388608) × (magnitudeSum (now row) ≤ 131072) ⌝ }
+    ensures { λ _. ⌜ now (acc .exit) ≡ rowPlus (now (acc .entry)) (now (row .entry)) ⌝ }
+{
+    let mut i: usize = 0;
+    while i < acc.len() {
+        acc[i] = acc[i] + row[i];
+        i += 1;
+    }
+}
+
+fn clear(row: &mut [i32])
+    ensures { λ _. ⌜ now (row .exit) ≡ zeros (length (now (row .entry))) ⌝ }
+{
+    let mut i: usize = 0;
+    while i < row.len() {
+        row[i] = 0;
+        i += 1;
+    }
+}
+
+// Adds the rows of a table that a list names.
+fn add_rows(table: &[i32], rows: &[u32], out: &mut [i32])
+    requires { ⌜ (Summable (length (now out)) (now table) (now rows)) × (magnitudeSum (now out) ≡ 0) ⌝ }
+    ensures { λ _. ⌜ now (out .exit) ≡ featuresFrom (length (now (out .entry))) (now (table .entry)) (now (out .entry)) (now (rows .entry)) ⌝ }
+{
+    let width = out.len();
+    let mut i: usize = 0;
+    while i < rows.len() {
+        let a = (rows[i] as usize) * width;
+        let e = a + width;
+        add_row(out, &table[a..e]);
+        i += 1;
+    }
+}
+
+pub(crate) fn sum_rows(table: &[i32], rows: &[u32], out: &mut [i32])
+    requires { ⌜ Summable (length (now out)) (now table) (now rows) ⌝ }
+    ensures { λ _. ⌜ now (out .exit) ≡ featuresOf (length (now (out .entry))) (now (table .entry)) (now (rows .entry)) ⌝ }
+{
+    clear(out);
+    add_rows(table, rows, out);
+}
+
+// The chain's row, summed at the first need of it.
+fn ready(table: &[i32], chain: &[u32], row: &mut [i32], summed: bool)
+    requires { ⌜ (Summable (length (now row)) (now table) (now chain)) × (Ready summed (now row) (featuresOf (length (now row)) (now table) (now chain))) ⌝ }
+    ensures { λ _. ⌜ now (row .exit) ≡ featuresOf (length (now (row .entry))) (now (table .entry)) (now (chain .entry)) ⌝ }
+{
+    if summed {
+        return;
+    }
+    sum_rows(table, chain, row);
+}
+
+// Whether a list passes the sign and size tests and could still beat the best: with seqsim 1.0 it scores no less than with its own.
+fn may_win(
+    s: Settings,
+    chain_size: i32,
+    chain_len: usize,
+    list_size: i32,
+    list_len: usize,
+    partial: usize,
+    best: f32,
+) -> bool
+    requires { ⌜ (natAbs «chain_size» ≤ 8388608) × (natAbs «list_size» ≤ 8388608) × («chain_len» ≤ 64) × («list_len» ≤ 64) × (partial ≤ 64) ⌝ }
+    ensures { λ r. ⌜ r ≡ mayWin s «chain_size» «chain_len» «list_size» «list_len» partial best ⌝ }
+{
+    if sign_of(chain_size) != sign_of(list_size) {
+        return false;
+    }
+    let size = size_alike(chain_size, list_size);
+    if size < s.sizesim {
+        return false;
+    }
+    let g = gap_of(s.squish, list_len, chain_len);
+    !(score_value(s, 1.0, size, partial, g) <= best)
+}
+
+// One laid list against the chain.
+fn try_list(
+    s: Settings,
+    features: &[i32],
+    chain: &[u32],
+    chain_size: i32,
+    part_sizes: &[i32],
+    part_features: &[i32],
+    code: u32,
+    size: i32,
+    chosen: &mut [u32],
+    chain_row: &mut [i32],
+    list_row: &mut [i32],
+    best: Best,
+) -> Best
+    requires { ⌜ Attempt s (now features) (now chain) «chain_size» (now «part_sizes») (now «part_features») code size (now chosen) (now «chain_row») (now «list_row») (best .summed) ⌝ }
+    ensures { λ r. ⌜ Attempted s (now (features .entry)) (now (chain .entry)) «chain_size» (now («part_sizes» .entry)) (now («part_features» .entry)) (listOfCode (length (now («part_sizes» .entry))) code) (best .scored) r (now («chain_row» .exit)) ⌝ }
+{
+    let m = part_sizes.len();
+    let n = (code / 65536) as usize;
+    let old = best.scored;
+    if !may_win(s, chain_size, chain.len(), size, n, m - n, old.score) {
+        return best;
+    }
+    let d = positions(code, m, chosen);
+    ready(features, chain, chain_row, best.summed);
+    sum_rows(part_features, &chosen[..d], list_row);
+    let verdict = list_score(
+        s,
+        chain_size,
+        chain_row,
+        chain.len(),
+        size,
+        list_row,
+        n,
+        m - n,
+    );
+    let scored = greater_of(old, m - n, verdict);
+    Best {
+        scored,
+        summed: true,
+    }
+}
+
+// The score of a chain. The scratch is lent, so that nothing is cleared for a chain that no list passes the tests with.
+pub(crate) fn score_chain(
+    s: Settings,
+    sizes: &[i32],
+    features: &[i32],
+    chain: &[u32],
+    chain_size: i32,
+    part_sizes: &[i32],
+    part_features: &[i32],
+    codes: &[u32],
+    list_sizes: &[i32],
+    count: usize,
+    chosen: &mut [u32],
+    chain_row: &mut [i32],
+    list_row: &mut [i32],
+) -> Scored
+    requires { ⌜ Scorable s (now sizes) (now features) (now chain) «chain_size» (now «part_sizes») (now «part_features») (now codes) (now «list_sizes») count (now chosen) (now «chain_row») (now «list_row») ⌝ }
+    ensures { λ r. ⌜ r ≡ chainScore s (now (sizes .entry)) (now (features .entry)) (now («part_sizes» .entry)) (now («part_features» .entry)) (now (chain .entry)) ⌝ }
+{
+    let scored = nothing();
+    let mut best = Best {
+        scored,
+        summed: false,
+    };
+    let mut i: usize = 0;
+    while i < count {
+        best = try_list(
+            s,
+            features,
+            chain,
+            chain_size,
+            part_sizes,
+            part_features,
+            codes[i],
+            list_sizes[i],
+            chosen,
+            chain_row,
+            list_row,
+            best,
+        );
+        i += 1;
+    }
+    best.scored
 }

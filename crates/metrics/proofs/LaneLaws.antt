@@ -1,5 +1,6 @@
--- Signed entries by their bits, and one turn of the pass over two rows. Assumes nothing.
-use mathlib.Core.Path.{_≡_, refl, sym, ap, _∙_, subst}
+-- Signed entries by their bits, one more pair of entries in the pass over two rows, and what the whole pass shows. Where the rows are within their
+-- limit no sum wraps, since what is added up and what is left are the whole. Assumes nothing.
+use mathlib.Core.Path.{_≡_, refl, ap, _∙_, subst}
 use mathlib.Core.Bool.{Bool, true, false, cond}
 use mathlib.Core.List.{List, [], _∷_}
 use Prim.Native.Nat.{ℕ, zero, suc, _+_, _-_, _*_, _%_, _^_, _≤_, _<_, zero-le}
@@ -8,7 +9,7 @@ use native.Mathlib.Omega.{arith}
 use lib.Dec.{T, leb, ltb}
 use lib.Bits.{bitOr, or-add-and, and-le-l, and-le-r}
 use lib.ListN.{length, drop, getD}
-use lib.IntN.{ℤ, pos, negsuc, negℤ, natAbs, subℕ, _+ℤ_, _-ℤ_}
+use lib.IntN.{ℤ, pos, negsuc, natAbs, _+ℤ_, _-ℤ_}
 use lib.Signed.{mag, ltZ}
 use borrow.Author.Tests.{lt-ltb, le-ltb, eq-eqb, ltb-true, ltb-false}
 use lib.Ieee.{Float}
@@ -16,11 +17,11 @@ use Rattle.metrics.specs.declared.Sim.the-variants.{Value, Refused}
 use mir.Syntax.{w64}
 use mir.Val.{toZ, ofZ, SFits}
 use mir.ValLaws.{toZ-ofZ}
-use Rattle.metrics.specs.declared.Sums.{Sums}
+use Rattle.metrics.specs.declared.lanes.Sums.{Sums}
 use Rattle.metrics.specs.Similarity.{magnitudeSum, partD, partN, sumD, sumN, seqsimValue, seqsimOf}
-use Rattle.metrics.specs.Lanes.{bitsOf, foldOf, Turned, Summed}
+use Rattle.metrics.specs.Lanes.{bitsOf, magnitudeOfBits, Added, Summed}
 use Rattle.metrics.proofs.Ints.{apart-le}
-use Rattle.metrics.proofs.Rows.{row-step, row-none, sum-step, sum-none, sum-le, d-le, n-le}
+use Rattle.metrics.proofs.Rows.{row-step, row-none, sum-step, sum-none, sum-le, d-le, n-le, left-out}
 
 -- a negative number and 2 ^ 32 make its bits; another number is its bits
 pub raised : (x : ℤ) → mag x < 2147483648 → ltZ x (pos 0) ≡ true → x +ℤ pos 4294967296 ≡ pos (bitsOf x)
@@ -37,65 +38,56 @@ pub itself : (x : ℤ) → ltZ x (pos 0) ≡ false → x ≡ pos (bitsOf x)
 itself (pos n) t = refl
 itself (negsuc n) t = absurd (subst (λ (b : Bool). T b) t tt)
 
-pub code-lt : (x : ℤ) → mag x < 2147483648 → bitsOf x < 4294967296
-code-lt (pos n) h = omega arith
-code-lt (negsuc n) h = omega arith
+pub bits-lt : (x : ℤ) → mag x < 2147483648 → bitsOf x < 4294967296
+bits-lt (pos n) h = omega arith
+bits-lt (negsuc n) h = omega arith
 
-fold-low : (u : ℕ) → u < 2147483648 → foldOf u ≡ u
-fold-low u h = rw (lt-ltb u 2147483648 h)
+bits-low : (u : ℕ) → u < 2147483648 → magnitudeOfBits u ≡ u
+bits-low u h = rw (lt-ltb u 2147483648 h)
 
-fold-high : (u : ℕ) → 2147483648 ≤ u → foldOf u ≡ 4294967296 - u
-fold-high u h = rw (le-ltb u 2147483648 h)
+bits-high : (u : ℕ) → 2147483648 ≤ u → magnitudeOfBits u ≡ 4294967296 - u
+bits-high u h = rw (le-ltb u 2147483648 h)
 
-pub fold-code : (x : ℤ) → mag x < 2147483648 → foldOf (bitsOf x) ≡ natAbs x
-fold-code (pos n) h = fold-low n h
-fold-code (negsuc n) h =
+pub bits-magnitude : (x : ℤ) → mag x < 2147483648 → magnitudeOfBits (bitsOf x) ≡ natAbs x
+bits-magnitude (pos n) h = bits-low n h
+bits-magnitude (negsuc n) h =
     let k : 2147483648 ≤ 4294967295 - n = omega arith in
     let e : 4294967296 - (4294967295 - n) ≡ suc n = omega arith in
-    fold-high (4294967295 - n) k ∙ e
-
--- a magnitude is at most the number of its bits, and is it where that is below 2 ^ 31
-pub code-ge : (x : ℤ) → mag x < 2147483648 → natAbs x ≤ bitsOf x
-code-ge (pos n) h = omega arith
-code-ge (negsuc n) h = omega arith
-
-pub code-low : (x : ℤ) → mag x < 2147483648 → bitsOf x < 2147483648 → bitsOf x ≡ natAbs x
-code-low (pos n) h k = refl
-code-low (negsuc n) h k = omega arith
+    bits-high (4294967295 - n) k ∙ e
 
 -- w is the difference of the bits, modulo 2 ^ 32
 apart-by : (t : Bool) (a b w : ℕ) → ltb a b ≡ t → a < 2147483648 → b < 2147483648 → w < 4294967296 → (w + b) % 4294967296 ≡ a
-    → foldOf w ≡ natAbs (cond t (negsuc (b - suc a)) (pos (a - b)))
+    → magnitudeOfBits w ≡ natAbs (cond t (negsuc (b - suc a)) (pos (a - b)))
 apart-by true a b w e ha hb hw h =
     let l = ltb-true a b e in
     let k : 2147483648 ≤ w = omega arith in
     let v : 4294967296 - w ≡ suc (b - suc a) = omega arith in
-    fold-high w k ∙ v
+    bits-high w k ∙ v
 apart-by false a b w e ha hb hw h =
     let l = ltb-false a b e in
     let k : w < 2147483648 = omega arith in
     let v : w ≡ a - b = omega arith in
-    fold-low w k ∙ v
+    bits-low w k ∙ v
 
-pub apart-code : (x y : ℤ) (w : ℕ) → w < 4294967296 → (w + bitsOf y) % 4294967296 ≡ bitsOf x → natAbs x + natAbs y < 2147483648
-    → foldOf w ≡ natAbs (x -ℤ y)
-apart-code (pos a) (pos zero) w hw e h =
+pub apart-bits : (x y : ℤ) (w : ℕ) → w < 4294967296 → (w + bitsOf y) % 4294967296 ≡ bitsOf x → natAbs x + natAbs y < 2147483648
+    → magnitudeOfBits w ≡ natAbs (x -ℤ y)
+apart-bits (pos a) (pos zero) w hw e h =
     let k : w < 2147483648 = omega arith in
     let v : w ≡ a + 0 = omega arith in
-    fold-low w k ∙ v
-apart-code (pos a) (pos (suc b)) w hw e h = apart-by (ltb a (suc b)) a (suc b) w refl (omega arith) (omega arith) hw e
-apart-code (pos a) (negsuc b) w hw e h =
+    bits-low w k ∙ v
+apart-bits (pos a) (pos (suc b)) w hw e h = apart-by (ltb a (suc b)) a (suc b) w refl (omega arith) (omega arith) hw e
+apart-bits (pos a) (negsuc b) w hw e h =
     let k : w < 2147483648 = omega arith in
     let v : w ≡ a + suc b = omega arith in
-    fold-low w k ∙ v
-apart-code (negsuc a) (pos zero) w hw e h =
+    bits-low w k ∙ v
+apart-bits (negsuc a) (pos zero) w hw e h =
     let g : (w + suc a) % 4294967296 ≡ 0 = omega arith in
     apart-by (ltb 0 (suc a)) 0 (suc a) w refl (omega arith) (omega arith) hw g
-apart-code (negsuc a) (pos (suc b)) w hw e h =
+apart-bits (negsuc a) (pos (suc b)) w hw e h =
     let k : 2147483648 ≤ w = omega arith in
     let v : 4294967296 - w ≡ suc (suc (a + b)) = omega arith in
-    fold-high w k ∙ v
-apart-code (negsuc a) (negsuc b) w hw e h =
+    bits-high w k ∙ v
+apart-bits (negsuc a) (negsuc b) w hw e h =
     let g : (w + suc a) % 4294967296 ≡ suc b = omega arith in
     apart-by (ltb (suc b) (suc a)) (suc b) (suc a) w refl (omega arith) (omega arith) hw g
 
@@ -159,67 +151,60 @@ room-step : (i k l n rest all : ℕ) → k ≤ l → n ≤ l → all ≤ i * k +
 room-step i k l n rest all h g e = omega (arith, add-mul i 1 l, one-mul l, mul-le-mul (le-refl i) h)
 
 -- i entries are passed: `most` bounds them, and what is added up and what is left are the whole
-pub record Passed (top m : ℕ) (a b : List ℤ) (i : ℕ) (s : Sums) : Type 0 where
+pub record Passed (m : ℕ) (a b : List ℤ) (i : ℕ) (s : Sums) : Type 0 where
   pub inside : i ≤ length a
   pub room-a : magnitudeSum a ≤ i * s .most + magnitudeSum (drop i a)
   pub room-b : magnitudeSum b ≤ i * s .most + magnitudeSum (drop i b)
-  pub exact-d : magnitudeSum a ≤ 8388608 → magnitudeSum b ≤ 8388608 → s .most < top → s .d + sumD m (drop i a) (drop i b) ≡ sumD m a b
-  pub exact-n : magnitudeSum a ≤ 8388608 → magnitudeSum b ≤ 8388608 → s .most < top → s .n + sumN m (drop i a) (drop i b) ≡ sumN m a b
+  pub exact-d : magnitudeSum a + magnitudeSum b < 2147483648 → s .d + sumD m (drop i a) (drop i b) ≡ sumD m a b
+  pub exact-n : magnitudeSum a + magnitudeSum b < 2147483648 → s .n + sumN m (drop i a) (drop i b) ≡ sumN m a b
 
-module _ (top m : ℕ) (a b : List ℤ) where
-  pub begin : (s : Sums) → s .d ≡ 0 → s .n ≡ 0 → Passed top m a b 0 s
+module _ (m : ℕ) (a b : List ℤ) where
+  pub begin : (s : Sums) → s .d ≡ 0 → s .n ≡ 0 → Passed m a b 0 s
   begin s ed en = record {
     inside = zero-le;
     room-a = omega arith;
     room-b = omega arith;
-    exact-d = λ ha hb ht. omega arith;
-    exact-n = λ ha hb ht. omega arith;
+    exact-d = λ h. omega arith;
+    exact-n = λ h. omega arith;
   }
 
-  module _ (i p q z : ℕ) (s r : Sums) (v : Passed top m a b i s) (ia : i < length a) (ib : i < length b)
-      (hp : natAbs (getD a i (pos 0)) ≤ p) (hq : natAbs (getD b i (pos 0)) ≤ q)
-      (ep : r .most < top → p ≡ natAbs (getD a i (pos 0))) (eq : r .most < top → q ≡ natAbs (getD b i (pos 0)))
+  module _ (i p q z : ℕ) (s r : Sums) (v : Passed m a b i s) (ia : i < length a) (ib : i < length b)
+      (ep : p ≡ natAbs (getD a i (pos 0))) (eq : q ≡ natAbs (getD b i (pos 0)))
       (ez : natAbs (getD a i (pos 0)) + natAbs (getD b i (pos 0)) < 2147483648 → z ≡ natAbs (getD a i (pos 0) -ℤ getD b i (pos 0)))
-      (t : Turned m p q z s r) where
+      (t : Added m p q z s r) where
     -- the pair's magnitudes are within the rows' limits
-    pair-low : magnitudeSum a ≤ 8388608 → magnitudeSum b ≤ 8388608 → natAbs (getD a i (pos 0)) + natAbs (getD b i (pos 0)) ≤ 16777216
-    pair-low ha hb = omega (arith, row-step a i ia, row-step b i ib, row-drop i a, row-drop i b)
+    pair-low : magnitudeSum a + magnitudeSum b < 2147483648 → natAbs (getD a i (pos 0)) + natAbs (getD b i (pos 0)) < 2147483648
+    pair-low h = omega (arith, row-step a i ia, row-step b i ib, row-drop i a, row-drop i b)
 
-    next-d : magnitudeSum a ≤ 8388608 → magnitudeSum b ≤ 8388608 → r .most < top
+    next-d : magnitudeSum a + magnitudeSum b < 2147483648
         → r .d + sumD m (drop (i + 1) a) (drop (i + 1) b) ≡ sumD m a b
-    next-d ha hb ht =
+    next-d h =
         let x = getD a i (pos 0) in
         let y = getD b i (pos 0) in
-        let k : s .most < top = omega (arith, t .grows) in
-        let w = v .exact-d ha hb k in
-        let l = pair-low ha hb in
+        let w = v .exact-d h in
+        let l = pair-low h in
         let bound = sum-le (partD m) (d-le m) a b in
-        let px = ep ht in
-        let qy = eq ht in
         let h1 : p + q < 2147483648 = omega arith in
         let h2 : s .d + (p + q) < 4294967296 = omega arith in
-        let f : r .d ≡ s .d + partD m x y = rw (px, qy) at (t .more-d h1 h2) in
+        let f : r .d ≡ s .d + partD m x y = rw (ep, eq) at (t .more-d h1 h2) in
         omega (arith, sum-step (partD m) a b i ia ib)
 
-    next-n : magnitudeSum a ≤ 8388608 → magnitudeSum b ≤ 8388608 → r .most < top
+    next-n : magnitudeSum a + magnitudeSum b < 2147483648
         → r .n + sumN m (drop (i + 1) a) (drop (i + 1) b) ≡ sumN m a b
-    next-n ha hb ht =
+    next-n h =
         let x = getD a i (pos 0) in
         let y = getD b i (pos 0) in
-        let k : s .most < top = omega (arith, t .grows) in
-        let w = v .exact-n ha hb k in
-        let l = pair-low ha hb in
+        let w = v .exact-n h in
+        let l = pair-low h in
         let bound = sum-le (partN m) (n-le m) a b in
-        let px = ep ht in
-        let qy = eq ht in
         let zz = ez (omega arith) in
         let far = apart-le x y in
         let h1 : p + q < 2147483648 = omega arith in
         let h2 : s .n + z < 4294967296 = omega arith in
-        let f : r .n ≡ s .n + partN m x y = rw (px, qy, zz) at (t .more-n h1 h2) in
+        let f : r .n ≡ s .n + partN m x y = rw (ep, eq, zz) at (t .more-n h1 h2) in
         omega (arith, sum-step (partN m) a b i ia ib)
 
-    pub next : Passed top m a b (i + 1) r
+    pub next : Passed m a b (i + 1) r
     next = record {
       inside = omega arith;
       room-a = room-step i (s .most) (r .most) (natAbs (getD a i (pos 0))) _ _ (t .grows) (omega (arith, t .holds-p)) (rw (← row-step a i ia) (v .room-a));
@@ -228,7 +213,7 @@ module _ (top m : ℕ) (a b : List ℤ) where
       exact-n = next-n;
     }
 
-  pub ended : (i : ℕ) (s : Sums) → Passed top m a b i s → length a ≤ i → length a ≡ length b → Summed top m a b s
+  pub ended : (i : ℕ) (s : Sums) → Passed m a b i s → length a ≤ i → length a ≡ length b → Summed m a b s
   ended i s v h e =
       let ia : i ≡ length a = omega (arith, v .inside) in
       let ib : i ≡ length b = omega arith in
@@ -239,8 +224,8 @@ module _ (top m : ℕ) (a b : List ℤ) where
       record {
         room-a = rw (← ia) (omega arith);
         room-b = rw (← ib) (omega arith);
-        exact-d = λ ha hb ht. let w = v .exact-d ha hb ht in omega (arith, sum-none (partD m) a b i h);
-        exact-n = λ ha hb ht. let w = v .exact-n ha hb ht in omega (arith, sum-none (partN m) a b i h);
+        exact-d = λ k. let w = v .exact-d k in omega (arith, sum-none (partD m) a b i h);
+        exact-n = λ k. let w = v .exact-n k in omega (arith, sum-none (partN m) a b i h);
       }
 
 -- rows within their limit, with their sums
@@ -251,14 +236,18 @@ pub record Good (m : ℕ) (a b : List ℤ) (s : Sums) : Type 0 where
   pub is-n : s .n ≡ sumN m a b
 
 module _ (m : ℕ) (a b : List ℤ) (s : Sums) where
-  pub good-within : Summed 4294967296 m a b s → s .most < 4294967296 → length a ≡ length b → length a * s .most ≤ 8388608 → Good m a b s
-  good-within v ht e w =
-      let ha : magnitudeSum a ≤ 8388608 = omega (arith, v .room-a) in
-      let hb : magnitudeSum b ≤ 8388608 = le-trans (v .room-b) (rw (← e) w) in
-      record { low-a = ha; low-b = hb; is-d = v .exact-d ha hb ht; is-n = v .exact-n ha hb ht }
+  pub good-within : Summed m a b s → length a ≡ length b → length a * s .most ≤ 536870912 → s .d + length a * m ≤ 8388608 → Good m a b s
+  good-within v e w l =
+      let wb : length b * s .most ≤ 536870912 = rw (← e) w in
+      let h : magnitudeSum a + magnitudeSum b < 2147483648 = omega (arith, v .room-a, v .room-b) in
+      let d = v .exact-d h in
+      let both = left-out m a b e in
+      record { low-a = omega arith; low-b = omega arith; is-d = d; is-n = v .exact-n h }
 
-  pub good-rows : Summed 4294967296 m a b s → s .most < 4294967296 → magnitudeSum a ≤ 8388608 → magnitudeSum b ≤ 8388608 → Good m a b s
-  good-rows v ht ha hb = record { low-a = ha; low-b = hb; is-d = v .exact-d ha hb ht; is-n = v .exact-n ha hb ht }
+  pub good-rows : Summed m a b s → magnitudeSum a ≤ 8388608 → magnitudeSum b ≤ 8388608 → Good m a b s
+  good-rows v ha hb =
+      let h : magnitudeSum a + magnitudeSum b < 2147483648 = omega arith in
+      record { low-a = ha; low-b = hb; is-d = v .exact-d h; is-n = v .exact-n h }
 
   pub good-low : Good m a b s → (s .d ≤ 16777216) × (s .n ≤ 16777216)
   good-low g = omega (arith, sum-le (partD m) (d-le m) a b, sum-le (partN m) (n-le m) a b)
@@ -276,12 +265,3 @@ module _ (m : ℕ) (a b : List ℤ) (s : Sums) where
   pub over-is-2 : m ≤ 16777216 → length a ≡ length b → ltb 8388608 (magnitudeSum a) ≡ false → ltb 8388608 (magnitudeSum b) ≡ true → Refused 10 ≡ seqsimOf a b m
   unfolding seqsimOf
   over-is-2 h e t u = rw (le-ltb 16777216 m h, eq-eqb (length a) (length b) e, t, u)
-
--- sums that are right below 2 ^ 31, and are below it
-pub risen : (m : ℕ) (a b : List ℤ) (s : Sums) → Summed 2147483648 m a b s → s .most < 2147483648 → Summed 4294967296 m a b s
-risen m a b s v h = record {
-  room-a = v .room-a;
-  room-b = v .room-b;
-  exact-d = λ ha hb ht. v .exact-d ha hb h;
-  exact-n = λ ha hb ht. v .exact-n ha hb h;
-}

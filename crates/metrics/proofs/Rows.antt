@@ -1,7 +1,7 @@
 -- Sums over what is left of a row. Assumes nothing.
-use mathlib.Core.Path.{_≡_, refl, sym, ap, _∙_}
+use mathlib.Core.Path.{_≡_, refl}
 use mathlib.Core.List.{List, [], _∷_}
-use Prim.Native.Nat.{ℕ, zero, suc, _+_, _≤_, _<_, zero-le}
+use Prim.Native.Nat.{ℕ, suc, _+_, _*_, _≤_, _<_, zero-le}
 use native.Mathlib.Numerals.{add-one}
 use lib.IntN.{ℤ, pos, natAbs, _-ℤ_}
 use lib.ListN.{length, drop, getD, drop-of-length-le}
@@ -9,7 +9,8 @@ use lib.Seq.{drop-cons}
 use Rattle.metrics.specs.Similarity.{magnitudeSum, both, partD, partN, sumBy}
 use Rattle.metrics.proofs.Ints.{apart-le}
 use native.Mathlib.Omega.{arith}
-use native.Mathlib.Nat.{le-refl}
+use native.Mathlib.Nat.{le-refl, add-mul}
+use borrow.Author.Tests.{leb-false}
 use lib.Dec.{leb}
 use mathlib.Core.Bool.{Bool, true, false, cond}
 
@@ -46,3 +47,23 @@ d-le m x y = cond-le (leb m (both x y)) (both x y) (both x y) (le-refl (both x y
 
 pub n-le : (m : ℕ) (x y : ℤ) → partN m x y ≤ natAbs x + natAbs y
 n-le m x y = cond-le (leb m (both x y)) (natAbs (x -ℤ y)) (both x y) (apart-le x y)
+
+-- what d leaves out of both rows' magnitudes is at most minkfreq in each entry
+some-left : (t : Bool) (m b : ℕ) → leb m b ≡ t → b ≤ cond t b 0 + m
+some-left true m b e = omega arith
+some-left false m b e = omega (arith, leb-false m b e)
+
+pub left-out : (m : ℕ) (a b : List ℤ) → length a ≡ length b → magnitudeSum a + magnitudeSum b ≤ sumBy (partD m) a b + length a * m
+unfolding sumBy magnitudeSum
+left-out m [] [] e = omega arith
+left-out m [] (y ∷ b) e = absurd (uneven (length b) e)
+  where
+    uneven : (n : ℕ) → 0 ≡ suc n → ⊥
+    uneven n e = omega arith
+left-out m (x ∷ a) [] e = absurd (uneven (length a) e)
+  where
+    uneven : (n : ℕ) → suc n ≡ 0 → ⊥
+    uneven n e = omega arith
+left-out m (x ∷ a) (y ∷ b) e =
+    let rest : length a ≡ length b = omega arith in
+    omega (arith, some-left (leb m (both x y)) m (both x y) refl, left-out m a b rest, add-mul 1 (length a) m)

@@ -1,26 +1,52 @@
--- Document 01: the entries of a counted row sum, in magnitude, to the number of windows. Assumes nothing.
-use mathlib.Core.Path.{_≡_, refl, sym, ap, _∙_}
-use mathlib.Core.Bool.{Bool}
-use mathlib.Core.List.{List}
+-- Document 01: the entries of a counted row sum to plus or minus the number of windows, and their magnitudes to that number. Each window adds
+-- one to one entry of the row, so the sum over the entries is the length of the list of windows. Assumes nothing.
+use mathlib.Core.Path.{_≡_, refl, ap, _∙_}
+use mathlib.Core.Bool.{Bool, true, false, cond, not, _&&_}
+use mathlib.Core.List.{List, [], _∷_}
 use mathlib.Core.Logic.{⊎-elim}
 use Prim.Native.Nat.{ℕ, zero, suc, _+_, _-_, _^_, _≤_, _<_, zero-le}
 use native.Mathlib.Nat.{eq-or-lt-of-le}
 use native.Mathlib.Omega.{arith}
-use lib.ListN.{length}
-use lib.IntN.{ℤ, pos}
+use lib.Dec.{leb, ltb, eqb}
+use lib.ListN.{length, take}
+use lib.IntN.{ℤ, pos, _+ℤ_, +ℤ-idl, +ℤ-idr}
+use lib.Seq.{length-take-le}
+use borrow.Author.Tests.{leb-true, leb-false, ltb-false, eq-eqb, ne-eqb, le-leb, le-ltb}
+use Rattle.metrics.specs.declared.kmer.Counted.the-variants.{Done, Refused}
 use Rattle.metrics.specs.Similarity.{magnitudeSum}
-use Rattle.metrics.specs.Letters.{windowAt, windows, hits, signed, tableFrom, countsTo, countsOf}
-use Rattle.metrics.proofs.Windows.{signed-size, hits-here, hits-other, window-lt}
+use Rattle.metrics.specs.Letters.{numberOf, windowsOf, timesIn, signed, tableFrom, countsOf, counterAnswer, countedNumber, entriesOf, EntriesSum, RowWithinLimit}
+use Rattle.metrics.proofs.Windows.{signed-size, number-lt}
 
 -- g i + g (i + 1) + .., n terms
 tally : (ℕ → ℕ) → ℕ → ℕ → ℕ
 tally g i zero = 0
 tally g i (suc n) = g i + tally g (suc i) n
 
-row-tally : (negative : Bool) (g : ℕ → ℕ) (i n : ℕ) → magnitudeSum (tableFrom (λ j. signed negative (g j)) i n) ≡ tally g i n
+magnitudes-tally : (negative : Bool) (g : ℕ → ℕ) (i n : ℕ) → magnitudeSum (tableFrom (λ j. signed negative (g j)) i n) ≡ tally g i n
 unfolding magnitudeSum tableFrom tally
-row-tally negative g i zero = refl
-row-tally negative g i (suc n) = rw (signed-size negative (g i), row-tally negative g (suc i) n)
+magnitudes-tally negative g i zero = refl
+magnitudes-tally negative g i (suc n) = rw (signed-size negative (g i), magnitudes-tally negative g (suc i) n)
+
+signed-add : (negative : Bool) (a b : ℕ) → signed negative a +ℤ signed negative b ≡ signed negative (a + b)
+signed-add false a b = refl
+signed-add true zero b =
+    let e : 0 + b ≡ b = omega arith in
+    rw e (+ℤ-idl (signed true b))
+signed-add true (suc a) zero =
+    let e : suc a + 0 ≡ suc a = omega arith in
+    rw e (+ℤ-idr (signed true (suc a)))
+signed-add true (suc a) (suc b) =
+    let e : suc a + suc b ≡ suc (suc (a + b)) = omega arith in
+    rw e
+
+signed-none : (negative : Bool) → pos 0 ≡ signed negative 0
+signed-none true = refl
+signed-none false = refl
+
+entries-tally : (negative : Bool) (g : ℕ → ℕ) (i n : ℕ) → entriesOf (tableFrom (λ j. signed negative (g j)) i n) ≡ signed negative (tally g i n)
+unfolding entriesOf tableFrom tally
+entries-tally negative g i zero = signed-none negative
+entries-tally negative g i (suc n) = rw (entries-tally negative g (suc i) n) (signed-add negative (g i) (tally g (suc i) n))
 
 tally-zero : (g : ℕ → ℕ) → ((j : ℕ) → g j ≡ 0) → (i n : ℕ) → tally g i n ≡ 0
 unfolding tally
@@ -52,17 +78,88 @@ module _ (f g : ℕ → ℕ) (w : ℕ) (here : f w ≡ suc (g w)) (other : (j : 
       clash : (i w : ℕ) → i < w → i ≡ w → ⊥
       clash i w h e = omega arith
 
-module _ (k : ℕ) (negative : Bool) (s : List ℕ) where
-  hits-total : (n : ℕ) → n + k ≤ length s + 1 → tally (hits k s n) 0 (4 ^ k) ≡ n
-  unfolding hits
-  hits-total zero h = tally-zero (hits k s 0) (λ j. refl) 0 (4 ^ k)
-  hits-total (suc n) h =
-      let fit : n + k ≤ length s = omega arith in
-      let room = window-lt k s n fit in
-      one-more (hits k s (suc n)) (hits k s n) (windowAt k s n) (hits-here k negative s n (windowAt k s n) refl)
-      (λ j. hits-other k negative s n j) 0 (4 ^ k) zero-le (omega arith)
-      ∙ ap suc (hits-total n (omega arith))
+-- every number of the list has an entry among the first n
+Below : ℕ → List ℕ → Type 0
+Below n [] = Unit {0}
+Below n (w ∷ ws) = (w < n) × Below n ws
 
-  pub counts-sum : k ≤ length s + 1 → magnitudeSum (countsOf k negative s) ≡ windows k s
+times-here : (w : ℕ) (ws : List ℕ) → timesIn w (w ∷ ws) ≡ suc (timesIn w ws)
+unfolding timesIn
+times-here w ws = rw (eq-eqb w w refl) (omega arith)
+
+times-other : (w : ℕ) (ws : List ℕ) (j : ℕ) → (j ≡ w → ⊥) → timesIn j (w ∷ ws) ≡ timesIn j ws
+unfolding timesIn
+times-other w ws j e = rw (ne-eqb j w e) (omega arith)
+
+times-total : (n : ℕ) (ws : List ℕ) → Below n ws → tally (λ i. timesIn i ws) 0 n ≡ length ws
+unfolding timesIn Below
+times-total n [] b = tally-zero (λ i. timesIn i []) (λ j. refl) 0 n
+times-total n (w ∷ ws) b =
+    one-more (λ i. timesIn i (w ∷ ws)) (λ i. timesIn i ws) w (times-here w ws) (times-other w ws) 0 n zero-le (omega (arith, b .0))
+    ∙ ap suc (times-total n ws (b .1))
+
+windows-below : (k : ℕ) (s : List ℕ) → Below (4 ^ k) (windowsOf k s)
+unfolding windowsOf Below
+windows-below k [] = tt
+windows-below k (x ∷ s) = go (windows-below k s) (leb k (suc (length s))) refl
+  where
+    go : Below (4 ^ k) (windowsOf k s) → (t : Bool) → leb k (suc (length s)) ≡ t
+        → Below (4 ^ k) (cond t (numberOf (take k (x ∷ s)) ∷ windowsOf k s) [])
+    go rest true e = (rw (length-take-le k (x ∷ s) (leb-true k (suc (length s)) e)) at (number-lt (take k (x ∷ s))), rest)
+    go rest false e = tt
+
+windows-length : (k : ℕ) → 1 ≤ k → (s : List ℕ) → length (windowsOf k s) ≡ length s + 1 - k
+unfolding windowsOf
+windows-length k h [] = omega arith
+windows-length k h (x ∷ s) = go (windows-length k h s) (leb k (suc (length s))) refl
+  where
+    go : length (windowsOf k s) ≡ length s + 1 - k → (t : Bool) → leb k (suc (length s)) ≡ t
+        → length (cond t (numberOf (take k (x ∷ s)) ∷ windowsOf k s) []) ≡ suc (length s) + 1 - k
+    go rest true e = omega (arith, leb-true k (suc (length s)) e)
+    go rest false e = omega (arith, leb-false k (suc (length s)) e)
+
+module _ (k : ℕ) (negative : Bool) (s : List ℕ) where
+  pub counts-entries : entriesOf (countsOf k negative s) ≡ signed negative (length (windowsOf k s))
   unfolding countsOf
-  counts-sum h = row-tally negative (hits k s (windows k s)) 0 (4 ^ k) ∙ hits-total (windows k s) (omega arith)
+  counts-entries =
+      entries-tally negative (λ i. timesIn i (windowsOf k s)) 0 (4 ^ k)
+      ∙ ap (signed negative) (times-total (4 ^ k) (windowsOf k s) (windows-below k s))
+
+  pub counts-magnitudes : magnitudeSum (countsOf k negative s) ≡ length (windowsOf k s)
+  unfolding countsOf
+  counts-magnitudes =
+      magnitudes-tally negative (λ i. timesIn i (windowsOf k s)) 0 (4 ^ k) ∙ times-total (4 ^ k) (windowsOf k s) (windows-below k s)
+
+pub entries-sum : EntriesSum
+unfolding EntriesSum
+entries-sum k negative s h = counts-entries k negative s ∙ ap (signed negative) (windows-length k h s)
+
+-- for the crates above: which calls are accepted, and what is known of one that is
+pub counter-done : (k : ℕ) (s : List ℕ) (row : List ℤ) → 1 ≤ k → k ≤ 6 → length row ≡ 4 ^ k → length s ≤ 131072 → counterAnswer k s row ≡ Done
+unfolding counterAnswer
+counter-done k s row h h' e l = rw (le-leb 1 k h, le-leb k 6 h', eq-eqb (length row) (4 ^ k) e, le-ltb 131072 (length s) l)
+
+refused : (n : ℕ) → Refused (suc n) ≡ Done → ⊥
+refused n e =
+    let z : suc n ≡ 0 = ap countedNumber e in
+    omega arith
+
+passed-tests : (low high room long : Bool)
+    → cond (not (low && high)) (Refused 1) (cond (not room) (Refused 6) (cond long (Refused 13) Done)) ≡ Done → (low ≡ true) × (long ≡ false)
+passed-tests false high room long e = absurd (refused 0 e)
+passed-tests true false room long e = absurd (refused 0 e)
+passed-tests true true false long e = absurd (refused 5 e)
+passed-tests true true true true e = absurd (refused 12 e)
+passed-tests true true true false e = (refl, refl)
+
+accepted-limits : (k : ℕ) (s : List ℕ) (row : List ℤ) → counterAnswer k s row ≡ Done → (1 ≤ k) × (length s ≤ 131072)
+unfolding counterAnswer
+accepted-limits k s row e =
+    let t = passed-tests (leb 1 k) (leb k 6) (eqb (length row) (4 ^ k)) (ltb 131072 (length s)) e in
+    (leb-true 1 k (t .0), ltb-false 131072 (length s) (t .1))
+
+pub row-within-limit : RowWithinLimit
+unfolding RowWithinLimit
+row-within-limit k negative s row e =
+    let l = accepted-limits k s row e in
+    omega (arith, counts-magnitudes k negative s, windows-length k (l .0) s)

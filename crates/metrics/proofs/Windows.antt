@@ -1,20 +1,35 @@
--- Windows of k letters as numbers, once over k; and the row of counts after one window more. Assumes nothing.
+-- Windows of k letters as numbers, once over k; the row of counts after one window more; and that after the last window it is the row of the
+-- sequence. The loop counts windows by where they start, the definitions list them: a first letter more is a first window more in both. Assumes nothing.
 use mathlib.Core.Path.{_≡_, refl, sym, ap, _∙_, subst}
 use mathlib.Core.Bool.{Bool, true, false, cond}
 use mathlib.Core.List.{List, [], _∷_, _++_}
-use mathlib.Core.Logic.{inl, inr}
 use Prim.Native.Nat.{ℕ, zero, suc, _+_, _-_, _*_, _/_, _%_, _^_, _≤_, _<_, zero-le}
-use native.Mathlib.Nat.{add-assoc, add-mul, mul-assoc, mul-comm, pow-succ', le-refl, mod-eq-of-lt, mul-add-mod-self-right, mod-add-mod, add-mod, div-add-mod', mod-lt, mul-le-mul-right, mul-right-comm, add-zero, pow-le-pow-right}
-use borrow.Author.Tests.{eqb-true, eqb-false}
+use native.Mathlib.Nat.{add-assoc, add-mul, mul-assoc, pow-succ', le-refl, mod-eq-of-lt, mul-add-mod-self-right, div-add-mod', mul-le-mul-right, mul-right-comm, add-zero, pow-le-pow-right}
+use borrow.Author.Tests.{eqb-true, eqb-false, leb-true, leb-false}
 use native.Mathlib.Numerals.{add-one}
 use native.Mathlib.Omega.{arith}
-use lib.Dec.{T, ltb, eqb}
-use lib.IntN.{ℤ, pos, negsuc, negℤ, natAbs, sucℤ, predℤ}
-use lib.ListN.{length, getD, take, drop, set, replicate, length-append, length-drop, length-replicate, length-set}
+use lib.Dec.{leb, eqb}
+use lib.IntN.{ℤ, pos, natAbs, sucℤ, predℤ}
+use lib.ListN.{length, getD, take, drop, set, replicate, length-append, length-drop, length-set}
 use lib.Pow.{pow-add}
 use lib.Seq.{take-add, take-suc, length-take-le, getD-set-same, getD-set-other, ext-getD}
 use borrow.Author.Tests.{eq-eqb, ne-eqb}
-use Rattle.metrics.specs.Letters.{codeOf, numberOf, windowAt, hits, signed, tableFrom, countsTo}
+use Rattle.metrics.specs.Letters.{codeOf, numberOf, windowsOf, timesIn, signed, tableFrom, countsOf}
+
+-- the window of k letters that starts at j, and how many windows there are
+abbrev pub windowAt : ℕ → List ℕ → ℕ → ℕ
+windowAt k s j = numberOf (take k (drop j s))
+
+abbrev pub windows : ℕ → List ℕ → ℕ
+windows k s = length s + 1 - k
+
+-- how many of the first n windows have the number i, and the row after them
+unfoldable pub hits : ℕ → List ℕ → ℕ → ℕ → ℕ
+hits k s zero i = 0
+hits k s (suc n) i = hits k s n i + cond (eqb i (windowAt k s n)) 1 0
+
+abbrev pub countsTo : ℕ → Bool → List ℕ → ℕ → List ℤ
+countsTo k negative s n = tableFrom (λ i. signed negative (hits k s n i)) 0 (4 ^ k)
 
 cond-le : (t : Bool) (p q r : ℕ) → p ≤ r → q ≤ r → cond t p q ≤ r
 cond-le true p q r h k = h
@@ -35,7 +50,7 @@ number-append (x ∷ xs) ys =
     rw (number-append xs ys, length-append xs ys, pow-add 4 (length xs) (length ys), add-mul, mul-assoc, add-assoc)
 
 -- a number of n digits is below 4 ^ n
-number-lt : (xs : List ℕ) → numberOf xs < 4 ^ length xs
+pub number-lt : (xs : List ℕ) → numberOf xs < 4 ^ length xs
 unfolding numberOf
 number-lt [] = omega arith
 number-lt (x ∷ xs) = rw (pow-succ' 4 (length xs)) (omega (arith, number-lt xs, mul-le-mul-right (4 ^ length xs) (letter-le x)))
@@ -181,3 +196,39 @@ module _ (k : ℕ) (s : List ℕ) (p : ℕ) (whole : k ≤ p + 1) (more : p < le
 
 pub turn-none : (k p : ℕ) → p + 1 < k → p + 1 + 1 - k ≡ p + 1 - k
 turn-none k p h = omega arith
+
+-- ---- from the first windows to the list of all
+-- the first window, apart from the others
+hits-first : (k x : ℕ) (s : List ℕ) (n i : ℕ) → hits k (x ∷ s) (suc n) i ≡ cond (eqb i (numberOf (take k (x ∷ s)))) 1 0 + hits k s n i
+unfolding hits
+hits-first k x s zero i = omega arith
+hits-first k x s (suc n) i = omega (arith, hits-first k x s n i)
+
+hits-all : (k : ℕ) → 1 ≤ k → (s : List ℕ) (i : ℕ) → hits k s (windows k s) i ≡ timesIn i (windowsOf k s)
+unfolding hits windowsOf timesIn
+hits-all k h [] i =
+    let none : 1 - k ≡ 0 = omega arith in
+    rw none
+hits-all k h (x ∷ s) i = go (hits-all k h s i) (leb k (suc (length s))) refl
+  where
+    go : hits k s (windows k s) i ≡ timesIn i (windowsOf k s) → (t : Bool) → leb k (suc (length s)) ≡ t
+        → hits k (x ∷ s) (suc (length s) + 1 - k) i ≡ timesIn i (cond t (numberOf (take k (x ∷ s)) ∷ windowsOf k s) [])
+    go rest true e =
+        let fit = leb-true k (suc (length s)) e in
+        let one : suc (length s) + 1 - k ≡ suc (windows k s) = omega arith in
+        rw (one, hits-first k x s (windows k s) i, rest)
+    go rest false e =
+        let short = leb-false k (suc (length s)) e in
+        let none : suc (length s) + 1 - k ≡ 0 = omega arith in
+        rw none
+
+table-same : (f g : ℕ → ℤ) → ((i : ℕ) → f i ≡ g i) → (i n : ℕ) → tableFrom f i n ≡ tableFrom g i n
+unfolding tableFrom
+table-same f g h i zero = refl
+table-same f g h i (suc n) = rw (h i, table-same f g h (suc i) n)
+
+pub counts-whole : (k : ℕ) (negative : Bool) (s : List ℕ) → 1 ≤ k → countsTo k negative s (windows k s) ≡ countsOf k negative s
+unfolding countsOf
+counts-whole k negative s h =
+    table-same (λ i. signed negative (hits k s (windows k s) i)) (λ i. signed negative (timesIn i (windowsOf k s)))
+    (λ i. ap (signed negative) (hits-all k h s i)) 0 (4 ^ k)

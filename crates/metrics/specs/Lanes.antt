@@ -6,7 +6,7 @@ use mathlib.Core.List.{List}
 use lib.Dec.{leb, ltb}
 use lib.ListN.{length, getD}
 use lib.IntN.{ℤ, pos, negsuc}
-use Rattle.metrics.specs.declared.Sums.{Sums}
+use Rattle.metrics.specs.declared.lanes.Sums.{Sums}
 use Rattle.metrics.specs.Letters.{codeOf}
 use Rattle.metrics.specs.Similarity.{magnitudeSum, sumD, sumN}
 
@@ -15,23 +15,23 @@ abbrev pub bitsOf : ℤ → ℕ
 bitsOf (pos n) = n
 bitsOf (negsuc n) = 4294967295 - n
 
-abbrev pub foldOf : ℕ → ℕ
-foldOf u = cond (ltb u 2147483648) u (4294967296 - u)
+abbrev pub magnitudeOfBits : ℕ → ℕ
+magnitudeOfBits u = cond (ltb u 2147483648) u (4294967296 - u)
 
--- one turn
-pub record Turned (m p q z : ℕ) (s r : Sums) : Type 0 where
+-- one more pair of entries, of magnitudes p and q and z apart: `most` bounds both, and where nothing wraps d and n take the pair's share
+pub record Added (m p q z : ℕ) (s r : Sums) : Type 0 where
   pub grows : s .most ≤ r .most
   pub holds-p : p ≤ r .most
   pub holds-q : q ≤ r .most
   pub more-d : p + q < 2147483648 → s .d + (p + q) < 4294967296 → r .d ≡ s .d + cond (leb m (p + q)) (p + q) 0
   pub more-n : p + q < 2147483648 → s .n + z < 4294967296 → r .n ≡ s .n + cond (leb m (p + q)) z 0
 
--- a whole pass: `most` bounds each entry, and where the rows are within their limit and `most` below top the sums are right
-pub record Summed (top m : ℕ) (a b : List ℤ) (r : Sums) : Type 0 where
+-- a whole pass: `most` bounds each entry, and where the rows are not very large the sums are right
+pub record Summed (m : ℕ) (a b : List ℤ) (r : Sums) : Type 0 where
   pub room-a : magnitudeSum a ≤ length a * r .most
   pub room-b : magnitudeSum b ≤ length b * r .most
-  pub exact-d : magnitudeSum a ≤ 8388608 → magnitudeSum b ≤ 8388608 → r .most < top → r .d ≡ sumD m a b
-  pub exact-n : magnitudeSum a ≤ 8388608 → magnitudeSum b ≤ 8388608 → r .most < top → r .n ≡ sumN m a b
+  pub exact-d : magnitudeSum a + magnitudeSum b < 2147483648 → r .d ≡ sumD m a b
+  pub exact-n : magnitudeSum a + magnitudeSum b < 2147483648 → r .n ≡ sumN m a b
 
 -- a table that has the code of each byte
 pub record Coded (t : List ℕ) : Type 0 where

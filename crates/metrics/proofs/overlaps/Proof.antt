@@ -1,21 +1,15 @@
+-- The test is the definition's.
 use Rattle.metrics.specs.Similarity.{overlapsOf}
 use borrow.Author.Needs.{needs}
 use Rattle.metrics.proofs.overlaps.Statement.{statement}
 use Rattle.metrics.proofs.overlaps.Tie as tie
-use Rattle.metrics.proofs.overlaps.Reads as reads
-use Rattle.metrics.proofs.overlaps.Lts as lts
-use Rattle.metrics.proofs.larger.Reads as larger-reads
-use Rattle.metrics.proofs.smaller.Reads as smaller-reads
 
--- src/lib.rt:51:9
 larger-requires : tie.Need-larger-requires
 larger-requires c κs = search needs
 
--- src/lib.rt:52:9
 smaller-requires : tie.Need-smaller-requires
 smaller-requires c κs = search needs
 
--- src/lib.rt:48:1
 returns : tie.Need-returns
 unfolding overlapsOf
 returns c = cc

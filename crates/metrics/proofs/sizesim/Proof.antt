@@ -1,39 +1,28 @@
+-- Each return is one case of the definition.
 use Rattle.metrics.specs.Similarity.{sizesimOf}
 use borrow.Author.Needs.{needs}
-use mathlib.Core.Path.{refl, _∙_}
 use lib.Ieee.{ofBits, ofInt}
 use borrow.Author.Tests.{lt-ltb, le-ltb, eq-eqb, ne-eqb}
 use Rattle.metrics.proofs.sizesim.Statement.{statement}
 use Rattle.metrics.proofs.sizesim.Tie as tie
-use Rattle.metrics.proofs.sizesim.Reads as reads
-use Rattle.metrics.proofs.sizesim.Lts as lts
-use Rattle.metrics.proofs.larger.Reads as larger-reads
-use Rattle.metrics.proofs.ratio.Reads as ratio-reads
-use Rattle.metrics.proofs.smaller.Reads as smaller-reads
 
--- src/lib.rt:37:9
 larger-requires : tie.Need-larger-requires
 larger-requires c κs = search needs
 
--- src/lib.rt:39:9
 returns : tie.Need-returns
 unfolding sizesimOf
 returns c = rw (← c .before .larger .ensures, lt-ltb _ _ (c .if1 .taken))
 
--- src/lib.rt:42:9
 returns-2 : tie.Need-returns-2
 unfolding ofBits ofInt sizesimOf
 returns-2 c = rw (← c .before .before .larger .ensures, le-ltb _ _ (c .before .if1 .left), eq-eqb _ _ (c .if2 .taken))
 
--- src/lib.rt:44:9
 smaller-requires : tie.Need-smaller-requires
 smaller-requires c κs = search needs
 
--- src/lib.rt:45:16
 ratio-requires : tie.Need-ratio-requires
 ratio-requires c κs = search needs
 
--- src/lib.rt:34:1
 returns-3 : tie.Need-returns-3
 unfolding sizesimOf
 returns-3 c =

@@ -1,32 +1,25 @@
-use Rattle.metrics.specs.Letters.{countsOf}
+-- The number of the last k letters is that of all letters read, modulo 4 ^ k; the row is the counts of the windows that end among them.
 use borrow.Author.Needs.{needs}
-use mathlib.Core.Path.{_≡_, refl, sym, ap, _∙_, subst}
-use mathlib.Core.List.{List}
-use Prim.Native.Nat.{ℕ, _+_, _-_, _*_, _%_, _^_, _≤_, _<_}
+use mathlib.Core.Path.{_≡_, sym, ap, _∙_}
+use Prim.Native.Nat.{ℕ, _+_, _-_, _%_, _^_, _≤_, _<_}
 use native.Mathlib.Omega.{arith}
 use native.Mathlib.Nat.{mod-lt, zero-mod}
-use lib.IntN.{ℤ, pos, natAbs}
-use lib.ListN.{length, take, getD, set, replicate, length-set, length-replicate}
-use Rattle.metrics.specs.Letters.{codeOf, numberOf, windowAt, windows, countsTo}
+use lib.IntN.{pos}
+use lib.ListN.{length, take, getD, length-set, length-replicate}
+use Rattle.metrics.specs.Letters.{numberOf}
 use Rattle.metrics.proofs.Ints.{read-back}
-use Rattle.metrics.proofs.Windows.{letter-le, number-more, four-pos, turn-number, turn-window, turn-row, turn-none, counts-length, counts-zero, counts-size, counts-more}
+use Rattle.metrics.proofs.Windows.{windowAt, countsTo, counts-whole, letter-le, four-pos, turn-number, turn-window, turn-row, turn-none, counts-zero, counts-size}
 use Rattle.metrics.proofs.kmer.count_windows.Statement.{statement}
 use Rattle.metrics.proofs.kmer.count_windows.Tie as tie
-use Rattle.metrics.proofs.kmer.count_windows.Reads as reads
-use Rattle.metrics.proofs.kmer.count_windows.Lts as lts
-use Rattle.metrics.proofs.kmer.bumped.Reads as bumped-reads
-use Rattle.metrics.proofs.kmer.code.Reads as code-reads
-use Rattle.metrics.proofs.kmer.codes.Reads as codes-reads
-use Rattle.metrics.proofs.kmer.rolled.Reads as rolled-reads
 
 abbrev Inv-loop : tie.InvT-loop
-Inv-loop seq k size negative out₀ width t v₀ p₀ out v p =
-    (p ≤ length seq) × (v < size) × (v ≡ numberOf (take p seq) % 4 ^ k) × (length out ≡ size) × (out ≡ countsTo k negative seq (p + 1 - k))
+Inv-loop seq k size negative out₀ width table window₀ read₀ out window read =
+    (read ≤ length seq) × (window < size) × (window ≡ numberOf (take read seq) % 4 ^ k) × (length out ≡ size)
+    × (out ≡ countsTo k negative seq (read + 1 - k))
 
 abbrev μ-loop : tie.MeasureT-loop
-μ-loop seq k size negative out₀ width t v₀ p₀ out v p = length seq - p
+μ-loop seq k size negative out₀ width table window₀ read₀ out window read = length seq - read
 
--- src/kmer.rt:72:5
 loop-holds : tie.Need-loop-holds Inv-loop μ-loop
 unfolding numberOf
 loop-holds c =
@@ -42,126 +35,113 @@ loop-holds c =
       zeros ∙ rw none (sym (counts-zero k (s .args .negative) seq)),
     )
 
-codes-requires : tie.Need-codes-requires Inv-loop μ-loop
-codes-requires c κs = search needs
+code-table-requires : tie.Need-code-table-requires Inv-loop μ-loop
+code-table-requires c κs = search needs
 
-shared-slice-read-code : tie.Need-shared-slice-read-code Inv-loop μ-loop
-shared-slice-read-code c = search needs
+shared-slice-read-code-by-table : tie.Need-shared-slice-read-code-by-table Inv-loop μ-loop
+shared-slice-read-code-by-table c = search needs
 
-code-requires : tie.Need-code-requires Inv-loop μ-loop
-code-requires c κs = c .before .before .before .before .codes .ensures
+code-by-table-requires : tie.Need-code-by-table-requires Inv-loop μ-loop
+code-by-table-requires c κs = c .before .before .before .before .code-table .ensures
 
-rolled-requires : tie.Need-rolled-requires Inv-loop μ-loop
-rolled-requires c κs =
+next-window-requires : tie.Need-next-window-requires Inv-loop μ-loop
+next-window-requires c κs =
     let l = c .before .before .before .before in
     let s = l .before .before .before in
-    (s .pre .0, omega arith, omega (arith, letter-le (getD (s .args .seq .now) (l .loop .p) 0)))
+    (s .pre .0, omega arith, omega (arith, letter-le (getD (s .args .seq .now) (l .loop .read) 0)))
 
 -- what is known once the letter is read
-abbrev In : tie.After-rolled Inv-loop μ-loop → tie.In-loop Inv-loop μ-loop
+abbrev In : tie.After-next-window Inv-loop μ-loop → tie.In-loop Inv-loop μ-loop
 In c = c .before .before .before .before
 
-abbrev At : tie.After-rolled Inv-loop μ-loop → tie.At-loop Inv-loop μ-loop
+abbrev At : tie.After-next-window Inv-loop μ-loop → tie.At-loop Inv-loop μ-loop
 At c = In c .before
 
-abbrev Args : tie.After-rolled Inv-loop μ-loop → tie.Start Inv-loop μ-loop
+abbrev Args : tie.After-next-window Inv-loop μ-loop → tie.Start Inv-loop μ-loop
 Args c = At c .before .before .before
 
-abbrev new : tie.After-rolled Inv-loop μ-loop → ℕ
-new c = c .rolled .result
+abbrev new : tie.After-next-window Inv-loop μ-loop → ℕ
+new c = c .next-window .result
 
 below : (r n m : ℕ) → r ≡ n % m → 0 < m → r < m
 below r n m e h = rw e (mod-lt n h)
 
-new-lt : (c : tie.After-rolled Inv-loop μ-loop) → new c < Args c .args .size
-new-lt c = below (new c) _ (Args c .args .size) (c .rolled .ensures) (omega arith)
+new-lt : (c : tie.After-next-window Inv-loop μ-loop) → new c < Args c .args .size
+new-lt c = below (new c) _ (Args c .args .size) (c .next-window .ensures) (omega arith)
 
-new-is : (c : tie.After-rolled Inv-loop μ-loop) → new c ≡ numberOf (take (At c .loop .p + 1) (Args c .args .seq .now)) % 4 ^ Args c .args .k
+new-is : (c : tie.After-next-window Inv-loop μ-loop) → new c ≡ numberOf (take (At c .loop .read + 1) (Args c .args .seq .now)) % 4 ^ Args c .args .k
 new-is c =
-    c .rolled .ensures
-    ∙ turn-number (Args c .args .k) (Args c .args .seq .now) (At c .loop .p) (At c .loop .v) (c .before .code .result) (Args c .args .size)
-    (Args c .pre .0) (In c .loop-test .taken) (At c .loop .inv .2) (c .before .code .ensures)
+    c .next-window .ensures
+    ∙ turn-number (Args c .args .k) (Args c .args .seq .now) (At c .loop .read) (At c .loop .window) (c .before .code-by-table .result) (Args c .args .size)
+    (Args c .pre .0) (In c .loop-test .taken) (At c .loop .inv .2) (c .before .code-by-table .ensures)
 
-new-window : (c : tie.Then1 Inv-loop μ-loop) → new (c .before) ≡ windowAt (Args (c .before) .args .k) (Args (c .before) .args .seq .now) (At (c .before) .loop .p + 1 - Args (c .before) .args .k)
+new-window : (c : tie.Then1 Inv-loop μ-loop) → new (c .before) ≡ windowAt (Args (c .before) .args .k) (Args (c .before) .args .seq .now) (At (c .before) .loop .read + 1 - Args (c .before) .args .k)
 new-window c =
-    new-is (c .before) ∙ turn-window (Args (c .before) .args .k) (Args (c .before) .args .seq .now) (At (c .before) .loop .p) (c .if1 .taken) (In (c .before) .loop-test .taken)
+    new-is (c .before) ∙ turn-window (Args (c .before) .args .k) (Args (c .before) .args .seq .now) (At (c .before) .loop .read) (c .if1 .taken) (In (c .before) .loop-test .taken)
 
--- src/kmer.rt:74:9
-add-p : tie.Need-add-p Inv-loop μ-loop
-add-p c = search needs
+add-read : tie.Need-add-read Inv-loop μ-loop
+add-read c = search needs
 
--- src/kmer.rt:76:29
-mul-bumped : tie.Need-mul-bumped Inv-loop μ-loop
-mul-bumped c = omega (arith, new-lt (c .before))
+mul-counted-once-more : tie.Need-mul-counted-once-more Inv-loop μ-loop
+mul-counted-once-more c = omega (arith, new-lt (c .before))
 
--- src/kmer.rt:76:29
-slice-copy-out-bumped : tie.Need-slice-copy-out-bumped Inv-loop μ-loop
-slice-copy-out-bumped c = omega (arith, new-lt (c .before))
+slice-copy-out-counted-once-more : tie.Need-slice-copy-out-counted-once-more Inv-loop μ-loop
+slice-copy-out-counted-once-more c = omega (arith, new-lt (c .before))
 
--- src/kmer.rt:76:22
-bumped-requires : tie.Need-bumped-requires Inv-loop μ-loop
-bumped-requires c κs =
+counted-once-more-requires : tie.Need-counted-once-more-requires Inv-loop μ-loop
+counted-once-more-requires c κs =
     let a = c .before .before in
     let k = Args a .args .k in
-    let n = At a .loop .p + 1 - k in
+    let n = At a .loop .read + 1 - k in
     let small : n ≤ 131072 = omega arith in
     let room : new a < 4 ^ k = omega (arith, new-lt a) in
-    rw (read-back _ (c .bumped-arg .given), At a .loop .inv .4)
+    rw (read-back _ (c .counted-once-more-arg .given), At a .loop .inv .4)
     (omega (arith, counts-size k (Args a .args .negative) (Args a .args .seq .now) n (new a) room))
 
--- src/kmer.rt:76:13
 mul-t20 : tie.Need-mul-t20 Inv-loop μ-loop
 mul-t20 c = omega (arith, new-lt (c .before .before .before))
 
--- src/kmer.rt:76:13
 slice-set-from-out : tie.Need-slice-set-from-out Inv-loop μ-loop
 slice-set-from-out c = omega (arith, new-lt (c .before .before .before))
 
--- src/kmer.rt:72:5
 loop-less : tie.Need-loop-less Inv-loop μ-loop
 loop-less c = search needs
 
--- src/kmer.rt:72:5
 loop-again : tie.Need-loop-again Inv-loop μ-loop
 loop-again c =
     let a = c .before .before .before in
     let k = Args a .args .k in
     let seq = Args a .args .seq .now in
     let out = At a .loop .out in
-    let y = rw (read-back (getD out (new a) (pos 0)) (c .before .bumped-arg .given)) at (c .bumped .ensures) in
-    rw (read-back (c .bumped .result) (c .bumped .ok)) (
+    let y = rw (read-back (getD out (new a) (pos 0)) (c .before .counted-once-more-arg .given)) at (c .counted-once-more .ensures) in
+    rw (read-back (c .counted-once-more .result) (c .counted-once-more .ok)) (
       omega arith,
       new-lt a,
       new-is a,
-      length-set out (new a) (c .bumped .result) ∙ At a .loop .inv .3,
-      turn-row k seq (At a .loop .p) (c .before .before .if1 .taken) (In a .loop-test .taken) (Args a .args .negative) out (new a) (c .bumped .result)
+      length-set out (new a) (c .counted-once-more .result) ∙ At a .loop .inv .3,
+      turn-row k seq (At a .loop .read) (c .before .before .if1 .taken) (In a .loop-test .taken) (Args a .args .negative) out (new a) (c .counted-once-more .result)
           (At a .loop .inv .4) (new-window (c .before .before)) y,
     )
 
--- src/kmer.rt:72:5
 loop-less-2 : tie.Need-loop-less-2 Inv-loop μ-loop
 loop-less-2 c = search needs
 
--- src/kmer.rt:72:5
 loop-again-2 : tie.Need-loop-again-2 Inv-loop μ-loop
 loop-again-2 c =
     let a = c .before in
     let k = Args a .args .k in
-    (omega arith, new-lt a, new-is a, At a .loop .inv .3, rw (turn-none k (At a .loop .p) (c .if1 .left)) (At a .loop .inv .4))
+    (omega arith, new-lt a, new-is a, At a .loop .inv .3, rw (turn-none k (At a .loop .read) (c .if1 .left)) (At a .loop .inv .4))
 
--- src/kmer.rt:65:1
 same-length : tie.Need-same-length Inv-loop μ-loop
 same-length c =
     let s = c .before .before .before .before in
     c .before .loop .inv .3 ∙ s .pre .0 ∙ sym (ap length (s .pre .4) ∙ length-replicate (4 ^ s .args .k) (pos 0))
 
--- src/kmer.rt:65:1
 returns : tie.Need-returns Inv-loop μ-loop
-unfolding countsOf
 returns c =
     let s = c .before .before .before .before in
-    let e : c .before .loop .p ≡ length (s .args .seq .now) = omega arith in
-    rw e at (c .before .loop .inv .4)
+    let e : c .before .loop .read ≡ length (s .args .seq .now) = omega arith in
+    rw e at (c .before .loop .inv .4) ∙ counts-whole (s .args .k) (s .args .negative) (s .args .seq .now) (omega arith)
 
 pub count-windows-spec : {M : Type 1} → statement M
 count-windows-spec =
@@ -169,15 +149,15 @@ count-windows-spec =
     (tie.spec
     Inv-loop
     μ-loop
-    codes-requires
+    code-table-requires
     loop-holds
-    shared-slice-read-code
-    code-requires
-    rolled-requires
-    add-p
-    mul-bumped
-    slice-copy-out-bumped
-    bumped-requires
+    shared-slice-read-code-by-table
+    code-by-table-requires
+    next-window-requires
+    add-read
+    mul-counted-once-more
+    slice-copy-out-counted-once-more
+    counted-once-more-requires
     mul-t20
     slice-set-from-out
     loop-less

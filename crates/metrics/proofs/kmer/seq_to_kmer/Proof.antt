@@ -1,80 +1,67 @@
+-- Each return is one case of the definition, tried in the table's order; only the last has touched the row.
 use Rattle.metrics.specs.Letters.{counterAnswer}
 use borrow.Author.Needs.{needs}
-use mathlib.Core.Path.{_≡_, refl, sym, ap, _∙_}
-use Prim.Native.Nat.{ℕ, _^_, _≤_, zero-le}
+use mathlib.Core.Path.{refl, ap, _∙_}
+use Prim.Native.Nat.{ℕ, _^_, _≤_}
 use native.Mathlib.Omega.{arith}
 use native.Mathlib.Nat.{pow-le-pow-right}
-use lib.IntN.{ℤ, pos}
+use lib.IntN.{pos}
 use lib.ListN.{replicate}
 use borrow.Author.Tests.{lt-leb, le-leb, lt-ltb, le-ltb, eq-eqb, ne-eqb}
 use Rattle.metrics.proofs.kmer.seq_to_kmer.Statement.{statement}
 use Rattle.metrics.proofs.kmer.seq_to_kmer.Tie as tie
-use Rattle.metrics.proofs.kmer.seq_to_kmer.Reads as reads
-use Rattle.metrics.proofs.kmer.seq_to_kmer.Lts as lts
-use Rattle.metrics.proofs.kmer.clear.Reads as clear-reads
-use Rattle.metrics.proofs.kmer.count_windows.Reads as count-windows-reads
-use Rattle.metrics.proofs.kmer.entries.Reads as entries-reads
 
--- src/kmer.rt:87:9
 returns : tie.Need-returns
 unfolding counterAnswer
 returns c = (rw (lt-leb _ _ (c .if1 .taken)), refl)
 
--- src/kmer.rt:90:9
 returns-2 : tie.Need-returns-2
 unfolding counterAnswer
 returns-2 c = (rw (le-leb _ _ (c .before .if1 .left), lt-leb _ _ (c .if2 .taken)), refl)
 
--- src/kmer.rt:92:9
-entries-requires : tie.Need-entries-requires
-entries-requires c κs = search needs
+entries-of-requires : tie.Need-entries-of-requires
+entries-of-requires c κs = search needs
 
--- src/kmer.rt:94:9
 returns-3 : tie.Need-returns-3
 unfolding counterAnswer
 returns-3 c =
     let d = c .before in
-    let e = d .entries .ensures in
+    let e = d .entries-of .ensures in
     (rw (le-leb _ _ (d .before .before .if1 .left), le-leb _ _ (d .before .if2 .left), ← e, ne-eqb _ _ (c .if3 .taken)), refl)
 
--- src/kmer.rt:97:9
 returns-4 : tie.Need-returns-4
 unfolding counterAnswer
 returns-4 c =
     let d = c .before .before in
-    let e = d .entries .ensures in
+    let e = d .entries-of .ensures in
     (rw (le-leb _ _ (d .before .before .if1 .left), le-leb _ _ (d .before .if2 .left), ← e, eq-eqb _ _ (c .before .if3 .left), lt-ltb _ _ (c .if4 .taken)), refl)
 
--- src/kmer.rt:99:5
-clear-requires : tie.Need-clear-requires
-clear-requires c κs = search needs
+clear-row-requires : tie.Need-clear-row-requires
+clear-row-requires c κs = search needs
 
--- src/kmer.rt:100:5
 count-windows-requires : tie.Need-count-windows-requires
 count-windows-requires c κs =
     let d = c .before .before .before .before .before .before in
     let s = d .before .before .before .before in
     let k = s .args .k in
-    let e = d .entries .ensures in
+    let e = d .entries-of .ensures in
     let six : k ≤ 6 = omega arith in
     let most : 4 ^ k ≤ 4 ^ 6 = pow-le-pow-right (omega arith) six in (
       e,
       omega arith,
       omega arith,
       omega arith,
-      c .before .before .clear .ensures ∙ ap (λ (n : ℕ). replicate n (pos 0)) (c .before .before .before .before .before .if3 .left ∙ e),
+      c .before .before .clear-row .ensures ∙ ap (λ (n : ℕ). replicate n (pos 0)) (c .before .before .before .before .before .if3 .left ∙ e),
     )
 
--- src/kmer.rt:82:1
 same-length : tie.Need-same-length
 same-length c = search needs
 
--- src/kmer.rt:82:1
 returns-5 : tie.Need-returns-5
 unfolding counterAnswer
 returns-5 c =
     let d = c .before .before .before .before .before .before .before .before in
-    let e = d .entries .ensures in
+    let e = d .entries-of .ensures in
     let f = c .before .before .before .before .before .before .before in (
       rw (le-leb _ _ (d .before .before .if1 .left), le-leb _ _ (d .before .if2 .left), ← e, eq-eqb _ _ (f .if3 .left), le-ltb _ _ (c .before .before .before .before .before .before .if4 .left)),
       c .before .count-windows .ensures,
@@ -86,10 +73,10 @@ seq-to-kmer-spec =
     (tie.spec
     returns
     returns-2
-    entries-requires
+    entries-of-requires
     returns-3
     returns-4
-    clear-requires
+    clear-row-requires
     count-windows-requires
     same-length
     returns-5)

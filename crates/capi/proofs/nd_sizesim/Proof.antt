@@ -1,0 +1,33 @@
+-- The answer's number and value, case by case, are those of the metrics call's own promise.
+use mathlib.Core.Path.{refl}
+use borrow.Author.Needs.{needs}
+use Rattle.metrics.proofs.Casts.{zero-is}
+use Rattle.capi.proofs.nd_sizesim.Statement.{statement}
+use Rattle.capi.proofs.nd_sizesim.Tie as tie
+use Rattle.capi.proofs.nd_sizesim.Reads as reads
+use Rattle.capi.proofs.nd_sizesim.Lts as lts
+use Rattle.metrics.proofs.sizesim.Reads as sizesim-reads
+
+-- src/lib.rt:44:9
+sizesim-requires : tie.Need-sizesim-requires
+sizesim-requires c κs = search needs
+
+-- src/lib.rt:46:20
+enum-known-sim : tie.Need-enum-known-sim
+enum-known-sim c = search needs
+
+-- src/lib.rt:50:22
+enum-known-sim-2 : tie.Need-enum-known-sim-2
+enum-known-sim-2 c = search needs
+
+-- src/lib.rt:39:1
+returns : tie.Need-returns
+returns c = rw (← c .before .before .before .sizesim .ensures, c .before .sim .given .1) (refl, refl)
+
+-- src/lib.rt:39:1
+returns-2 : tie.Need-returns-2
+returns-2 c = rw (← c .before .before .before .sizesim .ensures, c .before .sim2 .given .1) (refl, zero-is)
+
+pub nd-sizesim-spec : {M : Type 1} → statement M
+nd-sizesim-spec =
+    tie.close (tie.spec sizesim-requires enum-known-sim enum-known-sim-2 returns returns-2)

@@ -1,0 +1,137 @@
+-- What a reader may rely on of the scoring's results: a chain's score is a number, at least 0.0, and 0.0 only at the scoring's start;
+-- and no anchor is ever chosen: the row of a one-to-one answer, where there is one, is a row of the table. Assumes nothing.
+use mathlib.Core.Path.{_≡_, refl, sym, ap, _∙_, subst}
+use mathlib.Core.Bool.{Bool, true, false, cond, not}
+use mathlib.Core.List.{List, [], _∷_}
+use mathlib.Core.Logic.{_⊎_, inl, inr}
+use Prim.Native.Nat.{ℕ, zero, suc, _+_, _-_, _^_, _≤_, _<_}
+use native.Mathlib.Omega.{arith}
+use lib.Dec.{T}
+use lib.IntN.{ℤ}
+use lib.ListN.{length}
+use lib.Ieee.{Float, lt, le, isNan, ofInt}
+use Rattle.metrics.specs.Similarity.{whole}
+use Rattle.metrics.proofs.FloatOrder.{lt-le, le-lt-trans, le-number}
+use Rattle.kplib.specs.Checked.{Below}
+use Rattle.kplib.specs.Parts.{partLists}
+use Rattle.kplib.specs.Sums.{Total, totalOf}
+use Rattle.kplib.specs.Score.{start, targetOf, listScore, greaterOf, afterList, afterLists, chainScore}
+use Rattle.kplib.specs.OneToOne.{rowTotal, nodeTotal, aloneScore, latestOf, overNodes, noLone, oneToOne, loneRowsAt, loneRows}
+use Rattle.kplib.specs.Scoring.{Tables}
+use Rattle.kplib.specs.declared.graphparams.Settings.{Settings}
+use Rattle.kplib.specs.declared.pathscore.Scored.{Scored}
+use Rattle.kplib.specs.declared.pathscore.Target.{Target}
+use Rattle.kplib.specs.declared.pathscore.Target.the-variants.{Nothing, Whole, Partial}
+use Rattle.kplib.specs.declared.pathscore.Verdict.{Verdict}
+use Rattle.kplib.specs.declared.pathscore.Verdict.the-variants.{Skipped, Scores}
+use Rattle.kplib.specs.declared.onetoone.Lone.{Lone}
+use Rattle.kplib.proofs.OneToOneLaws.{nodeStep, row-node, Matched, none-matched, row-matched, all-matched}
+
+holds : (t : Bool) → t ≡ true → T t
+holds t e = subst (λ (b : Bool). T b) (sym e) tt
+
+is-true : (t : Bool) → T t → t ≡ true
+is-true true h = refl
+is-true false h = absurd h
+
+-- the scoring's start, or a score above 0.0
+abbrev pub StartOrAbove : Scored → Type 0
+StartOrAbove r = (r ≡ start) ⊎ (lt (whole 0) (r .score) ≡ true)
+
+above : (best : Scored) (x : Float) → lt (best .score) x ≡ true → StartOrAbove best → lt (whole 0) x ≡ true
+above best x t (inl e) = subst (λ (r : Scored). lt (r .score) x ≡ true) e t
+above best x t (inr u) =
+    is-true (lt (whole 0) x) (le-lt-trans (whole 0) (best .score) x (lt-le (whole 0) (best .score) (holds _ u)) (holds _ t))
+
+replaced : (best : Scored) (partial : ℕ) (x size seq : Float) → StartOrAbove best → (t : Bool) → lt (best .score) x ≡ t
+    → StartOrAbove (cond t (record { target = targetOf partial; score = x; sizesim = size; seqsim = seq }) best)
+replaced best partial x size seq b true t = inr (above best x t b)
+replaced best partial x size seq b false t = b
+
+greater-kept : (best : Scored) (partial : ℕ) (v : Verdict) → StartOrAbove best → StartOrAbove (greaterOf best partial v)
+unfolding greaterOf
+greater-kept best partial Skipped b = b
+greater-kept best partial (Scores x size seq) b = replaced best partial x size seq b (lt (best .score) x) refl
+
+lists-kept : (f : Scored → List ℕ → Scored) → ((best : Scored) (l : List ℕ) → StartOrAbove best → StartOrAbove (f best l))
+    → (best : Scored) (lists : List (List ℕ)) → StartOrAbove best → StartOrAbove (afterLists f best lists)
+unfolding afterLists
+lists-kept f h best [] b = b
+lists-kept f h best (l ∷ lists) b = lists-kept f h (f best l) lists (h best l b)
+
+zero-le-zero : le (whole 0) (whole 0) ≡ true
+unfolding le ofInt
+zero-le-zero = refl
+
+module _ (s : Settings) (sizes features partSizes partFeatures : List ℤ) (chain : List ℕ) where
+  -- a chain scores the start, or above 0.0
+  pub start-or-above : StartOrAbove (chainScore s sizes features partSizes partFeatures chain)
+  unfolding chainScore afterList
+  start-or-above =
+      lists-kept (afterList s (4 ^ s .k) partSizes partFeatures (totalOf (4 ^ s .k) sizes features chain))
+      (λ best l b. greater-kept best (length partSizes - length l) (listScore s (totalOf (4 ^ s .k) sizes features chain) (totalOf (4 ^ s .k) partSizes partFeatures l) (length partSizes - length l)) b)
+      start (partLists (length partSizes) (s .fnmax) (s .pileupmax)) (inl refl)
+
+  -- a chain's score is at least 0.0
+  pub at-least-zero : le (whole 0) (chainScore s sizes features partSizes partFeatures chain .score) ≡ true
+  at-least-zero = go start-or-above
+    where
+      go : {r : Scored} → StartOrAbove r → le (whole 0) (r .score) ≡ true
+      go {r} (inl e) = subst (λ (x : Scored). le (whole 0) (x .score) ≡ true) (sym e) zero-le-zero
+      go {r} (inr t) = is-true (le (whole 0) (r .score)) (lt-le (whole 0) (r .score) (holds _ t))
+
+  -- and so it is never a NaN
+  pub score-number : T (not (isNan (chainScore s sizes features partSizes partFeatures chain .score)))
+  score-number = le-number (whole 0) (chainScore s sizes features partSizes partFeatures chain .score) (holds _ at-least-zero) .1
+
+-- ---- no anchor is ever chosen
+nodes-last : (f : Lone → ℕ → Lone) (best : Lone) (node n : ℕ) → overNodes f best node (suc n) ≡ f (overNodes f best node n) (node + n)
+unfolding overNodes
+nodes-last f best node zero = let z : node + 0 ≡ node = omega arith in rw z
+nodes-last f best node (suc n) = let z : suc node + n ≡ node + suc n = omega arith in rw (← z) (nodes-last f (f best node) (suc node) n)
+
+target-below : (n r : ℕ) (t : Target) → r < n → Below n (loneRowsAt t r)
+target-below n r Nothing h = tt
+target-below n r Whole h = (h, tt)
+target-below n r (Partial k) h = (h, tt)
+
+latest-below : (n : ℕ) (best : Lone) (r : ℕ) (x : Scored) → r < n → Below n (loneRows best) → Below n (loneRows (latestOf best (r + 1) x))
+unfolding latestOf
+latest-below n best r x h b = go (lt (whole 0) (x .seqsim)) (lt (x .score) (best .scored .score))
+  where
+    go : (t u : Bool) → Below n (loneRows (cond t (cond u best (record { row = r + 1 - 1; scored = x })) best))
+    go true true = b
+    go true false = let z : r + 1 - 1 < n = omega arith in target-below n (r + 1 - 1) (x .target) z
+    go false u = b
+
+module _ (s : Settings) (sizes features partSizes partFeatures : List ℤ) (y : Tables s sizes features partSizes partFeatures) where
+  abbrev step : Lone → ℕ → Lone
+  step = nodeStep s sizes features partSizes partFeatures y
+
+  rows-below : (n : ℕ) → n ≤ length sizes → Below (length sizes) (loneRows (overNodes step noLone 1 n))
+  unfolding overNodes
+  rows-below zero h = tt
+  rows-below (suc n) h =
+      let z : 1 + n ≡ n + 1 = omega arith in
+      rw (nodes-last step noLone 1 n, z)
+      (latest-below (length sizes) (overNodes step noLone 1 n) n (aloneScore s partSizes partFeatures (nodeTotal (4 ^ s .k) sizes features (n + 1))) h (rows-below n (omega arith)))
+
+  first-rows : (n : ℕ) → n ≤ length sizes → Matched s sizes features partSizes partFeatures y (overNodes step noLone 1 n) n
+  unfolding overNodes
+  first-rows zero h = none-matched s sizes features partSizes partFeatures y start refl
+  first-rows (suc n) h =
+      let z : 1 + n ≡ n + 1 = omega arith in
+      let w : suc n ≡ n + 1 = omega arith in
+      let last : overNodes step noLone 1 (suc n) ≡ step (overNodes step noLone 1 n) (n + 1) = nodes-last step noLone 1 n ∙ ap (λ (m : ℕ). step (overNodes step noLone 1 n) m) z in
+      rw w
+      (row-matched s sizes features partSizes partFeatures y (overNodes step noLone 1 n) (overNodes step noLone 1 (suc n)) (aloneScore s partSizes partFeatures (rowTotal (4 ^ s .k) sizes features n)) n h refl
+      (last ∙ ap (λ (t : Total). latestOf (overNodes step noLone 1 n) (n + 1) (aloneScore s partSizes partFeatures t)) (row-node s sizes features partSizes partFeatures y n h))
+      (first-rows n (omega arith)))
+
+  -- source and sink may be left out
+  pub rows-only : overNodes step noLone 1 (length sizes) ≡ oneToOne s sizes features partSizes partFeatures
+  rows-only = all-matched s sizes features partSizes partFeatures y (overNodes step noLone 1 (length sizes)) (length sizes) refl (first-rows (length sizes) (omega arith))
+
+  -- the answer names no row, or a row of the table: neither source nor sink
+  pub no-anchor : Below (length sizes) (loneRows (oneToOne s sizes features partSizes partFeatures))
+  no-anchor = subst (λ (x : Lone). Below (length sizes) (loneRows x)) rows-only (rows-below (length sizes) (omega arith))

@@ -1,0 +1,43 @@
+-- The two cases of a chain count, and what an accepted one is known to be. Assumes nothing.
+use mathlib.Core.Path.{_≡_, refl, sym, _∙_}
+use Prim.Native.Nat.{ℕ, zero, suc}
+use native.Mathlib.Omega.{arith}
+use mathlib.Core.Bool.{cond}
+use mathlib.Core.List.{List}
+use lib.Dec.{eqb}
+use lib.ListN.{length}
+use borrow.Author.Tests.{ltb-false, eqb-true, ne-eqb, not-false}
+use Rattle.kplib.specs.declared.vargraph.ChainCount.the-variants.{Chains, Refused}
+use Rattle.kplib.specs.Numbers.{chainCountRules, chainCountFault}
+use Rattle.kplib.specs.Graph.{countCase, countNumber, countValue}
+use Rattle.kplib.specs.GraphWalk.{Walk}
+use Rattle.kplib.proofs.CheckLaws.{none-given}
+
+-- the paper's number and value of each case
+pub number-is : (fault n : ℕ) → countNumber (countCase fault n) ≡ fault
+number-is zero n = refl
+number-is (suc f) n = refl
+
+pub value-is : (fault n : ℕ) → countValue (countCase fault n) ≡ cond (eqb fault 0) n 0
+value-is zero n = refl
+value-is (suc f) n = rw (ne-eqb (suc f) 0 (λ e. omega arith))
+
+pub refused-case : (found fault n : ℕ) → found ≡ fault → (found ≡ 0 → ⊥) → Refused found ≡ countCase fault n
+refused-case found zero n e h = absurd (h e)
+refused-case found (suc f) n e h = rw e
+
+pub counted-case : (found fault count n : ℕ) → found ≡ fault → found ≡ 0 → count ≡ n → Chains count ≡ countCase fault n
+counted-case found zero count n e z h = rw h
+counted-case found (suc f) count n e z h = absurd (omega arith)
+
+pub walk-ready : (starts ends : List ℕ) (cap found : ℕ) → found ≡ chainCountFault cap starts ends → found ≡ 0 → Walk starts ends 0 0 cap
+unfolding chainCountFault
+walk-ready starts ends cap found e z =
+    let p = none-given (chainCountRules cap starts ends) refl (sym e ∙ z) in
+    record {
+      few = ltb-false 64 (length starts) (p .1 .1 .0);
+      ends-are = eqb-true (length ends) (length starts) (not-false (eqb (length ends) (length starts)) (p .1 .1 .1 .0));
+      end-in = omega arith;
+      row-in = omega arith;
+      cap-in = ltb-false 4096 cap (p .0);
+    }

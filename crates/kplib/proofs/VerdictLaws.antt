@@ -1,0 +1,123 @@
+-- One list against one chain: which way each test goes, and that a list which may not win leaves the best as it is. Assumes nothing.
+use mathlib.Core.Path.{_≡_, refl, sym, ap, _∙_}
+use mathlib.Core.Bool.{Bool, true, false, cond, not, _&&_}
+use mathlib.Core.List.{List}
+use Prim.Native.Nat.{ℕ, _≤_}
+use native.Mathlib.Omega.{arith}
+use borrow.Author.Tests.{eq-eqb, ne-eqb}
+use lib.Dec.{eqb}
+use lib.IntN.{ℤ, natAbs}
+use lib.Ieee.{Float, lt, le, binary32, ofBits}
+use mir.Syntax.{w32}
+use mir.Val.{toZ, ofZ}
+use Rattle.metrics.specs.Similarity.{whole, sizesimValue, seqsimValue, sumD, sumN}
+use Rattle.metrics.proofs.Casts.{one-is}
+use Rattle.kplib.specs.Score.{sign, gapOf, scoreValue, seqsimOfRows, listScore, targetOf, greaterOf}
+use Rattle.kplib.specs.Scoring.{total, mayWin}
+use Rattle.kplib.specs.declared.graphparams.Settings.{Settings}
+use Rattle.kplib.specs.declared.pathscore.Scored.{Scored}
+use Rattle.kplib.specs.declared.pathscore.Target.{Target}
+use Rattle.kplib.specs.declared.pathscore.Verdict.{Verdict}
+use Rattle.kplib.specs.declared.pathscore.Verdict.the-variants.{Skipped, Scores}
+use Rattle.kplib.proofs.WordLaws.{back}
+use Rattle.kplib.proofs.RoundingLaws.{beaten, score-safe}
+
+-- ---- the sizes as the machine reads them
+module _ (c l : ℤ) (hc : natAbs c ≤ 8388608) (hl : natAbs l ≤ 8388608) where
+  c-back : toZ w32 (ofZ w32 c) ≡ c
+  c-back = back c (omega arith)
+
+  l-back : toZ w32 (ofZ w32 l) ≡ l
+  l-back = back l (omega arith)
+
+  module _ (a b : ℕ) (f : a ≡ sign (toZ w32 (ofZ w32 c))) (g : b ≡ sign (toZ w32 (ofZ w32 l))) where
+    same-sign : a ≡ b → eqb (sign c) (sign l) ≡ true
+    same-sign h = eq-eqb (sign c) (sign l) (ap sign (sym c-back) ∙ sym f ∙ h ∙ g ∙ ap sign l-back)
+
+    other-sign : (a ≡ b → ⊥) → eqb (sign c) (sign l) ≡ false
+    other-sign h = ne-eqb (sign c) (sign l) (λ k. h (f ∙ ap sign c-back ∙ k ∙ ap sign (sym l-back) ∙ sym g))
+
+  size-is : (z : Float) → z ≡ sizesimValue (natAbs (toZ w32 (ofZ w32 c))) (natAbs (toZ w32 (ofZ w32 l))) → z ≡ sizesimValue (natAbs c) (natAbs l)
+  size-is z e = e ∙ rw (c-back, l-back)
+
+-- ---- the score of a list
+module _ (s : Settings) (c : ℤ) (chainRow : List ℤ) (chainLen : ℕ) (l : ℤ) (listRow : List ℤ) (listLen partial : ℕ) (hc : natAbs c ≤ 8388608) (hl : natAbs l ≤ 8388608)
+    (t : Bool) (te : t ≡ (s .squish && eqb chainLen 0)) where
+  pub by-squish : t ≡ true → Skipped ≡ listScore s (total c chainRow chainLen) (total l listRow listLen) partial
+  unfolding listScore
+  by-squish h = rw (sym te ∙ h)
+
+  module _ (tf : t ≡ false) (a b : ℕ) (f : a ≡ sign (toZ w32 (ofZ w32 c))) (g : b ≡ sign (toZ w32 (ofZ w32 l))) where
+    pub by-sign : (a ≡ b → ⊥) → Skipped ≡ listScore s (total c chainRow chainLen) (total l listRow listLen) partial
+    unfolding listScore
+    by-sign h = rw (sym te ∙ tf, other-sign c l hc hl a b f g h)
+
+    module _ (h : a ≡ b) (z : Float) (ze : z ≡ sizesimValue (natAbs (toZ w32 (ofZ w32 c))) (natAbs (toZ w32 (ofZ w32 l)))) where
+      pub by-size : lt z (s .sizesim) ≡ true → Skipped ≡ listScore s (total c chainRow chainLen) (total l listRow listLen) partial
+      unfolding listScore
+      by-size k = rw (sym te ∙ tf, same-sign c l hc hl a b f g h, rw (size-is c l hc hl z ze) at k)
+
+      module _ (zf : lt z (s .sizesim) ≡ false) (q : Float) (qe : q ≡ seqsimOfRows (s .minkfreq) chainRow listRow) where
+        pub by-seq : lt q (s .seqsim) ≡ true → Skipped ≡ listScore s (total c chainRow chainLen) (total l listRow listLen) partial
+        unfolding listScore
+        by-seq k = rw (sym te ∙ tf, same-sign c l hc hl a b f g h, rw (size-is c l hc hl z ze) at zf, rw qe at k)
+
+        pub by-score : lt q (s .seqsim) ≡ false → (w : ℕ) → w ≡ gapOf (s .squish) listLen chainLen → (x : Float) → x ≡ scoreValue s q z partial w
+            → Scores x z q ≡ listScore s (total c chainRow chainLen) (total l listRow listLen) partial
+        unfolding listScore
+        by-score k w we x xe =
+            rw (xe, we, size-is c l hc hl z ze, qe, sym te ∙ tf, same-sign c l hc hl a b f g h, rw (size-is c l hc hl z ze) at zf, rw qe at k)
+
+-- ---- whether it may win
+module _ (s : Settings) (c : ℤ) (chainLen : ℕ) (l : ℤ) (listLen partial : ℕ) (best : Float) (hc : natAbs c ≤ 8388608) (hl : natAbs l ≤ 8388608)
+    (a b : ℕ) (f : a ≡ sign (toZ w32 (ofZ w32 c))) (g : b ≡ sign (toZ w32 (ofZ w32 l))) where
+  pub lost-by-sign : (a ≡ b → ⊥) → false ≡ mayWin s c chainLen l listLen partial best
+  unfolding mayWin
+  lost-by-sign h = rw (other-sign c l hc hl a b f g h)
+
+  module _ (h : a ≡ b) (z : Float) (ze : z ≡ sizesimValue (natAbs (toZ w32 (ofZ w32 c))) (natAbs (toZ w32 (ofZ w32 l)))) where
+    pub lost-by-size : lt z (s .sizesim) ≡ true → false ≡ mayWin s c chainLen l listLen partial best
+    unfolding mayWin
+    lost-by-size k = rw (same-sign c l hc hl a b f g h, rw (size-is c l hc hl z ze) at k)
+
+    pub by-bound : lt z (s .sizesim) ≡ false → (w : ℕ) → w ≡ gapOf (s .squish) listLen chainLen → (x : Float) → x ≡ scoreValue s (ofBits binary32 0x3f80_0000) z partial w
+        → not (le x best) ≡ mayWin s c chainLen l listLen partial best
+    unfolding mayWin
+    by-bound k w we x xe = rw (xe, we, one-is, size-is c l hc hl z ze, same-sign c l hc hl a b f g h, rw (size-is c l hc hl z ze) at k)
+
+-- ---- the better of the two
+pub greater-new : (best : Scored) (partial : ℕ) (v : Verdict) (target : Target) (x size seq : Float) → v ≡ Scores x size seq → target ≡ targetOf partial → lt (best .score) x ≡ true
+    → _≡_ {A = Scored} (record { target = target; score = x; sizesim = size; seqsim = seq }) (greaterOf best partial v)
+unfolding greaterOf
+greater-new best partial v target x size seq e f t = rw (e, f, t)
+
+pub greater-old : (best : Scored) (partial : ℕ) (v : Verdict) (x size seq : Float) → v ≡ Scores x size seq → lt (best .score) x ≡ false → best ≡ greaterOf best partial v
+unfolding greaterOf
+greater-old best partial v x size seq e t = rw (e, t)
+
+pub greater-skipped : (best : Scored) (partial : ℕ) (v : Verdict) → v ≡ Skipped → best ≡ greaterOf best partial v
+unfolding greaterOf
+greater-skipped best partial v e = rw e
+
+-- a list that may not win is skipped, or scores no more than with seqsim 1.0, which is no more than the best
+lost-with : (best : Scored) (partial : ℕ) (empty sign size bound seq : Bool) (x z q : Float) → (sign && (not size && not bound)) ≡ false
+    → (bound ≡ true → lt (best .score) x ≡ false) → best ≡ greaterOf best partial (cond empty Skipped (cond (not sign) Skipped (cond size Skipped (cond seq Skipped (Scores x z q)))))
+unfolding greaterOf
+lost-with best partial true sign size bound seq x z q h k = refl
+lost-with best partial false false size bound seq x z q h k = refl
+lost-with best partial false true true bound seq x z q h k = refl
+lost-with best partial false true false bound true x z q h k = refl
+lost-with best partial false true false true false x z q h k = rw (k refl)
+lost-with best partial false true false false false x z q h k = let z : _≡_ {A = ℕ} 0 1 = cc in absurd (omega arith)
+
+pub lost : (s : Settings) (best : Scored) (c : ℤ) (chainRow : List ℤ) (chainLen : ℕ) (l : ℤ) (listRow : List ℤ) (listLen partial : ℕ)
+    → mayWin s c chainLen l listLen partial (best .score) ≡ false → best ≡ greaterOf best partial (listScore s (total c chainRow chainLen) (total l listRow listLen) partial)
+unfolding mayWin listScore
+lost s best c chainRow chainLen l listRow listLen partial h =
+    let g = gapOf (s .squish) listLen chainLen in
+    let z = sizesimValue (natAbs c) (natAbs l) in
+    let d = sumD (s .minkfreq) chainRow listRow in
+    let n = sumN (s .minkfreq) chainRow listRow in
+    lost-with best partial (s .squish && eqb chainLen 0) (eqb (sign c) (sign l)) (lt z (s .sizesim)) (le (scoreValue s (whole 1) z partial g) (best .score))
+    (lt (seqsimValue d n) (s .seqsim)) (scoreValue s (seqsimValue d n) z partial g) z (seqsimValue d n) h
+    (λ k. beaten (scoreValue s (seqsimValue d n) z partial g) (scoreValue s (whole 1) z partial g) (best .score) (score-safe s d n z partial g) k)

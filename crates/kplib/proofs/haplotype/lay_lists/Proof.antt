@@ -1,0 +1,76 @@
+-- Only the whole haplotype where m is at least pileupmax; else all lengths.
+use Rattle.kplib.proofs.LayLaws.{whole-laid, lengths-laid}
+use borrow.Author.Needs.{needs}
+use Rattle.kplib.proofs.haplotype.lay_lists.Statement.{statement}
+use Rattle.kplib.proofs.haplotype.lay_lists.Tie as tie
+use Rattle.kplib.proofs.haplotype.lay_lists.Reads as reads
+use Rattle.kplib.proofs.haplotype.lay_lists.Lts as lts
+use Rattle.kplib.proofs.haplotype.lay_lengths.Reads as lay-lengths-reads
+use Rattle.kplib.proofs.haplotype.lengths_of.Reads as lengths-of-reads
+use Rattle.kplib.proofs.haplotype.whole_size.Reads as whole-size-reads
+
+cast-if1 : tie.Need-cast-if1
+cast-if1 c = search needs
+
+cast-codes : tie.Need-cast-codes
+cast-codes c = search needs
+
+mul-codes : tie.Need-mul-codes
+mul-codes c = search needs
+
+slice-write-codes : tie.Need-slice-write-codes
+slice-write-codes c = search needs
+
+whole-size-requires : tie.Need-whole-size-requires
+whole-size-requires c κs = search needs
+
+slice-set-from-list-sizes : tie.Need-slice-set-from-list-sizes
+slice-set-from-list-sizes c = search needs
+
+same-length : tie.Need-same-length
+same-length c = search needs
+
+same-length-2 : tie.Need-same-length-2
+same-length-2 c = search needs
+
+returns : tie.Need-returns
+returns c =
+    let s = c .before .before .before .before in
+    whole-laid (s .args .s) (s .args .part-sizes .now) (s .args .codes .now) (s .args .list-sizes .now) (s .pre) _ (c .whole-size .ensures) (c .before .if1 .taken)
+
+lengths-of-requires : tie.Need-lengths-of-requires
+lengths-of-requires c κs = search needs
+
+lay-lengths-requires : tie.Need-lay-lengths-requires
+lay-lengths-requires c κs = search needs
+
+same-length-3 : tie.Need-same-length-3
+same-length-3 c = search needs
+
+same-length-4 : tie.Need-same-length-4
+same-length-4 c = search needs
+
+returns-2 : tie.Need-returns-2
+returns-2 c =
+    let s = c .before .before .before .before .before .before .before .before .before .before in
+    let k = c .before .before .before .lay-lengths in
+    lengths-laid (s .args .s) (s .args .part-sizes .now) (s .args .codes .now) (s .args .list-sizes .now) (s .pre) _ (c .before .before .before .before .before .before .lengths-of .ensures .0) (c .before .before .before .before .before .before .lengths-of .ensures .1) (c .before .before .before .before .before .before .before .if1 .left) _ _ _ (k .kept .1 .1 .0) (k .kept .1 .1 .1 .0) (k .ensures)
+
+pub lay-lists-spec : {M : Type 1} → statement M
+lay-lists-spec =
+    tie.close
+    (tie.spec
+    cast-if1
+    cast-codes
+    mul-codes
+    slice-write-codes
+    whole-size-requires
+    slice-set-from-list-sizes
+    same-length
+    same-length-2
+    returns
+    lengths-of-requires
+    lay-lengths-requires
+    same-length-3
+    same-length-4
+    returns-2)

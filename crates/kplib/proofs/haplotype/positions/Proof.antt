@@ -1,0 +1,48 @@
+-- A code without bits is the whole haplotype.
+use mathlib.Core.Path.{sym, _∙_}
+use Prim.Native.Nat.{_-_}
+use Rattle.kplib.proofs.CodeLaws.{code-whole, code-bits}
+use borrow.Author.Needs.{needs}
+use Rattle.kplib.proofs.haplotype.positions.Statement.{statement}
+use Rattle.kplib.proofs.haplotype.positions.Tie as tie
+use Rattle.kplib.proofs.haplotype.positions.Reads as reads
+use Rattle.kplib.proofs.haplotype.positions.Lts as lts
+use Rattle.kplib.proofs.haplotype.all_positions.Reads as all-positions-reads
+use Rattle.kplib.proofs.haplotype.bit_positions.Reads as bit-positions-reads
+
+cast-n : tie.Need-cast-n
+cast-n c = search needs
+
+all-positions-requires : tie.Need-all-positions-requires
+all-positions-requires c κs = search needs
+
+same-length : tie.Need-same-length
+same-length c = search needs
+
+returns : tie.Need-returns
+returns c =
+    let s = c .before .before .before .before .before .before in
+    (s .pre .0, c .before .before .all-positions .ensures ∙ sym (code-whole (s .args .m) (s .args .code) (c .before .before .before .before .if1 .taken)))
+
+bit-positions-requires : tie.Need-bit-positions-requires
+bit-positions-requires c κs = search needs
+
+same-length-2 : tie.Need-same-length-2
+same-length-2 c = search needs
+
+returns-2 : tie.Need-returns-2
+returns-2 c =
+    let s = c .before .before .before .before .before .before in
+    (c .before .before .bit-positions .ensures .0, c .before .before .bit-positions .ensures .1 ∙ sym (code-bits (s .args .m) (s .args .code) (c .before .before .before .before .if1 .left)))
+
+pub positions-spec : {M : Type 1} → statement M
+positions-spec =
+    tie.close
+    (tie.spec
+    cast-n
+    all-positions-requires
+    same-length
+    returns
+    bit-positions-requires
+    same-length-2
+    returns-2)

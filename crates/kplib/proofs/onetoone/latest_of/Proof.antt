@@ -1,0 +1,25 @@
+-- Which way the definition goes, by the same two comparisons.
+use Rattle.metrics.proofs.Casts.{zero-is}
+use Rattle.kplib.proofs.OneToOneLaws.{latest-old, latest-new, no-candidate}
+use Rattle.kplib.proofs.onetoone.latest_of.Statement.{statement}
+use Rattle.kplib.proofs.onetoone.latest_of.Tie as tie
+use Rattle.kplib.proofs.onetoone.latest_of.Reads as reads
+use Rattle.kplib.proofs.onetoone.latest_of.Lts as lts
+
+returns : tie.Need-returns
+returns c =
+    let a = c .before .before .before .before .before .before .args in
+    latest-old (a .best) (a .row) (a .x) (rw zero-is at (c .before .before .before .before .if1 .taken)) (c .if2 .taken)
+
+returns-2 : tie.Need-returns-2
+returns-2 c =
+    let a = c .before .before .before .before .before .before .args in
+    latest-new (a .best) (a .row) (a .x) (rw zero-is at (c .before .before .before .before .if1 .taken)) (c .if2 .left)
+
+returns-3 : tie.Need-returns-3
+returns-3 c =
+    let a = c .before .before .args in
+    no-candidate (a .best) _ (a .x) (rw zero-is at (c .if1 .left))
+
+pub latest-of-spec : {M : Type 1} → statement M
+latest-of-spec = tie.close (tie.spec returns returns-2 returns-3)

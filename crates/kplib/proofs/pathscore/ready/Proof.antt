@@ -1,0 +1,24 @@
+-- A row that is summed is left alone; another is summed.
+use mathlib.Core.Path.{_≡_}
+use borrow.Author.Needs.{needs}
+use Rattle.kplib.proofs.RowSumLaws.{ready-true}
+use Rattle.kplib.proofs.pathscore.sum_rows.Reads as sum-rows-reads
+use Rattle.kplib.proofs.pathscore.ready.Statement.{statement}
+use Rattle.kplib.proofs.pathscore.ready.Tie as tie
+use Rattle.kplib.proofs.pathscore.ready.Reads as reads
+use Rattle.kplib.proofs.pathscore.ready.Lts as lts
+
+returns : tie.Need-returns
+returns c = ready-true (c .before .before .args .summed) _ _ (c .if1 .taken) (c .before .before .pre .1)
+
+sum-rows-requires : tie.Need-sum-rows-requires
+sum-rows-requires c κs = search needs
+
+same-length : tie.Need-same-length
+same-length c = search needs
+
+returns-2 : tie.Need-returns-2
+returns-2 c = search needs
+
+pub ready-spec : {M : Type 1} → statement M
+ready-spec = tie.close (tie.spec returns sum-rows-requires same-length returns-2)

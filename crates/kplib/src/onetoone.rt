@@ -1,0 +1,93 @@
+// The one-to-one match: each row alone against the whole haplotype (traverse.rs, one_to_one).
+ghost use mathlib.Core.Path.{_≡_};
+ghost use Prim.Native.Nat.{ℕ, _+_, _≤_};
+ghost use Rattle.kplib.specs.OneToOne.{latestOf, oneToOne};
+ghost use Rattle.kplib.specs.Scoring.{Matchable, Matching};
+use crate::graphparams::Settings;
+use crate::haplotype::all_positions;
+use crate::haplotype::whole_size;
+use crate::pathscore::Scored;
+use crate::pathscore::greater_of;
+use crate::pathscore::list_score;
+use crate::pathscore::nothing;
+use crate::pathscore::sum_rows;
+
+// The best node's row. Where its target is `Nothing` no node matched, and the row means nothing.
+pub(crate) struct Lone {
+    pub row: u32,
+    pub scored: Scored,
+}
+
+// The later of two where it is a candidate and scores no less.
+fn latest_of(best: Lone, row: u32, x: Scored) -> Lone
+    requires { ⌜ row ≤ 64 ⌝ }
+    ensures { λ r. ⌜ r ≡ latestOf best (row + 1) x ⌝ }
+{
+    if 0.0 < x.seqsim {
+        let old = best.scored;
+        if x.score < old.score {
+            return best;
+        }
+        return Lone { row, scored: x };
+    }
+    best
+}
+
+// Each row against the summed whole haplotype. Source and sink are left out: no anchor is ever chosen.
+fn match_rows(
+    s: Settings,
+    sizes: &[i32],
+    features: &[i32],
+    part_sizes: &[i32],
+    part_features: &[i32],
+    whole_row: &[i32],
+    whole_size: i32,
+) -> Lone
+    requires { ⌜ Matching s (now sizes) (now features) (now «part_sizes») (now «part_features») (now «whole_row») «whole_size» ⌝ }
+    ensures { λ r. ⌜ r ≡ oneToOne s (now (sizes .entry)) (now (features .entry)) (now («part_sizes» .entry)) (now («part_features» .entry)) ⌝ }
+{
+    let none = nothing();
+    let mut best = Lone {
+        row: 0,
+        scored: none,
+    };
+    let width = whole_row.len();
+    let m = part_sizes.len();
+    let mut r: usize = 0;
+    while r < sizes.len() {
+        let a = r * width;
+        let e = a + width;
+        let verdict = list_score(s, sizes[r], &features[a..e], 1, whole_size, whole_row, m, 0);
+        let x = greater_of(nothing(), 0, verdict);
+        best = latest_of(best, r as u32, x);
+        r += 1;
+    }
+    best
+}
+
+pub(crate) fn one_to_one(
+    s: Settings,
+    sizes: &[i32],
+    features: &[i32],
+    part_sizes: &[i32],
+    part_features: &[i32],
+    chosen: &mut [u32],
+    whole_row: &mut [i32],
+) -> Lone
+    requires { ⌜ Matchable s (now sizes) (now features) (now «part_sizes») (now «part_features») (now chosen) (now «whole_row») ⌝ }
+    ensures { λ r. ⌜ r ≡ oneToOne s (now (sizes .entry)) (now (features .entry)) (now («part_sizes» .entry)) (now («part_features» .entry)) ⌝ }
+{
+    let m = part_sizes.len();
+    all_positions(m, chosen);
+    sum_rows(part_features, &chosen[..m], whole_row);
+    let size = whole_size(part_sizes);
+    match_rows(
+        s,
+        sizes,
+        features,
+        part_sizes,
+        part_features,
+        whole_row,
+        size,
+    )
+}

@@ -1,0 +1,51 @@
+-- The place stays below the last one.
+use borrow.Author.Needs.{needs}
+use Prim.Native.Nat.{_+_, _-_, _≤_, _<_}
+use native.Mathlib.Omega.{arith}
+use lib.ListN.{length}
+use Rattle.metrics_vectors.proofs.digits_value.Statement.{statement}
+use Rattle.metrics_vectors.proofs.digits_value.Tie as tie
+use Rattle.metrics_vectors.proofs.digits_value.Reads as reads
+use Rattle.metrics_vectors.proofs.digits_value.Lts as lts
+use Rattle.metrics_vectors.proofs.with_digit.Reads as with-digit-reads
+
+abbrev Inv-loop : tie.InvT-loop
+Inv-loop list from to magnitude₀ i₀ magnitude i = i ≤ to
+
+abbrev μ-loop : tie.MeasureT-loop
+μ-loop list from to magnitude₀ i₀ magnitude i = to - i
+
+loop-holds : tie.Need-loop-holds Inv-loop μ-loop
+loop-holds c = search needs
+
+shared-slice-read-with-digit : tie.Need-shared-slice-read-with-digit Inv-loop μ-loop
+shared-slice-read-with-digit c = search needs
+
+with-digit-requires : tie.Need-with-digit-requires Inv-loop μ-loop
+with-digit-requires c κs = search needs
+
+add-i : tie.Need-add-i Inv-loop μ-loop
+add-i c = search needs
+
+loop-less : tie.Need-loop-less Inv-loop μ-loop
+loop-less c = search needs
+
+loop-again : tie.Need-loop-again Inv-loop μ-loop
+loop-again c = search needs
+
+returns : tie.Need-returns Inv-loop μ-loop
+returns c = search needs
+
+pub digits-value-spec : {M : Type 1} → statement M
+digits-value-spec =
+    tie.close
+    (tie.spec
+    Inv-loop
+    μ-loop
+    loop-holds
+    shared-slice-read-with-digit
+    with-digit-requires
+    add-i
+    loop-less
+    loop-again
+    returns)
