@@ -1,0 +1,36 @@
+//! Where the unchanged Rust says something else than document 01, by class, each with the smallest input found:
+//! `differences [INPUTS]`.
+use judge::answer::Answer;
+use judge::generate::{input, Random};
+use judge::rust::{By, Judged};
+use judge::{describe, exhaust, program, shrink};
+
+fn lines(answer: &Answer) -> String {
+    answer.text().trim_end().replace('\n', ", ")
+}
+
+fn main() {
+    let count: u64 = std::env::args().nth(1).map_or(20_000, |n| n.parse().expect("a number of inputs"));
+    let mut inputs: Vec<Vec<u8>> = exhaust::jobs().step_by(7).map(|job| job.bytes()).collect();
+    inputs.extend((0..count).map(|i| input(&mut Random::new(i))));
+    let classes: [(&str, fn(&Judged) -> bool); 3] = [
+        ("queued distances tie", |j| j.distance_tie && j.by != By::Squish),
+        ("squish and the empty chain", |j| j.by == By::Squish && !j.distance_tie),
+        ("anything else", |j| !j.distance_tie && j.by != By::Squish),
+    ];
+    for (words, of_class) in classes {
+        let shows = |bytes: &[u8]| {
+            let judged = program::judged(bytes);
+            judged.unchanged_differs.is_some() && of_class(&judged)
+        };
+        let found: Vec<&Vec<u8>> = inputs.iter().filter(|bytes| shows(bytes)).collect();
+        println!("{words}: {} of {} inputs", found.len(), inputs.len());
+        let small = found.into_iter().take(40).map(|bytes| shrink::bytes(bytes.clone(), shows)).min_by_key(Vec::len);
+        if let Some(small) = small {
+            let judged = program::judged(&small);
+            println!("    {}", describe::bytes(&small));
+            println!("    document 01    {}", lines(&judged.answer));
+            println!("    unchanged Rust {}", lines(&judged.unchanged_differs.unwrap()));
+        }
+    }
+}

@@ -1,0 +1,438 @@
+//! Writes the stored lists that are replayed where no Rust is at hand: `make-lists ROOT` writes
+//! ROOT/crates/replay/{stdin,stdout} (program size) and ROOT/crates/search_vectors/{stdin,stdout} (library size).
+//!
+//! From many generated jobs it takes the shortest that show each kind, and the shortest that catch each planted
+//! mistake, so that the lists are small and every branch stands in them.
+use judge::answer::{Answer, Target};
+use judge::call::Call;
+use judge::document::{call_answer, call_of, program_answer, Fault, Trace, FAULTS};
+use judge::generate::{cost, disturb_job, input, Random, LIBRARY};
+use judge::job::{self, Job, Part, Settings, Variant};
+use judge::kinds::{self, Counts};
+use judge::{exhaust, generate, program, rust};
+use std::collections::{BTreeMap, BTreeSet};
+use std::path::Path;
+use std::{fs, io};
+
+/// How many jobs show each kind and catch each mistake.
+const OF_EACH: usize = 8;
+const PROGRAM_JOBS: usize = 480;
+const QUEUE_MOST: usize = 262_145;
+
+fn plain() -> Settings {
+    Settings {
+        k: 1,
+        squish: false,
+        one_to_one: false,
+        full: true,
+        maxpaths: 10,
+        maxnodes: 10,
+        fnmax: 1,
+        pileupmax: 5,
+        minkfreq: 1,
+        sizesim: 0.5,
+        seqsim: 0.5,
+        fpenalty: 0.0,
+        gpenalty: 0.0,
+    }
+}
+
+fn variant(start: u64, end: u64, size: i32, letters: &[u8]) -> Variant {
+    Variant { start, end, size, negative: false, letters: letters.to_vec() }
+}
+
+fn part(size: i32, letters: &[u8]) -> Part {
+    Part { size, negative: false, letters: letters.to_vec() }
+}
+
+/// Document 01's own example.
+fn example() -> Job {
+    Job {
+        settings: plain(),
+        variants: vec![variant(10, 10, 2, b"AG"), variant(20, 20, 2, b"CT")],
+        parts: vec![part(2, b"AG")],
+    }
+}
+
+/// A job of exactly so many bytes.
+fn of_length(length: usize) -> Vec<u8> {
+    let left = length - 42;
+    let shapes = (1..=16).flat_map(|v| (0..=8).map(move |m| (v, m)));
+    let (v, m) = shapes.filter(|(v, m)| (left - 26 * v - 10 * m) % 17 == 0).min().expect("some shape fits");
+    let letters = vec![b'G'; 16 * ((left - 26 * v - 10 * m) / 17)];
+    let mut job = example();
+    job.variants = (0..v as u64).map(|i| variant(i, i, 1, b"")).collect();
+    job.variants[0].letters = letters;
+    job.parts = vec![part(1, b""); m];
+    job.bytes()
+}
+
+/// Inputs at the limits, just inside and just outside, that chance would seldom make.
+fn at_limits() -> Vec<Vec<u8>> {
+    let mut all = vec![vec![], vec![0x00], vec![0x07], vec![0x01], example().bytes(), of_length(32_768), of_length(32_769)];
+    let mut with = |change: &dyn Fn(&mut Job)| {
+        let mut job = example();
+        change(&mut job);
+        all.push(job.bytes());
+    };
+    for k in [0, 1, 2, 3, 4, 5, 6, 7, 255] {
+        with(&|j| j.settings.k = k);
+    }
+    for maxpaths in [0, 1, 2, 3, 4, 63, 64, 4_095, 4_096, u32::MAX] {
+        with(&|j| j.settings.maxpaths = maxpaths);
+    }
+    for whole in [0, 1, 2, 3, 65_535, 65_536, u32::MAX] {
+        with(&|j| j.settings.maxnodes = whole);
+        with(&|j| j.settings.fnmax = whole);
+    }
+    for pileupmax in 0..=13 {
+        with(&|j| j.settings.pileupmax = pileupmax);
+    }
+    for minkfreq in [0, 2, 3, 16_777_216, 16_777_217, u32::MAX] {
+        with(&|j| j.settings.minkfreq = minkfreq);
+    }
+    let floats = [0.0, -0.0, 1e-45, -1e-45, 1.0, 1.000_000_1, 1000.0, 1000.0001, f32::NAN, f32::INFINITY, f32::NEG_INFINITY];
+    for float in floats {
+        with(&|j| j.settings.sizesim = float);
+        with(&|j| j.settings.seqsim = float);
+        with(&|j| j.settings.fpenalty = float);
+        with(&|j| j.settings.gpenalty = float);
+    }
+    for size in [131_072, 131_073, -131_072, -131_073, i32::MAX, i32::MIN] {
+        with(&|j| j.variants[1].size = size);
+        with(&|j| j.parts[0].size = size);
+    }
+    for (start, end) in [(0, u64::MAX), (u64::MAX, u64::MAX), (9, 10), (10, 9), (u64::MAX, 0), (9, 9)] {
+        with(&|j| (j.variants[1].start, j.variants[1].end) = (start, end));
+    }
+    for count in [0, 1, 16, 17, 65] {
+        with(&|j| j.variants = (0..count).map(|i| variant(i, i, 2, b"AG")).collect());
+    }
+    for count in [0, 8, 9, 65] {
+        with(&|j| j.parts = vec![part(1, b"AG"); count]);
+    }
+    // 0-10, 5-5, 6-8: a chain whose ends overlap, N 7
+    with(&|j| {
+        j.variants = vec![variant(0, 10, 1, b"AG"), variant(5, 5, 1, b"CT"), variant(6, 8, 1, b"GG")];
+        j.parts = vec![part(3, b"AGCTGG")];
+        (j.settings.sizesim, j.settings.seqsim) = (0.0, 0.0);
+    });
+    all
+}
+
+/// The kinds that an input shows and the mistakes that it catches.
+fn shown(bytes: &[u8]) -> BTreeSet<String> {
+    let judged = program::judged(bytes);
+    let mut trace = Trace::default();
+    assert_eq!(program_answer(bytes, Fault::None, &mut trace), judged.answer);
+    let mut counts = Counts::new();
+    kinds::of_answer(&mut counts, &judged);
+    if let (Ok(job), 0) = (job::read(bytes), judged.answer.refusal) {
+        kinds::of_call(&mut counts, &Call::of_job(&job));
+        let letters = job.variants.iter().map(|v| v.letters.as_slice());
+        kinds::of_letters(&mut counts, job.settings.k, letters.chain(job.parts.iter().map(|p| p.letters.as_slice())));
+        kinds::of_trace(&mut counts, &trace);
+    }
+    let text = judged.answer.text();
+    let caught = FAULTS
+        .iter()
+        .filter(|(fault, _)| program_answer(bytes, *fault, &mut Trace::default()).text() != text)
+        .map(|(_, words)| format!("catches: {words}"));
+    counts.into_keys().chain(caught).collect()
+}
+
+/// Takes, in the given order, whatever shows something that fewer than `OF_EACH` before it show.
+fn cover<T>(candidates: Vec<(T, BTreeSet<String>)>, have: &mut BTreeMap<String, usize>) -> Vec<T> {
+    let mut taken = vec![];
+    for (one, kinds) in candidates {
+        let wanted = kinds.iter().any(|kind| have.get(kind).copied().unwrap_or(0) < OF_EACH);
+        if wanted {
+            for kind in kinds {
+                *have.entry(kind).or_default() += 1;
+            }
+            taken.push(one);
+        }
+    }
+    taken
+}
+
+fn program_list() -> Vec<Vec<u8>> {
+    let mut have = BTreeMap::new();
+    let mut list: Vec<Vec<u8>> = at_limits();
+    for bytes in &list {
+        for kind in shown(bytes) {
+            *have.entry(kind).or_default() += 1;
+        }
+    }
+    let mut inputs: Vec<Vec<u8>> = exhaust::jobs().step_by(61).map(|job| job.bytes()).collect();
+    inputs.extend((0..12_000).map(|i| input(&mut Random::new(0x5eed_0000 + i))));
+    inputs.retain(|bytes| bytes.len() < 1_500);
+    inputs.sort_by_key(|bytes| bytes.len());
+    let spare: Vec<Vec<u8>> = inputs.iter().step_by(83).cloned().collect();
+    let candidates = inputs.into_iter().map(|bytes| {
+        let kinds = shown(&bytes);
+        (bytes, kinds)
+    });
+    list.extend(cover(candidates.collect(), &mut have));
+    for bytes in spare {
+        if list.len() < PROGRAM_JOBS && !list.contains(&bytes) {
+            list.push(bytes);
+        }
+    }
+    for (kind, count) in have {
+        println!("{count:>6}  {kind}");
+    }
+    list
+}
+
+/// A call of the library as the list stores it:
+/// 42 bytes, the settings record of the job form and its end;
+/// words of four bytes: the lengths of starts, ends, sizes, features, part sizes, part features, of the queue's three slices (parents,
+/// last rows, keys) and of the answer;
+/// the starts and ends (eight bytes each), the sizes, the part sizes;
+/// how many variant sequences, each as negative (0 or 1), letter count, letters; then the parts' likewise;
+/// how many entries are then changed, each as table (0 variants, 1 parts), place, value.
+#[derive(Clone)]
+struct Stored {
+    job: Job,
+    call: Call,
+    /// the lengths of the queue's slices; the shortest is its room
+    rooms: [usize; 3],
+    changes: Vec<(u32, u32, i32)>,
+}
+
+impl Stored {
+    fn of(job: Job) -> Stored {
+        let mut call = Call::of_job(&job);
+        call.queue_room = call.queue_room.min(QUEUE_MOST);
+        Stored { rooms: [call.queue_room; 3], changes: vec![], job, call }
+    }
+
+    fn change(&mut self, table: u32, place: usize, value: i32) {
+        let row = if table == 0 { &mut self.call.features } else { &mut self.call.part_features };
+        row[place] = value;
+        self.changes.push((table, place as u32, value));
+    }
+
+    /// The call with features counted by a mistaken reading of the letters.
+    fn with(&self, fault: Fault) -> Answer {
+        let mistaken = call_of(&self.job, fault);
+        let mut call = self.call.clone();
+        if fault != Fault::None && self.changes.is_empty() && call.features.len() == mistaken.features.len() {
+            call.features = mistaken.features;
+        }
+        if fault != Fault::None && self.changes.is_empty() && call.part_features.len() == mistaken.part_features.len() {
+            call.part_features = mistaken.part_features;
+        }
+        call_answer(&call, fault, &mut Trace::default())
+    }
+
+    fn record(&self) -> Vec<u8> {
+        let (job, call) = (&self.job, &self.call);
+        let bare = Job { settings: job.settings.clone(), variants: vec![], parts: vec![] };
+        let mut bytes = bare.bytes();
+        let word = |bytes: &mut Vec<u8>, x: u32| bytes.extend_from_slice(&x.to_le_bytes());
+        let lengths = [
+            call.starts.len(),
+            call.ends.len(),
+            call.sizes.len(),
+            call.features.len(),
+            call.part_sizes.len(),
+            call.part_features.len(),
+            self.rooms[0],
+            self.rooms[1],
+            self.rooms[2],
+            call.answer_room,
+        ];
+        lengths.iter().for_each(|&length| word(&mut bytes, length as u32));
+        call.starts.iter().chain(&call.ends).for_each(|x| bytes.extend_from_slice(&x.to_le_bytes()));
+        call.sizes.iter().chain(&call.part_sizes).for_each(|&x| word(&mut bytes, x as u32));
+        let mut sequences = |all: Vec<(bool, &[u8])>| {
+            word(&mut bytes, all.len() as u32);
+            for (negative, letters) in all {
+                word(&mut bytes, negative as u32);
+                word(&mut bytes, letters.len() as u32);
+                bytes.extend_from_slice(letters);
+            }
+        };
+        sequences(job.variants.iter().map(|v| (v.negative, v.letters.as_slice())).collect());
+        sequences(job.parts.iter().map(|p| (p.negative, p.letters.as_slice())).collect());
+        word(&mut bytes, self.changes.len() as u32);
+        for &(table, place, value) in &self.changes {
+            [table, place, value as u32].iter().for_each(|&x| word(&mut bytes, x));
+        }
+        bytes
+    }
+}
+
+/// An answer as words of eight hexadecimal digits.
+fn words(answer: &Answer) -> String {
+    let (target, left_out) = match answer.target {
+        Target::Nothing => (0, 0),
+        Target::Whole => (1, 0),
+        Target::Partial(left_out) => (2, left_out),
+    };
+    let head = [
+        answer.refusal,
+        answer.rows.len() as u32,
+        target,
+        left_out,
+        answer.score,
+        answer.sizesim,
+        answer.seqsim,
+        answer.scored,
+        answer.complete as u32,
+    ];
+    let all: Vec<String> = head.iter().chain(&answer.rows).map(|word| format!("{word:08x}")).collect();
+    all.join(" ") + "\n"
+}
+
+fn shown_by_library(stored: &Stored) -> BTreeSet<String> {
+    let judged = rust::judged(&stored.call);
+    let mut trace = Trace::default();
+    assert_eq!(call_answer(&stored.call, Fault::None, &mut trace), judged.answer);
+    let mut counts = Counts::new();
+    kinds::of_answer(&mut counts, &judged);
+    if judged.answer.refusal == 0 {
+        kinds::of_call(&mut counts, &stored.call);
+        kinds::of_trace(&mut counts, &trace);
+    }
+    let caught = FAULTS
+        .iter()
+        .filter(|(fault, _)| stored.with(*fault) != judged.answer)
+        .map(|(_, words)| format!("catches: {words}"));
+    counts.into_keys().chain(caught).collect()
+}
+
+/// Calls of full library size, most of them with an answer.
+fn large_ones(r: &mut Random) -> Vec<Stored> {
+    let mut all: Vec<Stored> = vec![];
+    while all.len() < 40 {
+        let mut job = generate::job(r, LIBRARY);
+        if job.variants.len() < 40 || job.bytes().len() > 12_000 {
+            continue;
+        }
+        if all.len() % 3 == 0 {
+            (job.settings.maxpaths, job.settings.maxnodes, job.settings.one_to_one) = (4_095, 65_535, false);
+        }
+        let mut stored = Stored::of(job);
+        while cost(&stored.call) > 40_000_000 {
+            stored.job.settings.maxpaths /= 2;
+            stored = Stored::of(stored.job);
+        }
+        let answer = rust::judged(&stored.call).answer;
+        if answer.target != Target::Nothing || all.len() % 4 == 0 {
+            all.push(stored);
+        }
+    }
+    all
+}
+
+/// What only the library can be asked: lengths that disagree, rows over their limit, rooms too small.
+fn refused_ones() -> Vec<Stored> {
+    let mut all = vec![];
+    let mut with = |change: &dyn Fn(&mut Stored)| {
+        let mut stored = Stored::of(example());
+        change(&mut stored);
+        all.push(stored);
+    };
+    with(&|s| { s.call.ends.pop(); });
+    with(&|s| s.call.ends.push(20));
+    with(&|s| { s.call.sizes.pop(); });
+    with(&|s| s.call.sizes.push(2));
+    with(&|s| { s.call.features.pop(); });
+    with(&|s| s.call.features.push(0));
+    with(&|s| { s.call.part_features.pop(); });
+    with(&|s| s.call.part_features.push(0));
+    with(&|s| s.call.part_sizes.clear());
+    with(&|s| s.call.part_sizes.push(1));
+    for value in [131_072, 131_073, -131_072, -131_073, i32::MIN, i32::MAX] {
+        with(&|s| s.change(0, 7, value));
+        with(&|s| s.change(1, 3, value));
+    }
+    with(&|s| (0..4).for_each(|place| s.change(0, place, 32_768)));
+    with(&|s| (0..4).for_each(|place| s.change(0, place, -32_769)));
+    with(&|s| (0..8).for_each(|place| s.change(0, place, [1, -1][place % 2])));
+    for less in [0, 1, 22] {
+        for slice in 0..3 {
+            with(&|s| s.rooms[slice] -= less);
+        }
+    }
+    with(&|s| (s.rooms, s.job.settings.one_to_one, s.call.settings.one_to_one) = ([0; 3], true, true));
+    with(&|s| s.call.answer_room = 1);
+    with(&|s| s.call.answer_room = 0);
+    with(&|s| s.call.answer_room = 9);
+    with(&|s| (s.call.answer_room, s.rooms) = (1, [1; 3]));
+    for count in [64, 65] {
+        let mut job = example();
+        job.settings.maxpaths = 20;
+        job.settings.maxnodes = 64;
+        job.variants = (0..count).map(|i| variant(i, i, 2, b"AG")).collect();
+        all.push(Stored::of(job.clone()));
+        job.variants.truncate(2);
+        job.parts = vec![part(1, b"AG"); count as usize];
+        all.push(Stored::of(job));
+    }
+    for stored in &mut all {
+        stored.call.queue_room = stored.rooms.into_iter().min().unwrap();
+    }
+    all
+}
+
+fn library_list() -> Vec<Stored> {
+    let r = &mut Random::new(0x5eed_1111);
+    let mut have = BTreeMap::new();
+    let mut candidates = large_ones(r);
+    candidates.extend(refused_ones());
+    let always = candidates.len();
+    let mut small: Vec<Stored> = vec![];
+    for _ in 0..12_000 {
+        let mut job = generate::job(r, LIBRARY);
+        if r.chance(4) {
+            disturb_job(r, &mut job);
+        }
+        let short = job.bytes().len() < 1_000;
+        let stored = Stored::of(job);
+        if short && cost(&stored.call) < 2_000_000 {
+            small.push(stored);
+        }
+    }
+    small.sort_by_key(|stored| stored.record().len());
+    candidates.extend(small);
+    let with_kinds = candidates.into_iter().enumerate().map(|(at, stored)| {
+        let mut kinds = shown_by_library(&stored);
+        if at < always {
+            kinds.insert(format!("always {at}"));
+        }
+        (stored, kinds)
+    });
+    let list = cover(with_kinds.collect(), &mut have);
+    for (kind, count) in have.into_iter().filter(|(kind, _)| !kind.starts_with("always")) {
+        println!("{count:>6}  library: {kind}");
+    }
+    list
+}
+
+fn main() -> io::Result<()> {
+    let root = std::env::args().nth(1).expect("the root of the repository");
+    let write = |name: &str, input: Vec<u8>, output: String| {
+        let folder = Path::new(&root).join("crates").join(name);
+        fs::create_dir_all(&folder)?;
+        println!("{name}: {} bytes of jobs, {} of answers", input.len(), output.len());
+        fs::write(folder.join("stdin"), input)?;
+        fs::write(folder.join("stdout"), output)
+    };
+    let list = program_list();
+    let mut jobs = vec![];
+    for bytes in &list {
+        jobs.extend_from_slice(&(bytes.len() as u32).to_le_bytes());
+        jobs.extend_from_slice(bytes);
+    }
+    let texts: String = list.iter().map(|bytes| program::answer(bytes).text()).collect();
+    println!("replay: {} jobs", list.len());
+    write("replay", jobs, texts)?;
+    let list = library_list();
+    println!("search_vectors: {} jobs", list.len());
+    let records = list.iter().flat_map(Stored::record).collect();
+    write("search_vectors", records, list.iter().map(|stored| words(&rust::judged(&stored.call).answer)).collect())
+}

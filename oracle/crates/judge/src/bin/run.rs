@@ -1,0 +1,230 @@
+//! The differential run: generated jobs put to the program and to the linked library, and every answer compared with
+//! the judge's. `run [--short] [--no-program] [--no-library] [--seed N] [--inputs N] [--calls N]`
+use judge::answer::Answer;
+use judge::call::Call;
+use judge::document::{call_answer, program_answer, Fault, Trace};
+use judge::generate::{self, Random};
+use judge::job::{self, Job};
+use judge::kinds::{self, Counts};
+use judge::rust::Judged;
+use judge::{describe, exhaust, library, program, rust, shrink};
+use std::io::{self, Read, Write};
+use std::process::{Command, ExitCode, Stdio};
+use std::sync::atomic::{AtomicU64, Ordering};
+use std::sync::Mutex;
+use std::thread;
+
+struct Options {
+    program: Option<String>,
+    library: bool,
+    seed: u64,
+    inputs: u64,
+    calls: u64,
+    exhaust_step: usize,
+}
+
+fn options() -> Options {
+    let mut o = Options {
+        program: Some("target/bin/ndigomarr".to_string()),
+        library: true,
+        seed: 1,
+        inputs: 100_000,
+        calls: 5_000,
+        exhaust_step: 1,
+    };
+    let mut words = std::env::args().skip(1);
+    let mut short = false;
+    while let Some(word) = words.next() {
+        let mut number = || words.next().and_then(|n| n.parse().ok()).expect("a number");
+        match word.as_str() {
+            "--short" => short = true,
+            "--no-program" => o.program = None,
+            "--no-library" => o.library = false,
+            "--seed" => o.seed = number(),
+            "--inputs" => o.inputs = number(),
+            "--calls" => o.calls = number(),
+            _ => panic!("unknown word {word}"),
+        }
+    }
+    if short {
+        (o.inputs, o.calls, o.exhaust_step) = (o.inputs.min(6_000), o.calls.min(400), 29);
+    }
+    o
+}
+
+#[derive(Default)]
+struct Tally {
+    compared: u64,
+    differences: u64,
+    shown: Vec<String>,
+    counts: Counts,
+}
+
+impl Tally {
+    fn differ(&mut self, words: impl FnOnce() -> String) {
+        self.differences += 1;
+        if self.shown.len() < 5 {
+            self.shown.push(words());
+        }
+    }
+
+    fn merge(&mut self, other: Tally) {
+        self.compared += other.compared;
+        self.differences += other.differences;
+        self.shown.extend(other.shown);
+        kinds::merge(&mut self.counts, other.counts);
+    }
+}
+
+/// What the program prints for these bytes.
+fn printed(program: &str, bytes: &[u8]) -> io::Result<String> {
+    let mut child = Command::new(program).stdin(Stdio::piped()).stdout(Stdio::piped()).spawn()?;
+    // A program that refuses an input for its length need not read all of it.
+    let _ = child.stdin.take().unwrap().write_all(bytes);
+    let mut text = String::new();
+    child.stdout.take().unwrap().read_to_string(&mut text)?;
+    let status = child.wait()?;
+    Ok(if status.success() { text } else { format!("{text}{status}\n") })
+}
+
+fn count_job(counts: &mut Counts, job: &Job, judged: &Judged, trace: &Trace) {
+    if judged.answer.refusal == 0 {
+        kinds::of_call(counts, &Call::of_job(job));
+        let variants = job.variants.iter().map(|v| v.letters.as_slice());
+        kinds::of_letters(counts, job.settings.k, variants.chain(job.parts.iter().map(|p| p.letters.as_slice())));
+        kinds::of_trace(counts, trace);
+    }
+}
+
+fn compare_input(tally: &mut Tally, bytes: Vec<u8>, o: &Options) {
+    let judged = program::judged(&bytes);
+    let mut trace = Trace::default();
+    let second = program_answer(&bytes, Fault::None, &mut trace);
+    kinds::of_answer(&mut tally.counts, &judged);
+    if let Ok(job) = job::read(&bytes) {
+        count_job(&mut tally.counts, &job, &judged, &trace);
+        if job.bytes() != bytes && !job.settings.floats().iter().any(|x| x.is_nan()) {
+            tally.differ(|| format!("the writer makes other bytes of {}", describe::job(&job)));
+        }
+    }
+    if second != judged.answer {
+        tally.differ(|| format!("the second reading of document 01 says {second:?} of {}", describe::bytes(&bytes)));
+    }
+    if let Some(program) = &o.program {
+        tally.compared += 1;
+        let text = printed(program, &bytes).expect("the program runs");
+        if text != judged.answer.text() {
+            tally.differ(|| {
+                let differs = |one: &[u8]| printed(program, one).is_ok_and(|said| said != program::answer(one).text());
+                let small = shrink::bytes(bytes, differs);
+                let (must, says) = (program::answer(&small).text(), printed(program, &small).unwrap_or_default());
+                format!("{}\n  must print\n{must}  prints\n{says}", describe::bytes(&small))
+            });
+        }
+    }
+}
+
+fn compare_call(tally: &mut Tally, call: &Call, o: &Options) {
+    let judged = rust::judged(call);
+    let mut trace = Trace::default();
+    let second = call_answer(call, Fault::None, &mut trace);
+    kinds::of_answer(&mut tally.counts, &judged);
+    if judged.answer.refusal == 0 {
+        kinds::of_call(&mut tally.counts, call);
+        kinds::of_trace(&mut tally.counts, &trace);
+    }
+    if second != judged.answer {
+        tally.differ(|| format!("the second reading of document 01 says {second:?} of {}", describe::call(call)));
+    }
+    if o.library {
+        tally.compared += 1;
+        if let Err(words) = library_says(call, &judged.answer) {
+            tally.differ(|| format!("{words}\n  of {}", describe::call(call)));
+        }
+    }
+}
+
+/// The linked library's answer, its rows, and what it left alone.
+fn library_says(call: &Call, must: &Answer) -> Result<(), String> {
+    let said = library::answer(call)?;
+    if said.answer != *must {
+        return Err(format!("must be {must:?}\n  is      {:?}", said.answer));
+    }
+    if !said.rest_unchanged {
+        return Err("the rest of the answer buffer changed".to_string());
+    }
+    if must.refusal != 0 && !said.queue_unchanged {
+        return Err("a refusal changed the queue".to_string());
+    }
+    Ok(())
+}
+
+/// Two workers take numbers from one counter.
+fn work(upto: u64, one: impl Fn(&mut Tally, u64) + Sync) -> Tally {
+    let next = AtomicU64::new(0);
+    let all = Mutex::new(Tally::default());
+    let workers = thread::available_parallelism().map_or(2, |n| n.get()).max(2);
+    thread::scope(|scope| {
+        for _ in 0..workers {
+            scope.spawn(|| {
+                let mut tally = Tally::default();
+                loop {
+                    let number = next.fetch_add(1, Ordering::Relaxed);
+                    if number >= upto {
+                        break;
+                    }
+                    one(&mut tally, number);
+                }
+                all.lock().unwrap().merge(tally);
+            });
+        }
+    });
+    all.into_inner().unwrap()
+}
+
+fn report(name: &str, jobs: u64, tally: &Tally) {
+    println!("{name}: {jobs} jobs, {} compared, {} differences", tally.compared, tally.differences);
+    for (kind, count) in &tally.counts {
+        println!("  {count:>8}  {kind}");
+    }
+    for words in tally.shown.iter().take(5) {
+        println!("DIFFERENCE {words}");
+    }
+}
+
+fn seeded(o: &Options, stream: u64, number: u64) -> Random {
+    Random::new(o.seed.wrapping_mul(0x2545_f491_4f6c_dd1d) ^ (stream << 60) ^ number.wrapping_mul(0x9e37_79b9))
+}
+
+fn main() -> ExitCode {
+    let o = options();
+    let short: Vec<Vec<u8>> = exhaust::jobs().step_by(o.exhaust_step).map(|job| job.bytes()).collect();
+    let all_short = work(short.len() as u64, |tally, i| compare_input(tally, short[i as usize].clone(), &o));
+    report("short jobs, exhaustively", short.len() as u64, &all_short);
+    let inputs = work(o.inputs, |tally, i| {
+        compare_input(tally, generate::input(&mut seeded(&o, 1, i)), &o);
+    });
+    report("program size", o.inputs, &inputs);
+    let calls = work(o.calls, |tally, i| {
+        let budget = if i % 50 == 0 { 100_000_000 } else { 3_000_000 };
+        let call = generate::call(&mut seeded(&o, 2, i), budget);
+        compare_call(tally, &call, &o);
+    });
+    report("library size", o.calls, &calls);
+    let smaller = work(if o.library { o.inputs } else { 0 }, |tally, i| {
+        tally.compared += 1;
+        if let Err(words) = library::smaller_call(&mut seeded(&o, 3, i), &mut tally.counts) {
+            tally.differ(|| words);
+        }
+    });
+    report("smaller calls of the library", smaller.compared, &smaller);
+    let differences = all_short.differences + inputs.differences + calls.differences + smaller.differences;
+    println!(
+        "compared {} program-size and {} library-size jobs, and {} smaller calls: {}",
+        all_short.compared + inputs.compared,
+        calls.compared,
+        smaller.compared,
+        if differences == 0 { "no difference off the list".to_string() } else { format!("{differences} differences") }
+    );
+    ExitCode::from((differences > 0) as u8)
+}

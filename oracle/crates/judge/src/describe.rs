@@ -1,0 +1,63 @@
+//! A job in one line of words, and bytes that are no job as hexadecimal.
+use crate::call::Call;
+use crate::job::{self, Job, Settings};
+
+fn letters(bytes: &[u8], negative: bool) -> String {
+    let shown = match bytes.len() {
+        0 => "no letters".to_string(),
+        1..=40 => bytes.escape_ascii().to_string(),
+        n => format!("{}.. ({n} letters)", bytes[..20].escape_ascii()),
+    };
+    if negative { format!("{shown} negative") } else { shown }
+}
+
+fn settings(s: &Settings) -> String {
+    let mut words = vec![format!("k {}", s.k)];
+    for (set, word) in [(s.squish, "squish"), (s.one_to_one, "one-to-one"), (!s.full, "bare")] {
+        if set {
+            words.push(word.to_string());
+        }
+    }
+    words.push(format!(
+        "maxpaths {} maxnodes {} fnmax {} pileupmax {} minkfreq {} sizesim {:?} seqsim {:?} fpenalty {:?} gpenalty {:?}",
+        s.maxpaths, s.maxnodes, s.fnmax, s.pileupmax, s.minkfreq, s.sizesim, s.seqsim, s.fpenalty, s.gpenalty
+    ));
+    words.join(" ")
+}
+
+pub fn job(job: &Job) -> String {
+    let variants: Vec<String> = job
+        .variants
+        .iter()
+        .map(|v| format!("{}-{} size {} {}", v.start, v.end, v.size, letters(&v.letters, v.negative)))
+        .collect();
+    let parts: Vec<String> =
+        job.parts.iter().map(|p| format!("size {} {}", p.size, letters(&p.letters, p.negative))).collect();
+    format!("{}; variants [{}]; parts [{}]", settings(&job.settings), variants.join(", "), parts.join(", "))
+}
+
+pub fn bytes(bytes: &[u8]) -> String {
+    match job::read(bytes) {
+        Ok(good) => job(&good),
+        Err(number) => {
+            let hex: String = bytes.iter().take(100).map(|b| format!("{b:02x}")).collect();
+            format!("{} bytes {hex}{} ({number} by the form)", bytes.len(), if bytes.len() > 100 { ".." } else { "" })
+        }
+    }
+}
+
+pub fn call(call: &Call) -> String {
+    let show = |row: &[i32]| if row.len() > 64 { format!("{:?}..", &row[..64]) } else { format!("{row:?}") };
+    format!(
+        "{}; starts {:?} ends {:?} sizes {:?} features {} part sizes {:?} part features {} queue room {} answer room {}",
+        settings(&call.settings),
+        call.starts,
+        call.ends,
+        call.sizes,
+        show(&call.features),
+        call.part_sizes,
+        show(&call.part_features),
+        call.queue_room,
+        call.answer_room
+    )
+}

@@ -1,0 +1,527 @@
+//! Seeded jobs that reach what document 01 speaks of: ties, zero and negative sizes, squish, bare graphs, one-to-one,
+//! thresholds and penalties at telling values, every kind of refusal, and sums at their limits.
+use crate::call::{queue_need, Call, SIZE_LIMIT};
+use crate::job::{Job, Part, Settings, Variant};
+use crate::rust::chains;
+
+/// splitmix64: the same jobs from the same seed everywhere.
+pub struct Random(u64);
+
+impl Random {
+    pub fn new(seed: u64) -> Self {
+        Random(seed)
+    }
+
+    pub fn next(&mut self) -> u64 {
+        self.0 = self.0.wrapping_add(0x9e37_79b9_7f4a_7c15);
+        let mut z = self.0;
+        z = (z ^ (z >> 30)).wrapping_mul(0xbf58_476d_1ce4_e5b9);
+        z = (z ^ (z >> 27)).wrapping_mul(0x94d0_49bb_1331_11eb);
+        z ^ (z >> 31)
+    }
+
+    /// 0 to n - 1
+    pub fn below(&mut self, n: u64) -> u64 {
+        self.next() % n
+    }
+
+    /// from low to high, both counted in
+    pub fn within(&mut self, low: i64, high: i64) -> i64 {
+        low + self.below((high - low + 1) as u64) as i64
+    }
+
+    pub fn chance(&mut self, percent: u64) -> bool {
+        self.below(100) < percent
+    }
+
+    pub fn pick<T: Clone>(&mut self, from: &[T]) -> T {
+        from[self.below(from.len() as u64) as usize].clone()
+    }
+}
+
+/// How large the jobs may be.
+#[derive(Clone, Copy)]
+pub struct Size {
+    pub variants: u64,
+    pub parts: u64,
+    pub k: u64,
+    pub maxpaths: u32,
+    /// most letters of one sequence, now and then
+    pub letters: u64,
+}
+
+pub const PROGRAM: Size = Size { variants: 16, parts: 8, k: 4, maxpaths: 63, letters: 600 };
+pub const LIBRARY: Size = Size { variants: 64, parts: 64, k: 6, maxpaths: 4_095, letters: 3_000 };
+
+fn letter(r: &mut Random, style: u64) -> u8 {
+    match style {
+        0..=5 => r.pick(b"ACGT"),
+        6 => r.pick(b"AG"),
+        7 => r.pick(b"ACGTacgt"),
+        8 => r.pick(b"ACGTNnacgt-"),
+        _ => r.below(256) as u8,
+    }
+}
+
+fn sequence(r: &mut Random, size: Size) -> Vec<u8> {
+    let length = match r.below(20) {
+        0 => 0,
+        1 => r.below(3),
+        2 => 16 * r.below(4),
+        3 => r.below(size.letters),
+        _ => 1 + r.below(12),
+    };
+    let style = r.below(10);
+    (0..length).map(|_| letter(r, style)).collect()
+}
+
+fn size_of(r: &mut Random, style: u64, letters: usize) -> i32 {
+    let size = match style {
+        0 => 1,
+        1 => r.within(1, 2),
+        2 => r.within(-2, 2),
+        3 => r.within(-1, 1),
+        4 => r.within(-20, 20),
+        5 => r.within(0, 100_000) - 50_000,
+        6 => r.pick(&[131_072, -131_072, 131_071, 1, 0]),
+        7 => 0,
+        _ => letters as i64,
+    };
+    size as i32
+}
+
+fn bounds(r: &mut Random, v: u64) -> Vec<(u64, u64)> {
+    let style = r.below(7);
+    let spread = 1 + r.below(4 * v + 4);
+    let base = if r.chance(3) { u64::MAX - 10_000 } else { r.below(3) };
+    let mut list: Vec<(u64, u64)> = (0..v)
+        .map(|row| match style {
+            0 => (base + 10 * row, base + 10 * row),
+            1 => (base + 10 * row, base + 10 * row + 1 + r.below(9)),
+            2 => (base + 10 * row, base + 10 * row + 10),
+            3 => (base, base + r.below(3)),
+            _ => {
+                let start = base + r.below(spread);
+                (start, start + if r.chance(30) { 0 } else { r.below(spread / 2 + 2) })
+            }
+        })
+        .collect();
+    list.sort();
+    list
+}
+
+struct Pool {
+    letters: Vec<Vec<u8>>,
+    style: u64,
+}
+
+fn event(r: &mut Random, pool: &Pool, size: Size) -> (i32, bool, Vec<u8>) {
+    let letters = if r.chance(70) { r.pick(&pool.letters) } else { sequence(r, size) };
+    let measure = size_of(r, pool.style, letters.len());
+    let negative = if r.chance(85) { measure < 0 } else { r.chance(50) };
+    (measure, negative, letters)
+}
+
+fn changed(r: &mut Random, letters: &[u8]) -> Vec<u8> {
+    let mut letters = letters.to_vec();
+    for _ in 0..r.below(3) {
+        match r.below(3) {
+            0 if !letters.is_empty() => {
+                let at = r.below(letters.len() as u64) as usize;
+                letters[at] = r.pick(b"ACGT");
+            }
+            1 if !letters.is_empty() => {
+                letters.pop();
+            }
+            _ => letters.push(r.pick(b"ACGT")),
+        }
+    }
+    letters
+}
+
+fn part(r: &mut Random, variants: &[Variant], before: &[Part], pool: &Pool, size: Size) -> Part {
+    if !before.is_empty() && r.chance(20) {
+        return r.pick(before);
+    }
+    if r.chance(65) {
+        let v = r.pick(variants);
+        let letters = if r.chance(70) { v.letters } else { changed(r, &v.letters) };
+        let change = if r.chance(80) { 0 } else { r.within(-1, 1) as i32 };
+        let limit = SIZE_LIMIT as i32;
+        return Part { size: (v.size + change).clamp(-limit, limit), negative: v.negative, letters };
+    }
+    let (size, negative, letters) = event(r, pool, size);
+    Part { size, negative, letters }
+}
+
+/// A threshold that some similarity may meet exactly.
+fn threshold(r: &mut Random) -> f32 {
+    let of = |r: &mut Random| {
+        let d = r.within(2, 12);
+        (r.within(0, d) as f32, d as f32)
+    };
+    match r.below(10) {
+        0 | 1 => 0.0,
+        2 => -0.0,
+        3 => 1.0,
+        4 => 0.5,
+        5 => 0.9,
+        6 => {
+            let (n, d) = of(r);
+            n / d
+        }
+        7 => {
+            let (n, d) = of(r);
+            1.0 - n / d
+        }
+        _ => r.below(500) as f32 / 1000.0,
+    }
+}
+
+fn penalty(r: &mut Random) -> f32 {
+    match r.below(12) {
+        0..=3 => 0.0,
+        4 => -0.0,
+        5 => 0.1,
+        6 => 0.02,
+        7 => r.pick(&[0.25f32, 0.5, 0.125, 0.75]),
+        8 => r.pick(&[1.0f32, 0.3, 1.0 / 3.0]),
+        9 => r.pick(&[1e-20f32, 1e-38, 1e-45, 1000.0]),
+        _ => r.below(300) as f32 / 1000.0,
+    }
+}
+
+fn settings(r: &mut Random, v: u64, m: u64, size: Size) -> Settings {
+    let most = u64::from(size.maxpaths);
+    Settings {
+        k: (1 + r.below(size.k)) as u8,
+        squish: r.chance(20),
+        one_to_one: r.chance(10),
+        full: r.chance(90),
+        maxpaths: match r.below(6) {
+            0 => r.below(4) as u32,
+            1 => r.below(v + 2).min(most) as u32,
+            2 => r.below(most + 1) as u32,
+            _ => size.maxpaths,
+        },
+        maxnodes: match r.below(12) {
+            0 => r.below(v + 1) as u32,
+            1 | 2 => v as u32,
+            3 => v as u32 + 1,
+            _ => 65_535,
+        },
+        fnmax: match r.below(6) {
+            0 => 0,
+            1 => 65_535,
+            2 => m as u32,
+            _ => r.below(4) as u32,
+        },
+        pileupmax: if r.chance(60) { r.within(6, 12) as u32 } else { r.below(13) as u32 },
+        minkfreq: match r.below(8) {
+            0 => 0,
+            1 => 16_777_216,
+            2 | 3 => r.below(6) as u32,
+            _ => r.pick(&[1u32, 2]),
+        },
+        sizesim: threshold(r),
+        seqsim: threshold(r),
+        fpenalty: penalty(r),
+        gpenalty: penalty(r),
+    }
+}
+
+/// An accepted job of at most the given size.
+pub fn job(r: &mut Random, size: Size) -> Job {
+    let v = match r.below(20) {
+        0 => size.variants,
+        1..=5 => 1 + r.below(size.variants),
+        _ => 1 + r.below(6),
+    };
+    let m = match r.below(20) {
+        0 => size.parts,
+        1..=4 => r.below(size.parts + 1),
+        5..=6 => r.below(13).min(size.parts),
+        _ => r.below(5),
+    };
+    let pool = Pool {
+        letters: (0..1 + r.below(4)).map(|_| sequence(r, size)).collect(),
+        style: r.below(12),
+    };
+    let variants: Vec<Variant> = bounds(r, v)
+        .into_iter()
+        .map(|(start, end)| {
+            let (size, negative, letters) = event(r, &pool, size);
+            Variant { start, end, size, negative, letters }
+        })
+        .collect();
+    let mut parts = if r.chance(40) { parts_of_a_chain(r, &variants, m) } else { vec![] };
+    while (parts.len() as u64) < m {
+        let one = part(r, &variants, &parts, &pool, size);
+        parts.push(one);
+    }
+    let mut job = Job { settings: settings(r, v, m, size), variants, parts };
+    match r.below(20) {
+        0 | 1 => job.parts.iter_mut().for_each(|p| p.size = 0),
+        2..=8 => loosen(r, &mut job.settings),
+        _ => {}
+    }
+    job
+}
+
+/// Some of the rows once more, as parts, in the rows' order or not.
+fn parts_of_a_chain(r: &mut Random, variants: &[Variant], m: u64) -> Vec<Part> {
+    let mut parts: Vec<Part> = vec![];
+    for v in variants {
+        if (parts.len() as u64) < m && r.chance(50) {
+            parts.push(Part { size: v.size, negative: v.negative, letters: v.letters.clone() });
+        }
+    }
+    if r.chance(30) {
+        parts.reverse();
+    }
+    parts
+}
+
+/// Settings under which much is accepted.
+fn loosen(r: &mut Random, s: &mut Settings) {
+    s.sizesim = r.pick(&[0.0, 0.0, 0.25, 0.5]);
+    s.seqsim = r.pick(&[0.0, 0.0, 0.25, 0.5]);
+    s.fpenalty = r.pick(&[0.0, 0.1, 0.02, 0.25, 1.0 / 3.0]);
+    s.gpenalty = r.pick(&[0.0, 0.1, 0.02, 0.25, 1.0 / 3.0]);
+    s.minkfreq = r.pick(&[0, 1, 1, 2]);
+    s.fnmax = r.pick(&[1, 2, 3, 65_535]);
+}
+
+/// Rows whose sums reach 16,777,216 exactly: every sequence, size and count at its limit.
+pub fn job_at_limits(r: &mut Random) -> Job {
+    let mut job = job(r, LIBRARY);
+    job.settings.k = 1 + r.below(2) as u8;
+    job.settings.maxpaths = r.below(200) as u32;
+    let limit = SIZE_LIMIT as i32;
+    let sign = r.pick(&[1, -1]);
+    let letters = vec![r.pick(b"ACGT"); SIZE_LIMIT as usize];
+    let (v, m) = if r.chance(60) { (64, 64) } else { (r.within(60, 64), r.within(60, 64)) };
+    job.variants = (0..v)
+        .map(|row| Variant {
+            start: row as u64,
+            end: row as u64,
+            size: sign * limit,
+            negative: r.chance(50),
+            letters: letters.clone(),
+        })
+        .collect();
+    job.parts = (0..m)
+        .map(|_| Part { size: sign * limit, negative: r.chance(50), letters: letters.clone() })
+        .collect();
+    job
+}
+
+fn lists(m: u64, s: &Settings) -> u64 {
+    if m >= u64::from(s.pileupmax) {
+        return 1;
+    }
+    let lower = m.saturating_sub(s.fnmax.into()).max(1);
+    let choose = |i: u64| (0..i).fold(1, |c, j| c * (m - j) / (j + 1));
+    (lower..=m).map(choose).sum()
+}
+
+/// Entries compared at most, chain by chain and list by list.
+pub fn cost(call: &Call) -> u64 {
+    if call.refusal() != 0 {
+        return 0;
+    }
+    let limit = u64::from(call.settings.maxpaths) + 1;
+    let entries = 1u64 << (2 * call.settings.k);
+    let v = call.starts.len() as u64;
+    chains(call, limit) * (lists(call.part_sizes.len() as u64, &call.settings) * entries + 8 * v)
+}
+
+/// A library call of at most the given cost; more costly ones score fewer chains.
+pub fn call(r: &mut Random, budget: u64) -> Call {
+    let mut job = if r.chance(1) { job_at_limits(r) } else { job(r, LIBRARY) };
+    if r.chance(5) {
+        disturb_job(r, &mut job);
+    }
+    let mut call = Call::of_job(&job);
+    if call.refusal() == 0 && r.chance(20) {
+        scatter(r, &mut call);
+    }
+    while cost(&call) > budget && call.settings.maxpaths > 3 {
+        call.settings.maxpaths /= 2;
+    }
+    if call.refusal() != 0 {
+        return call;
+    }
+    call.queue_room = queue_need(&call.settings, call.starts.len()) + r.pick(&[0, 0, 1, 5]);
+    call.answer_room = call.starts.len() + r.pick(&[0, 0, 1, 7]);
+    if r.chance(8) {
+        disturb_call(r, &mut call);
+    }
+    call
+}
+
+/// Features that no letters give: any signs, up to the limit.
+fn scatter(r: &mut Random, call: &mut Call) {
+    let e = 1usize << (2 * call.settings.k);
+    let top = r.pick(&[1, 3, 131_072 / e as i64]);
+    for row in call.features.chunks_mut(e).chain(call.part_features.chunks_mut(e)) {
+        if r.chance(30) {
+            for x in row {
+                *x = r.within(-top, top) as i32;
+            }
+        }
+    }
+}
+
+fn disturb_call(r: &mut Random, call: &mut Call) {
+    if call.refusal() != 0 {
+        return;
+    }
+    let e = 1usize << (2 * call.settings.k);
+    match r.below(12) {
+        0 => {
+            call.ends.pop();
+        }
+        1 => call.sizes.push(1),
+        2 => {
+            call.features.pop();
+        }
+        3 => call.part_features.push(0),
+        4 => call.queue_room = queue_need(&call.settings, call.starts.len()) - 1,
+        5 => call.answer_room = call.starts.len() - 1,
+        6 => call.features[e - 1] = r.pick(&[131_073, -131_073, i32::MIN]),
+        7 => call.features[..e].fill(131_072 / e as i32 + 1),
+        8 if !call.part_sizes.is_empty() => call.part_features[0] = i32::MAX,
+        9 => call.queue_room = 0,
+        10 => call.answer_room = 0,
+        _ => {
+            call.starts.clear();
+            call.ends.clear();
+            call.sizes.clear();
+            call.features.clear();
+        }
+    }
+}
+
+const NOT_FLOATS: [f32; 7] = [f32::NAN, -1.0, -1e-45, 1.000_000_1, 1000.0001, f32::INFINITY, f32::NEG_INFINITY];
+
+/// One value of an accepted job put out of its range, or at it.
+pub fn disturb_job(r: &mut Random, job: &mut Job) {
+    let s = &mut job.settings;
+    let v = job.variants.len();
+    let row = r.below(v as u64) as usize;
+    match r.below(17) {
+        0 => s.k = r.pick(&[0u8, 5, 6, 7, 255]),
+        1 => s.sizesim = r.pick(&NOT_FLOATS),
+        2 => s.seqsim = r.pick(&NOT_FLOATS),
+        3 => s.fpenalty = r.pick(&NOT_FLOATS),
+        4 => s.gpenalty = r.pick(&NOT_FLOATS),
+        5 => s.maxpaths = r.pick(&[64u32, 4_095, 4_096, u32::MAX]),
+        6 => s.maxnodes = r.pick(&[65_536u32, u32::MAX]),
+        7 => s.fnmax = r.pick(&[65_536u32, u32::MAX]),
+        8 => s.pileupmax = r.pick(&[13u32, u32::MAX]),
+        9 => s.minkfreq = r.pick(&[16_777_217u32, u32::MAX]),
+        10 => job.variants.clear(),
+        11 => job.variants[row].start = job.variants[row].end.saturating_add(1),
+        12 if row > 0 => job.variants[row].start = job.variants[row - 1].start.saturating_sub(1),
+        13 => job.variants[row].size = r.pick(&[131_073, -131_073, i32::MIN, i32::MAX]),
+        14 if !job.parts.is_empty() => job.parts[0].size = r.pick(&[131_073, i32::MIN]),
+        15 => {
+            let one = job.variants[v - 1].clone();
+            job.variants.resize(r.pick(&[17, 65]), one);
+        }
+        _ => {
+            let one = Part { size: 1, negative: false, letters: b"A".to_vec() };
+            job.parts.resize(r.pick(&[9, 65]), one);
+        }
+    }
+}
+
+/// Bytes of a good job with a fault of the form put in.
+fn disturb_bytes(r: &mut Random, bytes: &mut Vec<u8>) {
+    let at = r.below(bytes.len() as u64) as usize;
+    match r.below(9) {
+        0 => bytes.truncate(at),
+        1 => bytes[at] = r.below(256) as u8,
+        2 => bytes[at] ^= 1 << r.below(8),
+        3 => bytes.push(r.below(2) as u8),
+        4 => {
+            bytes.remove(at);
+        }
+        5 => bytes.insert(at, r.below(6) as u8),
+        6 => disturb_record(r, bytes),
+        7 => disturb_record(r, bytes),
+        _ => {
+            let last = bytes.len() - 1;
+            bytes[last] = r.below(6) as u8;
+        }
+    }
+}
+
+fn records(bytes: &[u8]) -> Vec<(usize, usize)> {
+    let mut found = vec![];
+    let mut at = 0;
+    while at < bytes.len() {
+        let length = [1, 41, 26, 10, 17][usize::from(bytes[at])];
+        found.push((at, length));
+        at += length;
+    }
+    found
+}
+
+/// A record left out, doubled, put elsewhere, or one of its fields changed.
+fn disturb_record(r: &mut Random, bytes: &mut Vec<u8>) {
+    let found = records(bytes);
+    let (at, length) = r.pick(&found);
+    let record: Vec<u8> = bytes[at..at + length].to_vec();
+    let (to, _) = r.pick(&found);
+    match r.below(5) {
+        0 => {
+            bytes.drain(at..at + length);
+        }
+        1 => {
+            bytes.splice(at..at, record);
+        }
+        2 => {
+            bytes.splice(to..to, record);
+        }
+        3 => {
+            bytes.splice(to..to, record[..length / 2].to_vec());
+        }
+        _ => match record[0] {
+            0x01 => bytes[at + 2 + r.below(3) as usize] = 2,
+            0x02 if r.chance(50) => bytes[at + 21] = 2,
+            0x02 => bytes[at + 22..at + 26].copy_from_slice(&r.pick(&[131_072u32, 131_073, 17, 0, u32::MAX]).to_le_bytes()),
+            0x03 if r.chance(50) => bytes[at + 5] = 2,
+            0x03 => bytes[at + 6..at + 10].copy_from_slice(&r.pick(&[131_072u32, 131_073, 17, 0, u32::MAX]).to_le_bytes()),
+            0x04 => bytes[at + 16] = 1,
+            _ => bytes.push(0),
+        },
+    }
+}
+
+/// The program's input: mostly jobs it answers, then refusals, faults of the form, and inputs too large for it.
+pub fn input(r: &mut Random) -> Vec<u8> {
+    let mut job = job(r, PROGRAM);
+    match r.below(40) {
+        0..=1 => disturb_job(r, &mut job),
+        2..=3 => {
+            disturb_job(r, &mut job);
+            if !job.variants.is_empty() {
+                disturb_job(r, &mut job);
+            }
+        }
+        4 if r.chance(20) => {
+            // near the program's longest input
+            let want = r.pick(&[32_700u64, 32_760, 32_800, 40_000]);
+            let have = job.bytes().len() as u64;
+            job.variants[0].letters = (0..want.saturating_sub(have) * 16 / 17).map(|_| r.pick(b"ACGT")).collect();
+        }
+        _ => {}
+    }
+    let mut bytes = job.bytes();
+    if r.chance(6) {
+        disturb_bytes(r, &mut bytes);
+    }
+    bytes
+}

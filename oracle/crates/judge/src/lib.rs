@@ -1,0 +1,24 @@
+//! The judge: what document 01 and kanpig's Rust together say about a job.
+//!
+//! - `job`: a job, its bytes, and the faults of the job form.
+//! - `call`: a job as the library is asked it, and the refusals 1 to 12.
+//! - `rust`: the answer by kanpig's Rust, unchanged or ordered.
+//! - `answer`: an answer and its seven lines.
+//! - `program`: what the program must print for given bytes.
+//! - `document`: document 01 written down once more, independent of the Rust, with faults that can be planted in it.
+//! - `library`: the library of this project, linked.
+//! - `generate`, `exhaust`: the jobs that are compared.
+//! - `kinds`: what a job reached, to be counted.
+//! - `shrink`: the smallest job that still shows a difference; `describe`: a job in words.
+pub mod answer;
+pub mod call;
+pub mod describe;
+pub mod document;
+pub mod exhaust;
+pub mod generate;
+pub mod job;
+pub mod kinds;
+pub mod library;
+pub mod program;
+pub mod rust;
+pub mod shrink;

@@ -1,0 +1,191 @@
+//! The library, linked as an archive (`rt staticlib capi`) where the feature `linked` is on.
+use crate::answer::Answer;
+use crate::call::Call;
+use crate::generate::Random;
+use crate::kinds::Counts;
+
+pub struct Said {
+    pub answer: Answer,
+    /// the answer buffer past its rows
+    pub rest_unchanged: bool,
+    pub queue_unchanged: bool,
+}
+
+#[cfg(not(feature = "linked"))]
+pub fn answer(_call: &Call) -> Result<Said, String> {
+    Err("the library is not linked".to_string())
+}
+
+#[cfg(not(feature = "linked"))]
+pub fn smaller_call(_r: &mut Random, _counts: &mut Counts) -> Result<(), String> {
+    Err("the library is not linked".to_string())
+}
+
+#[cfg(feature = "linked")]
+pub use linked::{answer, smaller_call};
+
+#[cfg(feature = "linked")]
+mod linked {
+    use super::*;
+    use crate::answer::Target;
+    use crate::kinds;
+    use unchanged::kplib::{metrics, seq_to_kmer};
+
+    extern "C" {
+        fn nd_apply_haplotype(
+            k: u8, squish: bool, one_to_one: bool, full: bool,
+            maxpaths: u32, maxnodes: u32, fnmax: u32, pileupmax: u32, minkfreq: u32,
+            sizesim: f32, seqsim: f32, fpenalty: f32, gpenalty: f32,
+            starts: *const u64, starts_len: usize, ends: *const u64, ends_len: usize,
+            sizes: *const i32, sizes_len: usize, features: *const i32, features_len: usize,
+            part_sizes: *const i32, part_sizes_len: usize, part_features: *const i32, part_features_len: usize,
+            parents: *mut u32, parents_len: usize, lasts: *mut u32, lasts_len: usize, keys: *mut u64, keys_len: usize,
+            rows: *mut u32, rows_len: usize,
+            row_count: *mut u32, target: *mut u32, left_out: *mut u32,
+            score: *mut f32, best_sizesim: *mut f32, best_seqsim: *mut f32,
+            scored: *mut u32, complete: *mut u32,
+        ) -> u32;
+        fn nd_seq_to_kmer(seq: *const u8, seq_len: usize, k: u8, negative: bool, row: *mut i32, row_len: usize) -> u32;
+        fn nd_seqsim(a: *const i32, a_len: usize, b: *const i32, b_len: usize, minkfreq: u32, place: *mut f32) -> u32;
+        fn nd_sizesim(a: u64, b: u64, place: *mut f32) -> u32;
+    }
+
+    const MARK: u32 = 0xdead_0001;
+    const MARK_KEY: u64 = 0xdead_0002_0000_0003;
+
+    /// The buffers hold marks before the call, so that what was left alone is seen.
+    pub fn answer(call: &Call) -> Result<Said, String> {
+        let s = &call.settings;
+        let mut parents = vec![MARK; call.queue_room];
+        let mut lasts = vec![MARK; call.queue_room + 1];
+        let mut keys = vec![MARK_KEY; call.queue_room + 2];
+        let mut rows = vec![MARK; call.answer_room];
+        let (mut row_count, mut target, mut left_out, mut scored, mut complete) = (MARK, MARK, MARK, MARK, MARK);
+        let (mut score, mut sizesim, mut seqsim) = (f32::NAN, f32::NAN, f32::NAN);
+        // SAFETY: every pointer comes with its slice's length, and no two overlap.
+        let refusal = unsafe {
+            nd_apply_haplotype(
+                s.k, s.squish, s.one_to_one, s.full,
+                s.maxpaths, s.maxnodes, s.fnmax, s.pileupmax, s.minkfreq,
+                s.sizesim, s.seqsim, s.fpenalty, s.gpenalty,
+                call.starts.as_ptr(), call.starts.len(), call.ends.as_ptr(), call.ends.len(),
+                call.sizes.as_ptr(), call.sizes.len(), call.features.as_ptr(), call.features.len(),
+                call.part_sizes.as_ptr(), call.part_sizes.len(), call.part_features.as_ptr(), call.part_features.len(),
+                parents.as_mut_ptr(), parents.len(), lasts.as_mut_ptr(), lasts.len(), keys.as_mut_ptr(), keys.len(),
+                rows.as_mut_ptr(), rows.len(),
+                &mut row_count, &mut target, &mut left_out,
+                &mut score, &mut sizesim, &mut seqsim,
+                &mut scored, &mut complete,
+            )
+        };
+        let count = row_count as usize;
+        if count > rows.len() {
+            return Err(format!("{count} rows in a buffer of {}", rows.len()));
+        }
+        Ok(Said {
+            answer: Answer {
+                refusal,
+                rows: rows[..count].to_vec(),
+                target: match target {
+                    0 => Target::Nothing,
+                    1 => Target::Whole,
+                    2 => Target::Partial(left_out),
+                    other => return Err(format!("target {other}")),
+                },
+                score: score.to_bits(),
+                sizesim: sizesim.to_bits(),
+                seqsim: seqsim.to_bits(),
+                scored,
+                complete: complete == 1,
+            },
+            rest_unchanged: rows[count..].iter().all(|&x| x == MARK),
+            queue_unchanged: parents.iter().chain(&lasts).all(|&x| x == MARK) && keys.iter().all(|&x| x == MARK_KEY),
+        })
+    }
+
+    /// One call of the counter, seqsim or sizesim, compared with the Rust's; refusals by document 01.
+    pub fn smaller_call(r: &mut Random, counts: &mut Counts) -> Result<(), String> {
+        match r.below(3) {
+            0 => counter(r, counts),
+            1 => rows(r, counts),
+            _ => sizes(r, counts),
+        }
+    }
+
+    fn counter(r: &mut Random, counts: &mut Counts) -> Result<(), String> {
+        let k = if r.chance(5) { r.pick(&[0u8, 7, 255]) } else { 1 + r.below(6) as u8 };
+        let length = if r.chance(1) { r.pick(&[131_071usize, 131_072, 131_073]) } else { r.below(60) as usize };
+        let letters: Vec<u8> =
+            (0..length).map(|_| if r.chance(95) { r.pick(b"ACGTacgtN") } else { r.below(256) as u8 }).collect();
+        let negative = r.chance(50);
+        let entries = 4usize.pow(k.clamp(1, 6).into());
+        let room = if r.chance(5) { r.pick(&[0, entries - 1, entries + 1]) } else { entries };
+        let mut row = vec![77i32; room];
+        // SAFETY: both pointers come with their lengths.
+        let said = unsafe { nd_seq_to_kmer(letters.as_ptr(), letters.len(), k, negative, row.as_mut_ptr(), row.len()) };
+        let must = match (k, room == entries, length) {
+            (0 | 7..=255, _, _) => 1,
+            (_, false, _) => 6,
+            (_, _, 131_073..) => 13,
+            _ => 0,
+        };
+        let counted: Vec<i32> = match must {
+            0 => seq_to_kmer(&letters, k, negative).iter().map(|&x| x as i32).collect(),
+            _ => vec![77; room],
+        };
+        kinds::add(counts, format!("counter: refusal {must}"));
+        if said == must && row == counted {
+            return Ok(());
+        }
+        Err(format!("counting {} at k {k}: must be {must} {counted:?}, is {said} {row:?}", letters.escape_ascii()))
+    }
+
+    fn rows(r: &mut Random, counts: &mut Counts) -> Result<(), String> {
+        let entries = r.pick(&[0u64, 1, 3, 4, 16, 64]) as usize;
+        let top = r.pick(&[1i64, 3, 100, 600_000, 8_388_608]);
+        let mut one = |n: usize| -> Vec<i32> { (0..n).map(|_| if r.chance(40) { r.within(-top, top) as i32 } else { 0 }).collect() };
+        let (a, b) = (one(entries), one(entries));
+        let b = if r.chance(20) { a.clone() } else { b };
+        let b = if r.chance(5) { [b, vec![0]].concat() } else { b };
+        let minkfreq = r.pick(&[0u32, 1, 2, 3, 200, 16_777_216, 16_777_217]);
+        let heavy = |row: &[i32]| row.iter().map(|x| u64::from(x.unsigned_abs())).sum::<u64>() > 8_388_608;
+        let must = if minkfreq > 16_777_216 {
+            3
+        } else if a.len() != b.len() {
+            6
+        } else if heavy(&a) || heavy(&b) {
+            10
+        } else {
+            0
+        };
+        let floats = |row: &[i32]| -> Vec<f32> { row.iter().map(|&x| x as f32).collect() };
+        let like = if must == 0 { metrics::seqsim(&floats(&a), &floats(&b), minkfreq as f32) } else { 0.0 };
+        let mut place = f32::NAN;
+        // SAFETY: both pointers come with their lengths.
+        let said = unsafe { nd_seqsim(a.as_ptr(), a.len(), b.as_ptr(), b.len(), minkfreq, &mut place) };
+        kinds::add(counts, format!("seqsim: refusal {must}"));
+        if said == must && place.to_bits() == like.to_bits() {
+            return Ok(());
+        }
+        Err(format!("seqsim of {a:?} and {b:?} at {minkfreq}: must be {must} {like:?}, is {said} {place:?}"))
+    }
+
+    fn sizes(r: &mut Random, counts: &mut Counts) -> Result<(), String> {
+        let mut one = || match r.below(4) {
+            0 => r.below(5),
+            1 => r.pick(&[8_388_607, 8_388_608, 8_388_609, u64::MAX]),
+            _ => r.below(8_388_609),
+        };
+        let (a, b) = (one(), one());
+        let must = if a > 8_388_608 || b > 8_388_608 { 9 } else { 0 };
+        let like = if must == 0 { metrics::sizesim(a, b) } else { 0.0 };
+        let mut place = f32::NAN;
+        // SAFETY: the place is lent for the call.
+        let said = unsafe { nd_sizesim(a, b, &mut place) };
+        kinds::add(counts, format!("sizesim: refusal {must}"));
+        if said == must && place.to_bits() == like.to_bits() {
+            return Ok(());
+        }
+        Err(format!("sizesim of {a} and {b}: must be {must} {like:?}, is {said} {place:?}"))
+    }
+}

@@ -1,0 +1,208 @@
+//! The answer by kanpig's Rust.
+use crate::answer::{Answer, Target};
+use crate::call::{searches, Call};
+
+/// Whose word an answer is.
+#[derive(Clone, Copy, Debug, PartialEq, Eq)]
+pub enum By {
+    /// Document 01's refusals; the Rust has none.
+    Table,
+    /// Nothing ties: the unchanged Rust, and the second build said the same.
+    Unchanged,
+    /// Queued distances or best scores tie.
+    Ordered,
+    /// Squish kept a list from the empty chain, where the unchanged Rust underflows.
+    Squish,
+}
+
+#[derive(Clone, Debug)]
+pub struct Judged {
+    pub answer: Answer,
+    pub by: By,
+    pub distance_tie: bool,
+    pub score_tie: bool,
+    /// What the unchanged Rust said, where it differs.
+    pub unchanged_differs: Option<Answer>,
+}
+
+impl Judged {
+    pub fn refused(number: u32) -> Self {
+        Judged {
+            answer: Answer::refused(number),
+            by: By::Table,
+            distance_tie: false,
+            score_tie: false,
+            unchanged_differs: None,
+        }
+    }
+}
+
+macro_rules! build {
+    ($module:ident, $build:ident) => {
+        /// The call put to one build: rows, target and the three floats.
+        mod $module {
+            use super::*;
+            use noodles_vcf::variant::RecordBuf;
+            use $build::kplib::{GraphParams, Haplotype, HaplotypeMeta, PathScore, Variants};
+
+            fn params(call: &Call) -> GraphParams {
+                let s = &call.settings;
+                GraphParams {
+                    kmer: s.k,
+                    squish: s.squish,
+                    one_to_one: s.one_to_one,
+                    maxpaths: s.maxpaths.into(),
+                    maxnodes: s.maxnodes as usize,
+                    fnmax: s.fnmax as usize,
+                    pileupmax: s.pileupmax as usize,
+                    minkfreq: s.minkfreq.into(),
+                    sizesim: s.sizesim,
+                    seqsim: s.seqsim,
+                    fpenalty: s.fpenalty,
+                    gpenalty: s.gpenalty,
+                    ..Default::default()
+                }
+            }
+
+            fn floats(row: &[i32]) -> Vec<f32> {
+                row.iter().map(|&x| x as f32).collect()
+            }
+
+            fn table(call: &Call) -> Variants {
+                let e = 1usize << (2 * call.settings.k);
+                let records = (0..call.starts.len())
+                    .map(|r| RecordBuf {
+                        start: call.starts[r],
+                        end: call.ends[r],
+                        size: call.sizes[r].into(),
+                        kfeat: floats(&call.features[r * e..(r + 1) * e]),
+                    })
+                    .collect();
+                let mut variants = Variants::new(records, call.settings.k);
+                variants.build(call.settings.full);
+                variants
+            }
+
+            fn haplotype(call: &Call) -> Haplotype {
+                let e = 1usize << (2 * call.settings.k);
+                let meta = HaplotypeMeta::new_blank(1);
+                let mut whole = Haplotype::blank(call.settings.k, meta.clone());
+                for (part, &size) in call.part_sizes.iter().enumerate() {
+                    let row = floats(&call.part_features[part * e..(part + 1) * e]);
+                    whole.add(&Haplotype::new(row, size.into(), 1, meta.clone()));
+                }
+                whole
+            }
+
+            /// The Rust says only whether the list was the whole; which it was, its own scorer tells for each list alone.
+            fn left_out(best: &PathScore, variants: &Variants, whole: &Haplotype, params: &GraphParams) -> u32 {
+                let size = best.path.iter().map(|&node| variants.graph[node].size).sum();
+                let lists = whole.partial_haplotypes(params.kmer, params.fnmax, params.pileupmax);
+                let won = lists.into_iter().find(|list| {
+                    let alone = [list.clone()];
+                    let one = PathScore::new(&variants.graph, best.path.clone(), size, &alone, params, whole);
+                    one.score == best.score
+                });
+                won.expect("some list has the best score").partial as u32
+            }
+
+            pub fn answer(call: &Call) -> Answer {
+                let (params, variants, whole) = (params(call), table(call), haplotype(call));
+                let best = variants.apply_haplotype(&whole, &params);
+                let target = if best.score == 0.0 {
+                    Target::Nothing
+                } else if best.full_target {
+                    Target::Whole
+                } else {
+                    Target::Partial(left_out(&best, &variants, &whole, &params))
+                };
+                Answer {
+                    refusal: 0,
+                    rows: best.path.iter().map(|node| node.index() as u32 - 1).collect(),
+                    target,
+                    score: best.score.to_bits(),
+                    sizesim: best.sizesim.to_bits(),
+                    seqsim: best.seqsim.to_bits(),
+                    scored: 0,
+                    complete: false,
+                }
+            }
+        }
+    };
+}
+
+build!(unchanged_build, unchanged);
+build!(ordered_build, ordered);
+
+/// N, the number of chains, or the cap if there are more: document 01's c(r), from the last row to the first.
+pub fn chains(call: &Call, cap: u64) -> u64 {
+    if !call.settings.full {
+        return cap.min(1);
+    }
+    let v = call.starts.len();
+    let mut grown = vec![0u64; v];
+    for r in (0..v).rev() {
+        let follows = |s: &usize| {
+            !unchanged::kplib::metrics::overlaps(call.starts[r], call.ends[r], call.starts[*s], call.ends[*s])
+        };
+        grown[r] = (r + 1..v).filter(follows).fold(1, |sum, s| cap.min(sum + grown[s]));
+    }
+    grown.iter().fold(1, |sum, c| cap.min(sum + c))
+}
+
+fn one_to_one(call: &Call) -> Judged {
+    ordered::notes::take();
+    let mut answer = ordered_build::answer(call);
+    let score_tie = ordered::notes::take().score_tie;
+    assert_eq!(answer, unchanged_build::answer(call), "one-to-one is the same in both builds: {call:?}");
+    answer.scored = call.starts.len() as u32 + 2;
+    answer.complete = true;
+    Judged {
+        answer,
+        by: if score_tie { By::Ordered } else { By::Unchanged },
+        distance_tie: false,
+        score_tie,
+        unchanged_differs: None,
+    }
+}
+
+fn search(call: &Call) -> Judged {
+    ordered::notes::take();
+    let mut answer = ordered_build::answer(call);
+    let notes = ordered::notes::take();
+    let mut unchanged = unchanged_build::answer(call);
+    let limit = u64::from(call.settings.maxpaths) + 1;
+    let count = chains(call, limit + 1);
+    assert_eq!(notes.scored, count.min(limit), "the count noted is the smaller of N and maxpaths + 1: {call:?}");
+    assert_eq!(notes.left == 0, count <= limit, "nothing is left queued exactly when N is within: {call:?}");
+    for said in [&mut answer, &mut unchanged] {
+        said.scored = notes.scored as u32;
+        said.complete = notes.left == 0;
+    }
+    let by = if notes.squish_empty {
+        By::Squish
+    } else if notes.distance_tie || notes.score_tie {
+        By::Ordered
+    } else {
+        By::Unchanged
+    };
+    if !notes.squish_empty && !notes.distance_tie {
+        assert_eq!(answer, unchanged, "where nothing ties both builds agree: {call:?}");
+    }
+    Judged {
+        unchanged_differs: (unchanged != answer).then_some(unchanged),
+        answer,
+        by,
+        distance_tie: notes.distance_tie,
+        score_tie: notes.score_tie,
+    }
+}
+
+/// The judge's answer to a call: document 01's refusals, else the Rust's.
+pub fn judged(call: &Call) -> Judged {
+    match call.refusal() {
+        0 if searches(&call.settings, call.starts.len()) => search(call),
+        0 => one_to_one(call),
+        number => Judged::refused(number),
+    }
+}
