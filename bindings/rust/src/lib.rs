@@ -109,6 +109,25 @@ pub struct Answer {
     pub complete: bool,
 }
 
+/// The queue's room. It grows to the largest search that it was lent to, and says nothing about any.
+#[derive(Clone, Debug, Default)]
+pub struct Room {
+    parents: Vec<u32>,
+    last_rows: Vec<u32>,
+    keys: Vec<u64>,
+}
+
+impl Room {
+    pub fn new() -> Self {
+        Self::default()
+    }
+
+    /// How much memory it holds: 16 bytes an entry.
+    pub fn bytes(&self) -> usize {
+        16 * self.keys.len()
+    }
+}
+
 fn checked<T>(number: u32, value: T) -> Result<T, Refusal> {
     match Refusal::new(number) {
         None => Ok(value),
@@ -119,8 +138,13 @@ fn checked<T>(number: u32, value: T) -> Result<T, Refusal> {
 /// The k-mer counts of a sequence, a row of 4^k entries; negative ones for a `negative` sequence.
 pub fn seq_to_kmer(sequence: &[u8], k: u8, negative: bool) -> Result<Vec<i32>, Refusal> {
     let mut row = vec![0; raw::entries(k)];
-    let number = raw::seq_to_kmer(sequence, k, negative, &mut row);
-    checked(number, row)
+    seq_to_kmer_into(sequence, k, negative, &mut row)?;
+    Ok(row)
+}
+
+/// The same in a row that the caller keeps, of 4^k entries; a refusal leaves it as it was.
+pub fn seq_to_kmer_into(sequence: &[u8], k: u8, negative: bool, row: &mut [i32]) -> Result<(), Refusal> {
+    checked(raw::seq_to_kmer(sequence, k, negative, row), ())
 }
 
 /// The similarity of two feature rows.
@@ -146,5 +170,10 @@ pub fn count_chains(table: &Table, full: bool, cap: u32) -> Result<u32, Refusal>
 
 /// The path of the table that best explains the haplotype.
 pub fn apply_haplotype(settings: &Settings, table: &Table, haplotype: &Haplotype) -> Result<Answer, Refusal> {
-    raw::apply_haplotype(settings, table, haplotype)
+    apply_haplotype_in(settings, table, haplotype, &mut Room::new())
+}
+
+/// The same in a room that the caller keeps: for many searches one after the other.
+pub fn apply_haplotype_in(settings: &Settings, table: &Table, haplotype: &Haplotype, room: &mut Room) -> Result<Answer, Refusal> {
+    raw::apply_haplotype(settings, table, haplotype, room)
 }

@@ -2,8 +2,9 @@
 //!
 //! Nothing checks these declarations against the proved source, so they stand together here. A
 //! slice passes as a pointer and then a length; each function asks nothing more of its caller than
-//! that the two belong together, which a Rust slice guarantees.
-use crate::{checked, Answer, Haplotype, Refusal, Settings, Table, Target};
+//! that the two belong together and that no lent buffer overlaps another, which Rust's slices
+//! guarantee.
+use crate::{checked, Answer, Haplotype, Refusal, Room, Settings, Table, Target};
 
 mod archive {
     extern "C" {
@@ -74,26 +75,24 @@ pub fn count_chains(starts: &[u64], ends: &[u64], full: bool, cap: u32, count: &
     unsafe { archive::nd_count_chains(starts.as_ptr(), starts.len(), ends.as_ptr(), ends.len(), full, cap, count) }
 }
 
-/// The queue that a search is lent: 1 + (maxpaths + 1) × V entries, and none where it will be refused anyway.
-struct Queue {
-    parents: Vec<u32>,
-    last_rows: Vec<u32>,
-    keys: Vec<u64>,
-}
-
-impl Queue {
-    fn new(settings: &Settings, rows: usize) -> Self {
-        let asked = settings.maxpaths <= 4095 && rows <= 64 && !settings.one_to_one;
-        let room = if asked { 1 + (settings.maxpaths as usize + 1) * rows } else { 0 };
-        Self { parents: vec![0; room], last_rows: vec![0; room], keys: vec![0; room] }
+impl Room {
+    /// Grows to what a search is asked to be lent: 1 + (maxpaths + 1) × V entries, and none where it will be refused anyway.
+    fn grow(&mut self, settings: &Settings, variants: usize) {
+        let asked = settings.maxpaths <= 4095 && variants <= 64 && !settings.one_to_one;
+        let entries = if asked { 1 + (settings.maxpaths as usize + 1) * variants } else { 0 };
+        if entries > self.keys.len() {
+            self.parents.resize(entries, 0);
+            self.last_rows.resize(entries, 0);
+            self.keys.resize(entries, 0);
+        }
     }
 }
 
-pub fn apply_haplotype(settings: &Settings, table: &Table, haplotype: &Haplotype) -> Result<Answer, Refusal> {
-    let mut queue = Queue::new(settings, table.len());
+pub fn apply_haplotype(settings: &Settings, table: &Table, haplotype: &Haplotype, room: &mut Room) -> Result<Answer, Refusal> {
+    room.grow(settings, table.len());
     let mut rows = vec![0; table.len()];
     let mut report = [0; 7];
-    let number = search(settings, table, haplotype, &mut queue, &mut rows, &mut report);
+    let number = search(settings, table, haplotype, room, &mut rows, &mut report);
     let [count, target, score, sizesim, seqsim, scored, complete] = report;
     let answer = Answer {
         rows: rows.iter().take(count as usize).map(|&row| row as usize).collect(),
@@ -116,7 +115,7 @@ fn target_of(number: u32) -> Target {
     }
 }
 
-fn search(settings: &Settings, table: &Table, haplotype: &Haplotype, queue: &mut Queue, rows: &mut [u32], report: &mut [u32; 7]) -> u32 {
+fn search(settings: &Settings, table: &Table, haplotype: &Haplotype, room: &mut Room, rows: &mut [u32], report: &mut [u32; 7]) -> u32 {
     let s = settings;
     unsafe {
         archive::nd_apply_haplotype(
@@ -145,12 +144,12 @@ fn search(settings: &Settings, table: &Table, haplotype: &Haplotype, queue: &mut
             haplotype.sizes().len(),
             haplotype.features().as_ptr(),
             haplotype.features().len(),
-            queue.parents.as_mut_ptr(),
-            queue.parents.len(),
-            queue.last_rows.as_mut_ptr(),
-            queue.last_rows.len(),
-            queue.keys.as_mut_ptr(),
-            queue.keys.len(),
+            room.parents.as_mut_ptr(),
+            room.parents.len(),
+            room.last_rows.as_mut_ptr(),
+            room.last_rows.len(),
+            room.keys.as_mut_ptr(),
+            room.keys.len(),
             rows.as_mut_ptr(),
             rows.len(),
             report,
