@@ -14,7 +14,7 @@ use Rattle.kplib.specs.Checked.{Checked}
 use Rattle.kplib.specs.Parts.{partLists}
 use Rattle.kplib.specs.Sums.{featuresOf}
 use Rattle.kplib.specs.Score.{start, afterList, afterLists, chainScore}
-use Rattle.kplib.specs.Scoring.{Tables, listOfCode, LaidList, Ready, chainTotal, Attempt, Attempted, Scorable}
+use Rattle.kplib.specs.Scoring.{Tables, listOfCode, LaidList, Ready, chainTotal, Attempt, Attempted, noneTried, Scorable}
 use Rattle.kplib.specs.declared.graphparams.Settings.{Settings}
 use Rattle.kplib.specs.declared.pathscore.Scored.{Scored}
 use Rattle.kplib.specs.declared.pathscore.Best.{Best}
@@ -54,10 +54,12 @@ Tried s features chain chainSize partSizes partFeatures best chainRow i =
     × (afterLists (stepOf s features chain chainSize partSizes partFeatures) (best .scored) (drop i (listsOf s partSizes))
     ≡ afterLists (stepOf s features chain chainSize partSizes partFeatures) start (listsOf s partSizes))
 
-pub none-tried : (s : Settings) (features : List ℤ) (chain : List ℕ) (chainSize : ℤ) (partSizes partFeatures chainRow : List ℤ) (b : Scored) → b ≡ start
-    → Tried s features chain chainSize partSizes partFeatures (record { scored = b; summed = false }) chainRow 0
-none-tried s features chain chainSize partSizes partFeatures chainRow b e =
-    (tt, ap (λ (x : Scored). afterLists (stepOf s features chain chainSize partSizes partFeatures) x (listsOf s partSizes)) e)
+pub none-tried : (s : Settings) (features : List ℤ) (chain : List ℕ) (chainSize : ℤ) (partSizes partFeatures chainRow : List ℤ) (b : Best) → b ≡ noneTried
+    → Tried s features chain chainSize partSizes partFeatures b chainRow 0
+none-tried s features chain chainSize partSizes partFeatures chainRow b e = (
+  subst (λ (x : Best). Ready (x .summed) chainRow (featuresOf (4 ^ s .k) features chain)) (sym e) tt,
+  ap (λ (x : Best). afterLists (stepOf s features chain chainSize partSizes partFeatures) (x .scored) (listsOf s partSizes)) e,
+)
 
 module _ (s : Settings) (sizes features : List ℤ) (chain : List ℕ) (chainSize : ℤ) (partSizes partFeatures : List ℤ) (codes : List ℕ) (listSizes : List ℤ) (count : ℕ) (chosen : List ℕ) (chainRow listRow : List ℤ)
     (y : Scorable s sizes features chain chainSize partSizes partFeatures codes listSizes count chosen chainRow listRow) where

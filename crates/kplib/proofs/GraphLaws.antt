@@ -8,11 +8,11 @@ use mathlib.Core.List.{List, [], _∷_}
 use lib.Dec.{leb}
 use lib.ListN.{length}
 use borrow.Author.Tests.{le-leb, lt-leb}
-use Rattle.paths.specs.Chains.{endNode, extends, step, chain, chainsFrom}
+use Rattle.paths.specs.Chains.{endNode, extends, isChain, chainsFrom}
 use Rattle.metrics.specs.Similarity.{overlapsOf}
 use Rattle.paths.specs.Count.{mayFollow, chainCount, rowCountWithin, sumRows}
 use Rattle.paths.proofs.CountLaws.{doc-full, doc-bare}
-use Rattle.kplib.specs.Graph.{edge, mayFollowIn, extendsIn, chainIn, chainsOf}
+use Rattle.kplib.specs.Graph.{edge, mayFollowIn, extendsIn, isChainIn, chainsOf}
 use Rattle.kplib.specs.GraphWalk.{extendsAt}
 
 and-false : (b : Bool) → (b && false) ≡ false
@@ -62,6 +62,6 @@ pub example-count : chainsOf (0 ∷ (5 ∷ (6 ∷ []))) (10 ∷ (5 ∷ (8 ∷ []
 unfolding chainCount rowCountWithin sumRows edge overlapsOf
 example-count = refl
 
-pub example-chain : chainIn (0 ∷ (5 ∷ (6 ∷ []))) (10 ∷ (5 ∷ (8 ∷ []))) true (2 ∷ (1 ∷ (0 ∷ []))) ≡ 1
-unfolding chain step extends edge overlapsOf
+pub example-chain : isChainIn (0 ∷ (5 ∷ (6 ∷ []))) (10 ∷ (5 ∷ (8 ∷ []))) true (2 ∷ (1 ∷ (0 ∷ []))) ≡ true
+unfolding isChain extends edge overlapsOf
 example-chain = refl

@@ -20,3 +20,11 @@ pub mod ChainScoreLaws
 pub mod AnchorLaws
 pub mod AnswerLaws
 pub mod PartExamples
+mod ScanLaws
+mod ExtensionLaws
+mod WeighLaws
+mod StepLaws
+mod PlaceLaws
+pub mod FoundLaws
+pub mod Demand3Laws
+mod Worked

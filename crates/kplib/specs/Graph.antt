@@ -4,7 +4,7 @@ use mathlib.Core.Bool.{Bool, not}
 use mathlib.Core.List.{List}
 use lib.ListN.{length, getD}
 use Rattle.metrics.specs.Similarity.{overlapsOf}
-use Rattle.paths.specs.Chains.{extends, extensions, chain}
+use Rattle.paths.specs.Chains.{extends, extensions, isChain}
 use Rattle.paths.specs.Count.{mayFollow, chainCount}
 use Rattle.kplib.specs.Numbers.{chainCountFault}
 use Rattle.kplib.specs.declared.vargraph.ChainCount.{ChainCount}
@@ -25,15 +25,15 @@ edge starts ends r s = not (overlapsOf (getD starts r 0) (getD ends r 0) (getD s
 abbrev pub mayFollowIn : List ℕ → List ℕ → Bool → List ℕ → ℕ → Bool
 mayFollowIn starts ends full c s = mayFollow (edge starts ends) full c s
 
--- a later row that extends c, c's extensions (highest row first), and 1 for a chain of the table, 0 for any other list
+-- a later row that extends c, c's extensions (highest row first), and whether c is a chain of the table
 abbrev pub extendsIn : List ℕ → List ℕ → Bool → List ℕ → ℕ → Bool
 extendsIn starts ends full = extends (mayFollowIn starts ends full)
 
 abbrev pub extensionsIn : List ℕ → List ℕ → Bool → List ℕ → List (List ℕ)
 extensionsIn starts ends full = extensions (mayFollowIn starts ends full) (length starts)
 
-abbrev pub chainIn : List ℕ → List ℕ → Bool → List ℕ → ℕ
-chainIn starts ends full = chain (mayFollowIn starts ends full) (length starts)
+abbrev pub isChainIn : List ℕ → List ℕ → Bool → List ℕ → Bool
+isChainIn starts ends full = isChain (mayFollowIn starts ends full) (length starts)
 
 -- N: 1 in a bare graph; else 1 plus, for each row r, c(r). It is `chainsFrom .. []`, the number of chains (GraphLaws)
 abbrev pub chainsOf : List ℕ → List ℕ → Bool → ℕ

@@ -8,3 +8,7 @@ pub mod Sums
 pub mod Score
 pub mod Scoring
 pub mod OneToOne
+pub mod Search
+pub mod Answer
+pub mod SearchSteps
+pub mod Demand3

@@ -11,7 +11,7 @@ use Rattle.metrics.specs.Similarity.{whole, sizesimValue, magnitudeSum}
 use Rattle.kplib.specs.Checked.{rowAt, Below, Flat, Sized}
 use Rattle.kplib.specs.Parts.{positionsFrom, wholeOf, choices, fallingLists, partLists}
 use Rattle.kplib.specs.Sums.{sizeOf, featuresOf, Total}
-use Rattle.kplib.specs.Score.{sign, gapOf, scoreValue, afterList}
+use Rattle.kplib.specs.Score.{sign, gapOf, scoreValue, start, afterList}
 use Rattle.kplib.specs.declared.graphparams.Settings.{Settings}
 use Rattle.kplib.specs.declared.pathscore.Scored.{Scored}
 use Rattle.kplib.specs.declared.pathscore.Best.{Best}
@@ -165,6 +165,10 @@ pub record Attempted (s : Settings) (features : List ℤ) (chain : List ℕ) (ch
   pub ready : Ready (r .summed) chainRow (featuresOf (4 ^ s .k) features chain)
 
 -- ---- a chain, and one-to-one
+
+-- before the first list
+abbrev pub noneTried : Best
+noneTried = record { scored = start; summed = false }
 
 -- what scoring a chain asks: the tables, the chain's rows and size, the lists laid down, and the scratch
 pub record Scorable (s : Settings) (sizes features : List ℤ) (chain : List ℕ) (chainSize : ℤ) (partSizes partFeatures : List ℤ) (codes : List ℕ) (listSizes : List ℤ) (count : ℕ) (chosen : List ℕ) (chainRow listRow : List ℤ) : Type 0 where

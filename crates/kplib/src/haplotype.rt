@@ -40,7 +40,7 @@ fn plus_part(size: i32, part_sizes: &[i32], p: usize) -> i32
 // Lays down the lists that begin with the d positions of `bits` and go on with n positions from p: those that take p, then
 // those that do not. Returns the end.
 fn lay_choices(
-    part_sizes: &[i32],
+    sizes: &[i32],
     p: usize,
     n: usize,
     d: u32,
@@ -49,44 +49,25 @@ fn lay_choices(
     size: i32,
     at: usize,
     codes: &mut [u32],
-    list_sizes: &mut [i32],
+    totals: &mut [i32],
 ) -> usize
-    requires { ⌜ Choosing p n d bits bit at size (now «part_sizes») (now codes) (now «list_sizes») ⌝ }
-    ensures { λ r. ⌜ Chosen p n bits at (now («part_sizes» .entry)) (now (codes .entry)) (now (codes .exit)) (now («list_sizes» .entry)) (now («list_sizes» .exit)) r ⌝ }
+    requires { ⌜ Choosing p n d bits bit at size (now sizes) (now codes) (now totals) ⌝ }
+    ensures { λ r. ⌜ Chosen p n bits at (now (sizes .entry)) (now (codes .entry)) (now (codes .exit)) (now (totals .entry)) (now (totals .exit)) r ⌝ }
 {
-    if part_sizes.len() - p < n {
+    if sizes.len() - p < n {
         return at;
     }
     if n == 0 {
         codes[at] = bits + 65536 * d;
-        list_sizes[at] = size;
+        totals[at] = size;
         return at + 1;
     }
-    let more = plus_part(size, part_sizes, p);
-    let mid = lay_choices(
-        part_sizes,
-        p + 1,
-        n - 1,
-        d + 1,
-        bits + bit,
-        bit * 2,
-        more,
-        at,
-        codes,
-        list_sizes,
-    );
-    lay_choices(
-        part_sizes,
-        p + 1,
-        n,
-        d,
-        bits,
-        bit * 2,
-        size,
-        mid,
-        codes,
-        list_sizes,
-    )
+    let q = p + 1;
+    let next = bit * 2;
+    let taken = bits + bit;
+    let more = plus_part(size, sizes, p);
+    let mid = lay_choices(sizes, q, n - 1, d + 1, taken, next, more, at, codes, totals);
+    lay_choices(sizes, q, n, d, bits, next, size, mid, codes, totals)
 }
 
 // Lays down the lists of m parts, then of m - 1, for so many lengths. Returns their number.

@@ -4,5 +4,6 @@ pub mod graphparams;
 mod haplotype;
 mod onetoone;
 pub mod pathscore;
+mod queue;
 pub mod traverse;
 pub mod vargraph;

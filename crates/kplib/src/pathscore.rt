@@ -8,7 +8,7 @@ ghost use lib.ListN.{length};
 ghost use Rattle.metrics.specs.Similarity.{sizesimValue, magnitudeSum};
 ghost use Rattle.kplib.specs.Sums.{rowPlus, zeros, featuresFrom, featuresOf, Total};
 ghost use Rattle.kplib.specs.Score.{sign, seqsimOfRows, gapOf, scoreValue, listScore, start, targetOf, greaterOf, chainScore};
-ghost use Rattle.kplib.specs.Scoring.{Summable, Ready, Comparable, mayWin, total, listOfCode, Attempt, Attempted, Scorable};
+ghost use Rattle.kplib.specs.Scoring.{Summable, Ready, Comparable, mayWin, total, listOfCode, Attempt, Attempted, noneTried, Scorable};
 use crate::graphparams::Settings;
 use crate::haplotype::positions;
 use metrics::Sim;
@@ -280,23 +280,15 @@ fn try_list(
 {
     let m = part_sizes.len();
     let n = (code / 65536) as usize;
+    let len = chain.len();
     let old = best.scored;
-    if !may_win(s, chain_size, chain.len(), size, n, m - n, old.score) {
+    if !may_win(s, chain_size, len, size, n, m - n, old.score) {
         return best;
     }
     let d = positions(code, m, chosen);
     ready(features, chain, chain_row, best.summed);
     sum_rows(part_features, &chosen[..d], list_row);
-    let verdict = list_score(
-        s,
-        chain_size,
-        chain_row,
-        chain.len(),
-        size,
-        list_row,
-        n,
-        m - n,
-    );
+    let verdict = list_score(s, chain_size, chain_row, len, size, list_row, n, m - n);
     let scored = greater_of(old, m - n, verdict);
     Best {
         scored,
@@ -304,7 +296,19 @@ fn try_list(
     }
 }
 
-// The score of a chain. The scratch is lent, so that nothing is cleared for a chain that no list passes the tests with.
+// Before the first list.
+fn none_tried() -> Best
+    ensures { λ r. ⌜ r ≡ noneTried ⌝ }
+{
+    let scored = nothing();
+    Best {
+        scored,
+        summed: false,
+    }
+}
+
+// The score of a chain. The scratch is lent, so that nothing is cleared for a chain that no list passes the tests with;
+// `sizes` stands in the contract alone.
 pub(crate) fn score_chain(
     s: Settings,
     sizes: &[i32],
@@ -323,11 +327,7 @@ pub(crate) fn score_chain(
     requires { ⌜ Scorable s (now sizes) (now features) (now chain) «chain_size» (now «part_sizes») (now «part_features») (now codes) (now «list_sizes») count (now chosen) (now «chain_row») (now «list_row») ⌝ }
     ensures { λ r. ⌜ r ≡ chainScore s (now (sizes .entry)) (now (features .entry)) (now («part_sizes» .entry)) (now («part_features» .entry)) (now (chain .entry)) ⌝ }
 {
-    let scored = nothing();
-    let mut best = Best {
-        scored,
-        summed: false,
-    };
+    let mut best = none_tried();
     let mut i: usize = 0;
     while i < count {
         best = try_list(

@@ -1,5 +1,36 @@
 // The search over the chains of a table, and the one-to-one match (traverse.rs).
+ghost use mathlib.Core.Path.{_≡_};
+ghost use mathlib.Core.Bool.{Bool, true, false, cond};
+ghost use mathlib.Core.List.{List, [], _∷_, _++_, reverse};
+ghost use Prim.Native.Nat.{ℕ, _+_, _*_, _<_, _≤_, min};
+ghost use lib.Ieee.{le};
+ghost use lib.ListN.{length, getD, take, drop};
+ghost use Rattle.paths.specs.Queue.{chainAt, Walk};
+ghost use Rattle.kplib.specs.Checked.{Checked};
+ghost use Rattle.kplib.specs.Numbers.{tableOf, partsOf, firstFault, searchMode};
+ghost use Rattle.kplib.specs.OneToOne.{oneToOne, loneRows, loneRowsAt};
+ghost use Rattle.kplib.specs.Scoring.{Tables};
+ghost use Rattle.kplib.specs.Search.{rowsFor};
+ghost use Rattle.kplib.specs.Answer.{searched, matchedAlone, foundAfter, answerWith, queueRoom, answerOf, rowsOf, placed, searches};
+ghost use Rattle.kplib.specs.SearchSteps.{answerParts, matchedBy, Weighable, WeighedAs, Searchable, Going, Gone, Startable, Scratch, Acceptable};
+use crate::checks::call_fault;
+use crate::graphparams::Settings;
+use crate::graphparams::entries;
+use crate::graphparams::search_mode;
+use crate::haplotype::lay_lists;
+use crate::haplotype::whole_size;
+use crate::onetoone::Lone;
+use crate::onetoone::one_to_one;
+use crate::pathscore::Scored;
 use crate::pathscore::Target;
+use crate::pathscore::nothing;
+use crate::pathscore::score_chain;
+use crate::queue::end_node;
+use crate::queue::key;
+use crate::queue::queue_extensions;
+use crate::queue::read_chain;
+use crate::queue::rows_size;
+use crate::queue::take_next;
 
 // `rows` is how many row numbers stand at the front of the answer buffer; `refusal` is 0 where the job was accepted.
 pub struct Answer {
@@ -11,4 +42,580 @@ pub struct Answer {
     pub seqsim: f32,
     pub scored: u32,
     pub complete: bool,
+}
+
+// A chain's size and score.
+pub(crate) struct Weighed {
+    size: i32,
+    scored: Scored,
+}
+
+// The best result so far: the entry whose chain has it, and its score.
+pub(crate) struct Leader {
+    entry: usize,
+    scored: Scored,
+}
+
+// Where a search stands: how many entries and how many keys the queue has, how many chains are scored, and the best of them.
+pub(crate) struct Progress {
+    used: usize,
+    queued: usize,
+    count: usize,
+    best: Leader,
+}
+
+// Reads an entry's chain back, and scores it.
+fn weigh(
+    s: Settings,
+    sizes: &[i32],
+    features: &[i32],
+    part_sizes: &[i32],
+    part_features: &[i32],
+    codes: &[u32],
+    list_sizes: &[i32],
+    count: usize,
+    parents: &[u32],
+    lasts: &[u32],
+    entry: usize,
+    chain_row: &mut [i32],
+    list_row: &mut [i32],
+) -> Weighed
+    requires { ⌜ Weighable s (now sizes) (now features) (now «part_sizes») (now «part_features») (now codes) (now «list_sizes») count (now parents) (now lasts) entry (now «chain_row») (now «list_row») ⌝ }
+    ensures { λ r. ⌜ WeighedAs s (now (sizes .entry)) (now (features .entry)) (now («part_sizes» .entry)) (now («part_features» .entry)) (reverse (chainAt (now (parents .entry)) (now (lasts .entry)) entry)) r ⌝ }
+{
+    let mut chain = [0u32; 64];
+    let mut chosen = [0u32; 64];
+    let at = read_chain(parents, lasts, entry, &mut chain);
+    let size = rows_size(sizes, &chain[at..]);
+    let scored = score_chain(
+        s,
+        sizes,
+        features,
+        &chain[at..],
+        size,
+        part_sizes,
+        part_features,
+        codes,
+        list_sizes,
+        count,
+        &mut chosen,
+        chain_row,
+        list_row,
+    );
+    Weighed { size, scored }
+}
+
+// The later of two results, unless it is lower.
+fn later_of(a: Leader, b: Leader) -> Leader
+    ensures { λ r. ⌜ r ≡ cond (le (a .scored .score) (b .scored .score)) b a ⌝ }
+{
+    let old = a.scored;
+    let new = b.scored;
+    if old.score <= new.score { b } else { a }
+}
+
+// One step of the search: takes the nearest chain, scores it, and queues its extensions.
+fn step(
+    s: Settings,
+    starts: &[u64],
+    ends: &[u64],
+    sizes: &[i32],
+    features: &[i32],
+    part_sizes: &[i32],
+    part_features: &[i32],
+    codes: &[u32],
+    list_sizes: &[i32],
+    count: usize,
+    target: i32,
+    parents: &mut [u32],
+    lasts: &mut [u32],
+    keys: &mut [u64],
+    chain_row: &mut [i32],
+    list_row: &mut [i32],
+    at: Progress,
+) -> Progress
+    requires { ⌜ Searchable s (tableOf (now starts) (now ends) (now sizes) (now features)) (partsOf (now «part_sizes») (now «part_features»)) target (now codes) (now «list_sizes») count (length (now parents)) (length (now lasts)) (length (now keys)) (length (now «chain_row»)) (length (now «list_row»)) ⌝ }
+    requires { ⌜ (0 < at .queued) × (at .count < s .maxpaths + 1) × (Going s (tableOf (now starts) (now ends) (now sizes) (now features)) (partsOf (now «part_sizes») (now «part_features»)) (now parents) (now lasts) (now keys) at) ⌝ }
+    ensures { λ r. ⌜ Going s (tableOf (now (starts .entry)) (now (ends .entry)) (now (sizes .entry)) (now (features .entry))) (partsOf (now («part_sizes» .entry)) (now («part_features» .entry))) (now (parents .exit)) (now (lasts .exit)) (now (keys .exit)) r ⌝ }
+    ensures { λ r. ⌜ r .count ≡ at .count + 1 ⌝ }
+{
+    let entry = take_next(keys, at.queued);
+    let weighed = weigh(
+        s,
+        sizes,
+        features,
+        part_sizes,
+        part_features,
+        codes,
+        list_sizes,
+        count,
+        parents,
+        lasts,
+        entry,
+        chain_row,
+        list_row,
+    );
+    let scored = weighed.scored;
+    let best = later_of(at.best, Leader { entry, scored });
+    let end = end_node(lasts, entry);
+    let added = queue_extensions(
+        starts,
+        ends,
+        sizes,
+        s.full,
+        target,
+        parents,
+        lasts,
+        keys,
+        at.used,
+        at.queued - 1,
+        entry,
+        end,
+        weighed.size,
+    );
+    Progress {
+        used: at.used + added,
+        queued: at.queued - 1 + added,
+        count: at.count + 1,
+        best,
+    }
+}
+
+// Steps until none is queued or maxpaths + 1 chains are scored.
+fn run(
+    s: Settings,
+    starts: &[u64],
+    ends: &[u64],
+    sizes: &[i32],
+    features: &[i32],
+    part_sizes: &[i32],
+    part_features: &[i32],
+    codes: &[u32],
+    list_sizes: &[i32],
+    count: usize,
+    target: i32,
+    parents: &mut [u32],
+    lasts: &mut [u32],
+    keys: &mut [u64],
+    chain_row: &mut [i32],
+    list_row: &mut [i32],
+    from: Progress,
+) -> Progress
+    requires { ⌜ Searchable s (tableOf (now starts) (now ends) (now sizes) (now features)) (partsOf (now «part_sizes») (now «part_features»)) target (now codes) (now «list_sizes») count (length (now parents)) (length (now lasts)) (length (now keys)) (length (now «chain_row»)) (length (now «list_row»)) ⌝ }
+    requires { ⌜ Going s (tableOf (now starts) (now ends) (now sizes) (now features)) (partsOf (now «part_sizes») (now «part_features»)) (now parents) (now lasts) (now keys) from ⌝ }
+    ensures { λ r. ⌜ Gone s (tableOf (now (starts .entry)) (now (ends .entry)) (now (sizes .entry)) (now (features .entry))) (partsOf (now («part_sizes» .entry)) (now («part_features» .entry))) (now (parents .exit)) (now (lasts .exit)) r ⌝ }
+{
+    let steps = s.maxpaths as usize + 1;
+    let mut at = from;
+    loop {
+        if at.queued == 0 {
+            return at;
+        }
+        if at.count == steps {
+            return at;
+        }
+        at = step(
+            s,
+            starts,
+            ends,
+            sizes,
+            features,
+            part_sizes,
+            part_features,
+            codes,
+            list_sizes,
+            count,
+            target,
+            parents,
+            lasts,
+            keys,
+            chain_row,
+            list_row,
+            at,
+        );
+    }
+}
+
+// Whether some part list matched.
+fn matched(target: Target) -> bool
+    ensures { λ r. ⌜ r ≡ matchedBy target ⌝ }
+{
+    match target {
+        Target::Nothing => false,
+        Target::Whole => true,
+        Target::Partial(left) => true,
+    }
+}
+
+// Writes rows to the front of the answer buffer.
+fn put_rows(from: &[u32], rows: &mut [u32])
+    requires { ⌜ length (now from) ≤ length (now rows) ⌝ }
+    ensures { λ _. ⌜ now (rows .exit) ≡ placed (now (rows .entry)) (now (from .entry)) ⌝ }
+{
+    let mut i: usize = 0;
+    while i < from.len() {
+        rows[i] = from[i];
+        i += 1;
+    }
+}
+
+// Writes the rows of an entry's chain to the front of the answer buffer. Returns how many.
+fn copy_chain(parents: &[u32], lasts: &[u32], entry: usize, rows: &mut [u32]) -> usize
+    requires { ⌜ (Walk (now parents) (now lasts) entry 64) × (length (chainAt (now parents) (now lasts) entry) ≤ length (now rows)) ⌝ }
+    ensures { λ r. ⌜ (r ≡ length (reverse (chainAt (now (parents .entry)) (now (lasts .entry)) entry))) × (now (rows .exit) ≡ placed (now (rows .entry)) (reverse (chainAt (now (parents .entry)) (now (lasts .entry)) entry))) ⌝ }
+{
+    let mut chain = [0u32; 64];
+    let at = read_chain(parents, lasts, entry, &mut chain);
+    put_rows(&chain[at..], rows);
+    64 - at
+}
+
+// The same only where some part list matched.
+fn place_chain(
+    parents: &[u32],
+    lasts: &[u32],
+    entry: usize,
+    target: Target,
+    rows: &mut [u32],
+) -> usize
+    requires { ⌜ (Walk (now parents) (now lasts) entry 64) × (length (chainAt (now parents) (now lasts) entry) ≤ length (now rows)) ⌝ }
+    ensures { λ r. ⌜ (r ≡ length (rowsFor target (reverse (chainAt (now (parents .entry)) (now (lasts .entry)) entry)))) × (now (rows .exit) ≡ placed (now (rows .entry)) (rowsFor target (reverse (chainAt (now (parents .entry)) (now (lasts .entry)) entry)))) ⌝ }
+{
+    if matched(target) {
+        return copy_chain(parents, lasts, entry, rows);
+    }
+    0
+}
+
+// A single row, where the haplotype matched it.
+fn place_row(row: u32, target: Target, rows: &mut [u32]) -> usize
+    requires { ⌜ 1 ≤ length (now rows) ⌝ }
+    ensures { λ r. ⌜ (r ≡ length (loneRowsAt target row)) × (now (rows .exit) ≡ placed (now (rows .entry)) (loneRowsAt target row)) ⌝ }
+{
+    if matched(target) {
+        rows[0] = row;
+        return 1;
+    }
+    0
+}
+
+fn answer_with(refusal: u32, rows: usize, x: Scored, count: usize, complete: bool) -> Answer
+    requires { ⌜ (rows ≤ 64) × (count ≤ 4096) ⌝ }
+    ensures { λ r. ⌜ r ≡ answerParts refusal rows x count complete ⌝ }
+{
+    let target = x.target;
+    Answer {
+        refusal,
+        rows: rows as u32,
+        target,
+        score: x.score,
+        sizesim: x.sizesim,
+        seqsim: x.seqsim,
+        scored: count as u32,
+        complete,
+    }
+}
+
+// The search with lent scratch: the part lists are laid down once, the empty chain is queued, and then it runs.
+fn search_with(
+    s: Settings,
+    starts: &[u64],
+    ends: &[u64],
+    sizes: &[i32],
+    features: &[i32],
+    part_sizes: &[i32],
+    part_features: &[i32],
+    parents: &mut [u32],
+    lasts: &mut [u32],
+    keys: &mut [u64],
+    codes: &mut [u32],
+    list_sizes: &mut [i32],
+    chain_row: &mut [i32],
+    list_row: &mut [i32],
+) -> Progress
+    requires { ⌜ Startable s (tableOf (now starts) (now ends) (now sizes) (now features)) (partsOf (now «part_sizes») (now «part_features»)) (length (now parents)) (length (now lasts)) (length (now keys)) ⌝ }
+    requires { ⌜ Scratch (length (now codes)) (length (now «list_sizes»)) (length (now «chain_row»)) (length (now «list_row»)) ⌝ }
+    ensures { λ r. ⌜ Gone s (tableOf (now (starts .entry)) (now (ends .entry)) (now (sizes .entry)) (now (features .entry))) (partsOf (now («part_sizes» .entry)) (now («part_features» .entry))) (now (parents .exit)) (now (lasts .exit)) r ⌝ }
+{
+    let width = entries(s.k);
+    let count = lay_lists(s, part_sizes, codes, list_sizes);
+    let target = whole_size(part_sizes);
+    keys[0] = key(0, target, 0);
+    let scored = nothing();
+    let best = Leader { entry: 0, scored };
+    let from = Progress {
+        used: 1,
+        queued: 1,
+        count: 0,
+        best,
+    };
+    run(
+        s,
+        starts,
+        ends,
+        sizes,
+        features,
+        part_sizes,
+        part_features,
+        codes,
+        list_sizes,
+        count,
+        target,
+        parents,
+        lasts,
+        keys,
+        &mut chain_row[..width],
+        &mut list_row[..width],
+        from,
+    )
+}
+
+// The search, with its scratch: codes and sizes of at most 2,047 part lists, and two feature rows.
+fn search(
+    s: Settings,
+    starts: &[u64],
+    ends: &[u64],
+    sizes: &[i32],
+    features: &[i32],
+    part_sizes: &[i32],
+    part_features: &[i32],
+    parents: &mut [u32],
+    lasts: &mut [u32],
+    keys: &mut [u64],
+) -> Progress
+    requires { ⌜ Startable s (tableOf (now starts) (now ends) (now sizes) (now features)) (partsOf (now «part_sizes») (now «part_features»)) (length (now parents)) (length (now lasts)) (length (now keys)) ⌝ }
+    ensures { λ r. ⌜ Gone s (tableOf (now (starts .entry)) (now (ends .entry)) (now (sizes .entry)) (now (features .entry))) (partsOf (now («part_sizes» .entry)) (now («part_features» .entry))) (now (parents .exit)) (now (lasts .exit)) r ⌝ }
+{
+    let mut codes = [0u32; 2047];
+    let mut list_sizes = [0i32; 2047];
+    let mut chain_row = [0i32; 4096];
+    let mut list_row = [0i32; 4096];
+    search_with(
+        s,
+        starts,
+        ends,
+        sizes,
+        features,
+        part_sizes,
+        part_features,
+        parents,
+        lasts,
+        keys,
+        &mut codes,
+        &mut list_sizes,
+        &mut chain_row,
+        &mut list_row,
+    )
+}
+
+// The answer of a search.
+fn answer_search(
+    s: Settings,
+    starts: &[u64],
+    ends: &[u64],
+    sizes: &[i32],
+    features: &[i32],
+    part_sizes: &[i32],
+    part_features: &[i32],
+    parents: &mut [u32],
+    lasts: &mut [u32],
+    keys: &mut [u64],
+    rows: &mut [u32],
+) -> Answer
+    requires { ⌜ Startable s (tableOf (now starts) (now ends) (now sizes) (now features)) (partsOf (now «part_sizes») (now «part_features»)) (length (now parents)) (length (now lasts)) (length (now keys)) ⌝ }
+    requires { ⌜ length (now starts) ≤ length (now rows) ⌝ }
+    ensures { λ r. ⌜ r ≡ answerWith 0 (searched s (tableOf (now (starts .entry)) (now (ends .entry)) (now (sizes .entry)) (now (features .entry))) (partsOf (now («part_sizes» .entry)) (now («part_features» .entry)))) ⌝ }
+    ensures { λ _. ⌜ now (rows .exit) ≡ placed (now (rows .entry)) (searched s (tableOf (now (starts .entry)) (now (ends .entry)) (now (sizes .entry)) (now (features .entry))) (partsOf (now («part_sizes» .entry)) (now («part_features» .entry))) .rows) ⌝ }
+{
+    let end = search(
+        s,
+        starts,
+        ends,
+        sizes,
+        features,
+        part_sizes,
+        part_features,
+        parents,
+        lasts,
+        keys,
+    );
+    let best = end.best;
+    let scored = best.scored;
+    let target = scored.target;
+    let n = place_chain(parents, lasts, best.entry, target, rows);
+    answer_with(0, n, scored, end.count, end.queued == 0)
+}
+
+// The one-to-one match with lent scratch.
+fn alone_with(
+    s: Settings,
+    sizes: &[i32],
+    features: &[i32],
+    part_sizes: &[i32],
+    part_features: &[i32],
+    chosen: &mut [u32],
+    whole_row: &mut [i32],
+) -> Lone
+    requires { ⌜ (1 ≤ s .k) × (s .k ≤ 6) × (Tables s (now sizes) (now features) (now «part_sizes») (now «part_features»)) × (length (now chosen) ≡ 64) × (length (now «whole_row») ≡ 4096) ⌝ }
+    ensures { λ r. ⌜ r ≡ (oneToOne s (now (sizes .entry)) (now (features .entry)) (now («part_sizes» .entry)) (now («part_features» .entry))) ⌝ }
+{
+    let width = entries(s.k);
+    one_to_one(
+        s,
+        sizes,
+        features,
+        part_sizes,
+        part_features,
+        chosen,
+        &mut whole_row[..width],
+    )
+}
+
+// The one-to-one match, with its scratch.
+fn alone(
+    s: Settings,
+    sizes: &[i32],
+    features: &[i32],
+    part_sizes: &[i32],
+    part_features: &[i32],
+) -> Lone
+    requires { ⌜ (1 ≤ s .k) × (s .k ≤ 6) × (Tables s (now sizes) (now features) (now «part_sizes») (now «part_features»)) ⌝ }
+    ensures { λ r. ⌜ r ≡ (oneToOne s (now (sizes .entry)) (now (features .entry)) (now («part_sizes» .entry)) (now («part_features» .entry))) ⌝ }
+{
+    let mut chosen = [0u32; 64];
+    let mut whole_row = [0i32; 4096];
+    alone_with(
+        s,
+        sizes,
+        features,
+        part_sizes,
+        part_features,
+        &mut chosen,
+        &mut whole_row,
+    )
+}
+
+// The answer of the one-to-one match.
+fn answer_alone(
+    s: Settings,
+    starts: &[u64],
+    ends: &[u64],
+    sizes: &[i32],
+    features: &[i32],
+    part_sizes: &[i32],
+    part_features: &[i32],
+    rows: &mut [u32],
+) -> Answer
+    requires { ⌜ Checked s (now starts) (now ends) (now sizes) (now features) (now «part_sizes») (now «part_features») ⌝ }
+    requires { ⌜ length (now starts) ≤ length (now rows) ⌝ }
+    ensures { λ r. ⌜ r ≡ answerWith 0 (matchedAlone s (tableOf (now (starts .entry)) (now (ends .entry)) (now (sizes .entry)) (now (features .entry))) (partsOf (now («part_sizes» .entry)) (now («part_features» .entry)))) ⌝ }
+    ensures { λ _. ⌜ now (rows .exit) ≡ placed (now (rows .entry)) (matchedAlone s (tableOf (now (starts .entry)) (now (ends .entry)) (now (sizes .entry)) (now (features .entry))) (partsOf (now («part_sizes» .entry)) (now («part_features» .entry))) .rows) ⌝ }
+{
+    let lone = alone(s, sizes, features, part_sizes, part_features);
+    let scored = lone.scored;
+    let target = scored.target;
+    let n = place_row(lone.row, target, rows);
+    answer_with(0, n, scored, starts.len() + 2, true)
+}
+
+// The answer of an accepted job, by its mode.
+fn answer_accepted(
+    s: Settings,
+    starts: &[u64],
+    ends: &[u64],
+    sizes: &[i32],
+    features: &[i32],
+    part_sizes: &[i32],
+    part_features: &[i32],
+    parents: &mut [u32],
+    lasts: &mut [u32],
+    keys: &mut [u64],
+    rows: &mut [u32],
+) -> Answer
+    requires { ⌜ Acceptable s (tableOf (now starts) (now ends) (now sizes) (now features)) (partsOf (now «part_sizes») (now «part_features»)) (length (now parents)) (length (now lasts)) (length (now keys)) (length (now rows)) ⌝ }
+    ensures { λ r. ⌜ r ≡ answerWith 0 (foundAfter 0 s (tableOf (now (starts .entry)) (now (ends .entry)) (now (sizes .entry)) (now (features .entry))) (partsOf (now («part_sizes» .entry)) (now («part_features» .entry)))) ⌝ }
+    ensures { λ _. ⌜ now (rows .exit) ≡ placed (now (rows .entry)) (foundAfter 0 s (tableOf (now (starts .entry)) (now (ends .entry)) (now (sizes .entry)) (now (features .entry))) (partsOf (now («part_sizes» .entry)) (now («part_features» .entry))) .rows) ⌝ }
+    ensures { λ _. ⌜ ((searchMode s (length (now (starts .entry))) ≡ false) → (now (parents .exit) ≡ now (parents .entry)) × (now (lasts .exit) ≡ now (lasts .entry)) × (now (keys .exit) ≡ now (keys .entry))) ⌝ }
+{
+    if search_mode(s, starts.len()) {
+        return answer_search(
+            s,
+            starts,
+            ends,
+            sizes,
+            features,
+            part_sizes,
+            part_features,
+            parents,
+            lasts,
+            keys,
+            rows,
+        );
+    }
+    answer_alone(
+        s,
+        starts,
+        ends,
+        sizes,
+        features,
+        part_sizes,
+        part_features,
+        rows,
+    )
+}
+
+fn smaller(a: usize, b: usize) -> usize
+    ensures { λ r. ⌜ r ≡ min a b ⌝ }
+{
+    if a < b { a } else { b }
+}
+
+// The best chain of a table for a haplotype, or the best node alone. `parents`, `last_rows` and `keys` are the queue's room.
+pub fn apply_haplotype(
+    s: Settings,
+    starts: &[u64],
+    ends: &[u64],
+    sizes: &[i32],
+    features: &[i32],
+    part_sizes: &[i32],
+    part_features: &[i32],
+    parents: &mut [u32],
+    last_rows: &mut [u32],
+    keys: &mut [u64],
+    rows: &mut [u32],
+) -> Answer
+    ensures { λ r. ⌜ r ≡ answerOf s (tableOf (now (starts .entry)) (now (ends .entry)) (now (sizes .entry)) (now (features .entry))) (partsOf (now («part_sizes» .entry)) (now («part_features» .entry))) (queueRoom (now (parents .entry)) (now («last_rows» .entry)) (now (keys .entry))) (length (now (rows .entry))) ⌝ }
+    ensures { λ _. ⌜ now (rows .exit) ≡ placed (now (rows .entry)) (rowsOf s (tableOf (now (starts .entry)) (now (ends .entry)) (now (sizes .entry)) (now (features .entry))) (partsOf (now («part_sizes» .entry)) (now («part_features» .entry))) (queueRoom (now (parents .entry)) (now («last_rows» .entry)) (now (keys .entry))) (length (now (rows .entry)))) ⌝ }
+    ensures { λ _. ⌜ ((searches s (tableOf (now (starts .entry)) (now (ends .entry)) (now (sizes .entry)) (now (features .entry))) (partsOf (now («part_sizes» .entry)) (now («part_features» .entry))) (queueRoom (now (parents .entry)) (now («last_rows» .entry)) (now (keys .entry))) (length (now (rows .entry))) ≡ false) → now (parents .exit) ≡ now (parents .entry)) ⌝ }
+    ensures { λ _. ⌜ ((searches s (tableOf (now (starts .entry)) (now (ends .entry)) (now (sizes .entry)) (now (features .entry))) (partsOf (now («part_sizes» .entry)) (now («part_features» .entry))) (queueRoom (now (parents .entry)) (now («last_rows» .entry)) (now (keys .entry))) (length (now (rows .entry))) ≡ false) → now («last_rows» .exit) ≡ now («last_rows» .entry)) ⌝ }
+    ensures { λ _. ⌜ ((searches s (tableOf (now (starts .entry)) (now (ends .entry)) (now (sizes .entry)) (now (features .entry))) (partsOf (now («part_sizes» .entry)) (now («part_features» .entry))) (queueRoom (now (parents .entry)) (now («last_rows» .entry)) (now (keys .entry))) (length (now (rows .entry))) ≡ false) → now (keys .exit) ≡ now (keys .entry)) ⌝ }
+{
+    let room = smaller(parents.len(), smaller(last_rows.len(), keys.len()));
+    let refusal = call_fault(
+        s,
+        starts,
+        ends,
+        sizes,
+        features,
+        part_sizes,
+        part_features,
+        room,
+        rows.len(),
+    );
+    if refusal != 0 {
+        return answer_with(refusal, 0, nothing(), 0, false);
+    }
+    answer_accepted(
+        s,
+        starts,
+        ends,
+        sizes,
+        features,
+        part_sizes,
+        part_features,
+        parents,
+        last_rows,
+        keys,
+        rows,
+    )
 }

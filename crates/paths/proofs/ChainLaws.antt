@@ -8,7 +8,7 @@ use lib.Dec.{leb, ltb, eqb}
 use lib.ListN.{length}
 use borrow.Author.Tests.{leb-true, leb-false, ltb-true, ltb-false, eqb-true, eqb-false, eq-eqb, lt-ltb, le-ltb, ne-eqb}
 use Rattle.paths.specs.Sums.{sumBy, bit, sameRows, timesIn}
-use Rattle.paths.specs.Chains.{endNode, extends, extensions, step, chain, chainsWithin, chainsFrom}
+use Rattle.paths.specs.Chains.{endNode, extends, extensions, isChain, chainsWithin, chainsFrom}
 use Rattle.paths.specs.Search.{scored, left}
 use Rattle.paths.proofs.SumLaws.{sum-append, sum-one, bit-and, bit-le, sameRows-eq, sameRows-refl}
 use Rattle.paths.proofs.SearchLaws.{conserve}
@@ -61,10 +61,14 @@ module _ (follows : List ℕ → ℕ → Bool) where
         let b = sum-extensions (λ e. chainsWithin follows n (n - endNode c) e) (λ e. chainsFrom follows n e) c n (λ s l e. enough (n - endNode c) (n - suc s) (s ∷ c) (omega (arith, extends-endNode c s e)) (omega arith)) in
         omega (arith, a, b)
 
+    -- 1 if s is a row that extends c, 0 else
+    step : List ℕ → ℕ → ℕ
+    step c s = bit (ltb s n && extends follows c s)
+
     -- how often x stands in the tree below c: at most once, as the recursion on x makes plain
     pub inTree : List ℕ → List ℕ → ℕ
     inTree [] c = bit (sameRows [] c)
-    inTree (s ∷ x) c = bit (sameRows (s ∷ x) c) + inTree x c * step follows n x s
+    inTree (s ∷ x) c = bit (sameRows (s ∷ x) c) + inTree x c * step x s
 
     -- how often s is the row of an extension of c below k
     hits : List ℕ → ℕ → ℕ → ℕ
@@ -94,7 +98,7 @@ module _ (follows : List ℕ → ℕ → Bool) where
     unfolding hits
     hits-none c s = rw (le-ltb s 0 (omega arith))
 
-    hits-all : (s : ℕ) (x c : List ℕ) (t : Bool) → sameRows x c ≡ t → bit t * hits c s n ≡ bit t * step follows n x s
+    hits-all : (s : ℕ) (x c : List ℕ) (t : Bool) → sameRows x c ≡ t → bit t * hits c s n ≡ bit t * step x s
     unfolding hits step
     hits-all s x c true e = rw (← sameRows-eq x c e)
     hits-all s x c false e = omega arith
@@ -108,15 +112,15 @@ module _ (follows : List ℕ → ℕ → Bool) where
         zeros (x ∷ l) = omega (arith, zeros l)
 
     tree-extensions : (s : ℕ) (x c : List ℕ) (k : ℕ)
-        → sumBy (λ e. inTree (s ∷ x) e) (extensions follows k c) ≡ bit (sameRows x c) * hits c s k + sumBy (λ e. inTree x e) (extensions follows k c) * step follows n x s
+        → sumBy (λ e. inTree (s ∷ x) e) (extensions follows k c) ≡ bit (sameRows x c) * hits c s k + sumBy (λ e. inTree x e) (extensions follows k c) * step x s
     unfolding inTree extensions
     tree-extensions s x c zero = rw (hits-none c s) (omega arith)
     tree-extensions s x c (suc k) = go (extends follows c k) (hits-suc c s k) (tree-extensions s x c k)
       where
         go : (t : Bool) → hits c s (suc k) ≡ bit t * bit (eqb s k) + hits c s k
-            → sumBy (λ e. inTree (s ∷ x) e) (extensions follows k c) ≡ bit (sameRows x c) * hits c s k + sumBy (λ e. inTree x e) (extensions follows k c) * step follows n x s
+            → sumBy (λ e. inTree (s ∷ x) e) (extensions follows k c) ≡ bit (sameRows x c) * hits c s k + sumBy (λ e. inTree x e) (extensions follows k c) * step x s
             → sumBy (λ e. inTree (s ∷ x) e) (cond t ((k ∷ c) ∷ extensions follows k c) (extensions follows k c))
-            ≡ bit (sameRows x c) * hits c s (suc k) + sumBy (λ e. inTree x e) (cond t ((k ∷ c) ∷ extensions follows k c) (extensions follows k c)) * step follows n x s
+            ≡ bit (sameRows x c) * hits c s (suc k) + sumBy (λ e. inTree x e) (cond t ((k ∷ c) ∷ extensions follows k c) (extensions follows k c)) * step x s
         go true h ih = rw h (omega (arith, bit-and (eqb s k) (sameRows x c), ih))
         go false h ih = rw h (omega (arith, ih))
 
@@ -124,19 +128,10 @@ module _ (follows : List ℕ → ℕ → Bool) where
     pub tree-step : (x c : List ℕ) → inTree x c ≡ bit (sameRows x c) + sumBy (λ e. inTree x e) (extensions follows n c)
     unfolding inTree
     tree-step [] c = omega (arith, tree-extensions-nil c n)
-    tree-step (s ∷ x) c = omega (arith, tree-extensions s x c n, tree-step x c, hits-all s x c (sameRows x c) refl, ap (λ (m : ℕ). m * step follows n x s) (tree-step x c))
+    tree-step (s ∷ x) c = omega (arith, tree-extensions s x c n, tree-step x c, hits-all s x c (sameRows x c) refl, ap (λ (m : ℕ). m * step x s) (tree-step x c))
 
     -- below the empty chain stands each chain once, and nothing else
-    pub tree-top : (x : List ℕ) → inTree x [] ≡ chain follows n x
-    unfolding inTree chain
+    pub tree-top : (x : List ℕ) → inTree x [] ≡ bit (isChain follows n x)
+    unfolding inTree isChain step
     tree-top [] = refl
-    tree-top (s ∷ x) = omega (arith, ap (λ (m : ℕ). m * step follows n x s) (tree-top x))
-
-    pub chain-le : (x : List ℕ) → chain follows n x ≤ 1
-    unfolding chain step
-    chain-le [] = omega arith
-    chain-le (s ∷ x) = go (ltb s n && extends follows x s) (chain-le x)
-      where
-        go : (t : Bool) → chain follows n x ≤ 1 → chain follows n x * bit t ≤ 1
-        go true h = omega arith
-        go false h = omega arith
+    tree-top (s ∷ x) = omega (arith, ap (λ (m : ℕ). m * step x s) (tree-top x), bit-and (isChain follows n x) (ltb s n && extends follows x s))

@@ -1,24 +1,23 @@
--- Demand 3 over an abstract graph rule, distance and score. Assumes nothing.
+-- Demand 3 follows from one law of conservation: what is scored, and what would grow from the chains still queued, come to what would grow from the empty chain.
+-- Weighed by 1 it counts; weighed by "is it x" it says that each chain is scored once.
 use mathlib.Core.Path.{_≡_, refl, sym, ap, _∙_}
-use Prim.Native.Nat.{ℕ, zero, suc, _+_, _*_, _-_, _≤_, _<_, min, max}
+use Prim.Native.Nat.{ℕ, zero, suc, _+_, _≤_, _<_, min}
 use native.Mathlib.Omega.{arith}
 use mathlib.Core.Logic.{_⊎_, inl, inr, ⊎-elim}
-use mathlib.Core.Bool.{Bool, true, false, _&&_, cond, not}
+use mathlib.Core.Bool.{Bool, true, false, cond}
 use mathlib.Core.List.{List, [], _∷_, _++_, map}
-use lib.ListN.{length, getD}
-use lib.Dec.{leb, ltb, eqb}
+use lib.ListN.{length}
+use lib.Dec.{leb}
+use borrow.Author.Tests.{leb-true, leb-false}
 use Rattle.paths.specs.Sums.{sumBy, bit, sameRows, timesIn}
-use Rattle.paths.specs.Chains.{endNode, extends, extensions, step, chain, chainsWithin, chainsFrom}
-use Rattle.paths.specs.Search.{after, scored, left}
-use Rattle.paths.specs.Count.{mayFollow}
+use Rattle.paths.specs.Chains.{endNode, extends, extensions, isChain, chainsWithin, chainsFrom}
+use Rattle.paths.specs.Search.{none, pick, after, scored, left}
+use Rattle.paths.specs.Demand.{scoredChains, leftChains, Lists, Demand3}
 use Rattle.paths.specs.Best.{All, Order, best, Latest}
-use Rattle.paths.proofs.SumLaws.{sum-one}
+use Rattle.paths.proofs.SumLaws.{sum-one, bit-le}
 use Rattle.paths.proofs.SearchLaws.{conserve}
-use Rattle.paths.proofs.ChainLaws.{chainsFrom-step, tree-step, tree-top, inTree, chain-le}
-use Rattle.paths.proofs.BestLaws.{all-unmap, all-good, upper, all-timesIn, best-latest}
-
-abbrev start : List (List ℕ)
-start = [] ∷ []
+use Rattle.paths.proofs.ChainLaws.{chainsFrom-step, tree-step, tree-top, inTree}
+use Rattle.paths.proofs.BestLaws.{all-unmap, all-good, upper, all-timesIn, best-first}
 
 module _ {A : Type 0} (dist : A → ℕ) (ext : A → List A) where
   -- fewer steps than allowed are made only when nothing is queued
@@ -30,20 +29,20 @@ module _ {A : Type 0} (dist : A → ℕ) (ext : A → List A) where
 
 module _ (follows : List ℕ → ℕ → Bool) (n : ℕ) (dist : List ℕ → ℕ) (f : ℕ) where
   abbrev Scored : List (List ℕ)
-  Scored = scored dist (λ c. extensions follows n c) f start
+  Scored = scoredChains follows n dist f
 
   abbrev Left : List (List ℕ)
-  Left = left dist (λ c. extensions follows n c) f start
+  Left = leftChains follows n dist f
 
   abbrev N : ℕ
   N = chainsFrom follows n []
 
   counted : length Scored + sumBy (λ c. chainsFrom follows n c) Left ≡ N
-  counted = omega (arith, conserve dist (λ c. extensions follows n c) (λ _. 1) (λ c. chainsFrom follows n c) (λ c. chainsFrom-step follows n c) f start, sum-one Scored)
+  counted = omega (arith, conserve dist (λ c. extensions follows n c) (λ _. 1) (λ c. chainsFrom follows n c) (λ c. chainsFrom-step follows n c) f ([] ∷ []), sum-one Scored)
 
   -- each chain once, no chain twice
-  once : (x : List ℕ) → timesIn x Scored + sumBy (λ c. inTree follows n x c) Left ≡ chain follows n x
-  once x = omega (arith, conserve dist (λ c. extensions follows n c) (λ c. bit (sameRows x c)) (λ c. inTree follows n x c) (λ c. tree-step follows n x c) f start, tree-top follows n x)
+  once : (x : List ℕ) → timesIn x Scored + sumBy (λ c. inTree follows n x c) Left ≡ bit (isChain follows n x)
+  once x = omega (arith, conserve dist (λ c. extensions follows n c) (λ c. bit (sameRows x c)) (λ c. inTree follows n x c) (λ c. tree-step follows n x c) f ([] ∷ []), tree-top follows n x)
 
   chainsFrom-pos : (q : List (List ℕ)) → sumBy (λ c. chainsFrom follows n c) q ≡ 0 → q ≡ []
   chainsFrom-pos [] h = refl
@@ -51,7 +50,7 @@ module _ (follows : List ℕ → ℕ → Bool) (n : ℕ) (dist : List ℕ → �
 
   -- as many are scored as there are chains, or as steps are allowed
   pub how-many : length Scored ≡ min N f
-  how-many = ⊎-elim (λ e. omega (arith, counted)) (λ h. omega (arith, counted, none (h .1))) (ran dist (λ c. extensions follows n c) f start)
+  how-many = ⊎-elim (λ e. omega (arith, counted)) (λ h. omega (arith, counted, none (h .1))) (ran dist (λ c. extensions follows n c) f ([] ∷ []))
     where
       none : Left ≡ [] → sumBy (λ c. chainsFrom follows n c) Left ≡ 0
       none e = ap (λ q. sumBy (λ c. chainsFrom follows n c) q) e
@@ -62,28 +61,84 @@ module _ (follows : List ℕ → ℕ → Bool) (n : ℕ) (dist : List ℕ → �
   pub left-complete : Left ≡ [] → N ≤ f
   left-complete e = omega (arith, counted, how-many, ap (λ q. sumBy (λ c. chainsFrom follows n c) q) e)
 
-  pub at-most-once : (x : List ℕ) → timesIn x Scored ≤ chain follows n x
+  pub at-most-once : (x : List ℕ) → timesIn x Scored ≤ bit (isChain follows n x)
   at-most-once x = omega (arith, once x)
 
-  pub all-scored : N ≤ f → (x : List ℕ) → timesIn x Scored ≡ chain follows n x
+  pub all-scored : N ≤ f → (x : List ℕ) → timesIn x Scored ≡ bit (isChain follows n x)
   all-scored h x = omega (arith, once x, ap (λ q. sumBy (λ c. inTree follows n x c) q) (complete-left h))
 
   -- of a complete search no chain scores higher than the latest of the best among those scored
   pub none-higher : {R : Type 0} (P : R → Type 0) (le : R → R → Bool) (ord : Order P le) (score : List ℕ → R) → ((c : List ℕ) → P (score c))
-      → (m : R) → Latest le m (map score Scored) → N ≤ f → (x : List ℕ) → chain follows n x ≡ 1 → le (score x) m ≡ true
+      → (m : R) → Latest le m (map score Scored) → N ≤ f → (x : List ℕ) → isChain follows n x ≡ true → le (score x) m ≡ true
   none-higher P le ord score good m b h x e =
-      all-timesIn (λ c. le (score c) m ≡ true) x Scored (all-unmap (λ r. le r m ≡ true) score Scored (upper P le ord b (all-good P score Scored good))) (omega (arith, all-scored h x))
+      all-timesIn (λ c. le (score c) m ≡ true) x Scored (all-unmap (λ r. le r m ≡ true) score Scored (upper P le ord b (all-good P score Scored good))) (omega (arith, ap bit e, all-scored h x))
 
--- document 01's bench example: 0–10, 5–5, 6–8 give N 7
-starts : List ℕ
-starts = 0 ∷ (5 ∷ (6 ∷ []))
+none-true : {A : Type 0} (l : List A) → none l ≡ true → l ≡ []
+none-true [] e = refl
+none-true (x ∷ l) e = cc
 
-ends : List ℕ
-ends = 10 ∷ (5 ∷ (8 ∷ []))
+bit-pos : (t : Bool) → 1 ≤ bit t → t ≡ true
+bit-pos true h = refl
+bit-pos false h = absurd (omega arith)
 
-clear : ℕ → ℕ → Bool
-clear r s = leb (min (getD ends r 0) (getD ends s 0)) (max (getD starts r 0) (getD starts s 0))
+-- nothing is left queued exactly when N is at most the steps
+complete-flag : (follows : List ℕ → ℕ → Bool) (n : ℕ) (dist : List ℕ → ℕ) (f : ℕ) → none (leftChains follows n dist f) ≡ leb (chainsFrom follows n []) f
+complete-flag follows n dist f = go (leb (chainsFrom follows n []) f) refl
+  where
+    left-some : (l : List (List ℕ)) → (l ≡ [] → ⊥) → none l ≡ false
+    left-some [] h = absurd (h refl)
+    left-some (x ∷ l) h = refl
 
-seven : chainsFrom (mayFollow clear true) 3 [] ≡ 7
-unfolding chainsFrom chainsWithin extensions extends clear starts ends
-seven = refl
+    go : (t : Bool) → leb (chainsFrom follows n []) f ≡ t → none (leftChains follows n dist f) ≡ t
+    go true e = ap none (complete-left follows n dist f (leb-true (chainsFrom follows n []) f e))
+    go false e = left-some (leftChains follows n dist f) (λ z. omega (arith, left-complete follows n dist f z, leb-false (chainsFrom follows n []) f e))
+
+lists : (follows : List ℕ → ℕ → Bool) (n : ℕ) (dist : List ℕ → ℕ) (f : ℕ) → chainsFrom follows n [] ≤ f → Lists follows n (scoredChains follows n dist f)
+lists follows n dist f h = record {
+  each-chain = λ x e. all-scored follows n dist f h x ∙ ap bit e;
+  nothing-else = λ x e. all-scored follows n dist f h x ∙ ap bit e;
+}
+
+-- N is the number of chains: some list of that length has each chain once and nothing else
+pub record Counted (follows : List ℕ → ℕ → Bool) (n : ℕ) : Type 0 where
+  pub chains : List (List ℕ)
+  pub listed : Lists follows n chains
+  pub number : length chains ≡ chainsFrom follows n []
+
+pub chains-counted : (follows : List ℕ → ℕ → Bool) (n : ℕ) → Counted follows n
+chains-counted follows n = record {
+  chains = scoredChains follows n (λ c. 0) (chainsFrom follows n []);
+  listed = lists follows n (λ c. 0) (chainsFrom follows n []) (omega arith);
+  number = omega (arith, how-many follows n (λ c. 0) (chainsFrom follows n []));
+}
+
+module _ {R : Type 0} (P : R → Type 0) (le : R → R → Bool) (ord : Order P le) (start : R) (score : List ℕ → R) (good : (c : List ℕ) → P (score c))
+    (first : le start (score []) ≡ true) (dist : List ℕ → ℕ) (ext : List ℕ → List (List ℕ)) where
+  from-first : (f : ℕ) → Latest le (best le start (map score (scored dist ext (suc f) ([] ∷ [])))) (map score (scored dist ext (suc f) ([] ∷ [])))
+  unfolding scored pick
+  from-first f =
+      let rest = scored dist ext f (after dist ext [] []) in
+      best-first P le ord start (score []) (map score rest) first (good []) (all-good P score rest good)
+
+module _ {R : Type 0} (P : R → Type 0) (le : R → R → Bool) (ord : Order P le) (start : R) (score : List ℕ → R) (good : (c : List ℕ) → P (score c))
+    (first : le start (score []) ≡ true) (follows : List ℕ → ℕ → Bool) (n : ℕ) (dist : List ℕ → ℕ) (steps : ℕ) where
+  -- the empty chain comes first, and its result replaces the start
+  latest : 1 ≤ steps → Latest le (best le start (map score (scoredChains follows n dist steps))) (map score (scoredChains follows n dist steps))
+  latest h = go steps h
+    where
+      go : (f : ℕ) → 1 ≤ f → Latest le (best le start (map score (scoredChains follows n dist f))) (map score (scoredChains follows n dist f))
+      go zero h = absurd (omega arith)
+      go (suc f) h = from-first P le ord start score good first dist (λ c. extensions follows n c) f
+
+  pub demand3 : 1 ≤ steps → Demand3 le start score follows n dist steps
+  demand3 h =
+      let done : none (leftChains follows n dist steps) ≡ true → chainsFrom follows n [] ≤ steps = λ e. left-complete follows n dist steps (none-true (leftChains follows n dist steps) e) in
+      record {
+        only-chains = λ x o. bit-pos (isChain follows n x) (omega (arith, at-most-once follows n dist steps x));
+        none-twice = λ x. omega (arith, at-most-once follows n dist steps x, bit-le (isChain follows n x));
+        as-many = how-many follows n dist steps;
+        complete-when = complete-flag follows n dist steps;
+        complete-all = λ e. lists follows n dist steps (done e);
+        latest-best = latest h;
+        none-higher = λ e x c. none-higher follows n dist steps P le ord score good (best le start (map score (scoredChains follows n dist steps))) (latest h) (done e) x c;
+      }

@@ -5,4 +5,7 @@ pub mod ChainLaws
 pub mod BestLaws
 pub mod Demand
 pub mod CountLaws
-pub mod FloatOrder
+pub mod TableLaws
+pub mod PickLaws
+pub mod QueueLaws
+pub mod RunLaws

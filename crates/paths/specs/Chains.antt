@@ -1,10 +1,10 @@
--- Chains, LAST ROW FIRST. `follows c s` is the graph's rule: may row s stand right after chain c (document 01 asks c's last row only, P5 all of c).
--- That s comes later than c's last row is not asked of `follows`: it is built in. Definitions only.
-use Prim.Native.Nat.{ℕ, zero, suc, _+_, _*_, _-_}
+-- Document 01, "Parts, graph, paths": chains, here written LAST ROW FIRST, so that an extension is one row put in front.
+-- `follows c s` is the graph's rule, may row s stand right after chain c. That s comes later than c's last row is not asked of it: that is built in.
+use Prim.Native.Nat.{ℕ, zero, suc, _+_, _-_}
 use mathlib.Core.Bool.{Bool, true, false, cond, _&&_}
 use mathlib.Core.List.{List, [], _∷_}
-use lib.Dec.{leb, ltb, eqb}
-use Rattle.paths.specs.Sums.{sumBy, bit, sameRows}
+use lib.Dec.{leb, ltb}
+use Rattle.paths.specs.Sums.{sumBy}
 
 -- the first row that may follow c
 abbrev pub endNode : List ℕ → ℕ
@@ -12,7 +12,7 @@ endNode [] = 0
 endNode (r ∷ c) = suc r
 
 module _ (follows : List ℕ → ℕ → Bool) where
-  -- s extends c
+  -- the row s extends c
   unfoldable pub extends : List ℕ → ℕ → Bool
   extends c s = leb (endNode c) s && follows c s
 
@@ -22,14 +22,10 @@ module _ (follows : List ℕ → ℕ → Bool) where
   extensions (suc k) c = cond (extends c k) ((k ∷ c) ∷ extensions k c) (extensions k c)
 
   module _ (n : ℕ) where
-    -- 1 if s is a row that extends c, 0 else
-    unfoldable pub step : List ℕ → ℕ → ℕ
-    step c s = bit (ltb s n && extends c s)
-
-    -- 1 if x is a chain, 0 else
-    unfoldable pub chain : List ℕ → ℕ
-    chain [] = 1
-    chain (s ∷ c) = chain c * step c s
+    -- c is a chain of a table of n rows: the empty list, or a chain and one row more that extends it
+    unfoldable pub isChain : List ℕ → Bool
+    isChain [] = true
+    isChain (s ∷ c) = isChain c && (ltb s n && extends c s)
 
     -- how many chains begin with c, c itself among them; f is at least the number of rows that may follow
     unfoldable pub chainsWithin : ℕ → List ℕ → ℕ

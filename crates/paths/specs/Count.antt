@@ -1,10 +1,10 @@
--- Document 01's graph and its count, word for word: c(r) = 1 + the sum of c(s) over later s with an edge from r; N = 1 + the sum of c(r) over the rows, 1 in a bare graph.
+-- Document 01, "N counts the chains", word for word: c(r) = 1 + the sum of c(s) over later s with an edge from r; N = 1 + the sum of c(r) over the rows, 1 in a bare graph.
 use Prim.Native.Nat.{ℕ, zero, suc, _+_, _-_}
 use mathlib.Core.Bool.{Bool, true, false, cond, _&&_}
 use mathlib.Core.List.{List, [], _∷_}
 use lib.Dec.{ltb}
 
--- only the last row is asked
+-- may row s follow the chain: only its last row is asked, any row may follow the empty chain, and none any chain in a bare graph
 abbrev pub mayFollow : (ℕ → ℕ → Bool) → Bool → List ℕ → ℕ → Bool
 mayFollow edge full [] s = full
 mayFollow edge full (r ∷ c) s = full && edge r s

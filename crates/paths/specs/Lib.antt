@@ -1,5 +1,7 @@
 pub mod Sums
 pub mod Chains
+pub mod Count
 pub mod Search
 pub mod Best
-pub mod Count
+pub mod Demand
+pub mod Queue

@@ -40,7 +40,7 @@ lay-choices-returns : (t : ℕ) → lay-choices-lts.Need-returns (
 ) (lay-choices-at t) lay-choices.Post
 lay-choices-returns t c =
     let s = c .before .before in
-    none-chosen (s .args .p) (s .args .n) (s .args .d) (s .args .bits) (s .args .bit) (s .args .at) (s .args .size) (s .args .part-sizes .now) (s .args .codes .now) (s .args .list-sizes .now) (s .pre .1) (c .if1 .taken)
+    none-chosen (s .args .p) (s .args .n) (s .args .d) (s .args .bits) (s .args .bit) (s .args .at) (s .args .size) (s .args .sizes .now) (s .args .codes .now) (s .args .totals .now) (s .pre .1) (c .if1 .taken)
 
 lay-choices-mul-codes : (t : ℕ) → lay-choices-lts.Need-mul-codes (
   plus-part-reads.Asked,
@@ -50,7 +50,7 @@ lay-choices-mul-codes : (t : ℕ) → lay-choices-lts.Need-mul-codes (
 ) (lay-choices-at t) lay-choices.Post
 lay-choices-mul-codes t c =
     let s = c .before .before .before in
-    let q = numbers (s .args .p) (s .args .n) (s .args .d) (s .args .bits) (s .args .bit) (s .args .at) (s .args .size) (s .args .part-sizes .now) (s .args .codes .now) (s .args .list-sizes .now) (s .pre .1) in
+    let q = numbers (s .args .p) (s .args .n) (s .args .d) (s .args .bits) (s .args .bit) (s .args .at) (s .args .size) (s .args .sizes .now) (s .args .codes .now) (s .args .totals .now) (s .pre .1) in
     omega arith
 
 lay-choices-add-codes : (t : ℕ) → lay-choices-lts.Need-add-codes (
@@ -61,7 +61,7 @@ lay-choices-add-codes : (t : ℕ) → lay-choices-lts.Need-add-codes (
 ) (lay-choices-at t) lay-choices.Post
 lay-choices-add-codes t c =
     let s = c .before .before .before in
-    let q = numbers (s .args .p) (s .args .n) (s .args .d) (s .args .bits) (s .args .bit) (s .args .at) (s .args .size) (s .args .part-sizes .now) (s .args .codes .now) (s .args .list-sizes .now) (s .pre .1) in
+    let q = numbers (s .args .p) (s .args .n) (s .args .d) (s .args .bits) (s .args .bit) (s .args .at) (s .args .size) (s .args .sizes .now) (s .args .codes .now) (s .args .totals .now) (s .pre .1) in
     omega arith
 
 lay-choices-mul-codes-2 : (t : ℕ) → lay-choices-lts.Need-mul-codes-2 (
@@ -80,7 +80,7 @@ lay-choices-slice-write-codes : (t : ℕ) → lay-choices-lts.Need-slice-write-c
 ) (lay-choices-at t) lay-choices.Post
 lay-choices-slice-write-codes t c =
     let s = c .before .before .before in
-    leaf-room (s .args .p) (s .args .n) (s .args .d) (s .args .bits) (s .args .bit) (s .args .at) (s .args .size) (s .args .part-sizes .now) (s .args .codes .now) (s .args .list-sizes .now) (s .pre .1) (c .if2 .taken) .0
+    leaf-room (s .args .p) (s .args .n) (s .args .d) (s .args .bits) (s .args .bit) (s .args .at) (s .args .size) (s .args .sizes .now) (s .args .codes .now) (s .args .totals .now) (s .pre .1) (c .if2 .taken) .0
 
 lay-choices-mul-size : (t : ℕ) → lay-choices-lts.Need-mul-size (
   plus-part-reads.Asked,
@@ -98,7 +98,7 @@ lay-choices-slice-set-from-size : (t : ℕ) → lay-choices-lts.Need-slice-set-f
 ) (lay-choices-at t) lay-choices.Post
 lay-choices-slice-set-from-size t c =
     let s = c .before .before .before in
-    leaf-room (s .args .p) (s .args .n) (s .args .d) (s .args .bits) (s .args .bit) (s .args .at) (s .args .size) (s .args .part-sizes .now) (s .args .codes .now) (s .args .list-sizes .now) (s .pre .1) (c .if2 .taken) .1
+    leaf-room (s .args .p) (s .args .n) (s .args .d) (s .args .bits) (s .args .bit) (s .args .at) (s .args .size) (s .args .sizes .now) (s .args .codes .now) (s .args .totals .now) (s .pre .1) (c .if2 .taken) .1
 
 lay-choices-add-result : (t : ℕ) → lay-choices-lts.Need-add-result (
   plus-part-reads.Asked,
@@ -134,7 +134,37 @@ lay-choices-returns-2 : (t : ℕ) → lay-choices-lts.Need-returns-2 (
 ) (lay-choices-at t) lay-choices.Post
 lay-choices-returns-2 t c =
     let s = c .before .before .before in
-    one-chosen (s .args .p) (s .args .n) (s .args .d) (s .args .bits) (s .args .bit) (s .args .at) (s .args .size) (s .args .part-sizes .now) (s .args .codes .now) (s .args .list-sizes .now) (s .pre .1) (c .if2 .taken)
+    one-chosen (s .args .p) (s .args .n) (s .args .d) (s .args .bits) (s .args .bit) (s .args .at) (s .args .size) (s .args .sizes .now) (s .args .codes .now) (s .args .totals .now) (s .pre .1) (c .if2 .taken)
+
+lay-choices-add-q : (t : ℕ) → lay-choices-lts.Need-add-q (
+  plus-part-reads.Asked,
+  plus-part-reads.Learnt,
+  lay-choices-below t,
+  lay-choices.Post,
+) (lay-choices-at t) lay-choices.Post
+lay-choices-add-q t c = omega arith
+
+lay-choices-mul-next : (t : ℕ) → lay-choices-lts.Need-mul-next (
+  plus-part-reads.Asked,
+  plus-part-reads.Learnt,
+  lay-choices-below t,
+  lay-choices.Post,
+) (lay-choices-at t) lay-choices.Post
+lay-choices-mul-next t c =
+    let s = c .before .before .before in
+    let q = numbers (s .args .p) (s .args .n) (s .args .d) (s .args .bits) (s .args .bit) (s .args .at) (s .args .size) (s .args .sizes .now) (s .args .codes .now) (s .args .totals .now) (s .pre .1) in
+    omega arith
+
+lay-choices-add-taken : (t : ℕ) → lay-choices-lts.Need-add-taken (
+  plus-part-reads.Asked,
+  plus-part-reads.Learnt,
+  lay-choices-below t,
+  lay-choices.Post,
+) (lay-choices-at t) lay-choices.Post
+lay-choices-add-taken t c =
+    let s = c .before .before .before in
+    let q = numbers (s .args .p) (s .args .n) (s .args .d) (s .args .bits) (s .args .bit) (s .args .at) (s .args .size) (s .args .sizes .now) (s .args .codes .now) (s .args .totals .now) (s .pre .1) in
+    omega arith
 
 lay-choices-plus-part-requires : (t : ℕ) → lay-choices-lts.Need-plus-part-requires (
   plus-part-reads.Asked,
@@ -144,15 +174,7 @@ lay-choices-plus-part-requires : (t : ℕ) → lay-choices-lts.Need-plus-part-re
 ) (lay-choices-at t) lay-choices.Post
 lay-choices-plus-part-requires t c κs =
     let s = c .before .before .before in
-    (size-ok (s .args .p) (s .args .n) (s .args .d) (s .args .bits) (s .args .bit) (s .args .at) (s .args .size) (s .args .part-sizes .now) (s .args .codes .now) (s .args .list-sizes .now) (s .pre .1), omega arith, s .pre .1 .sized)
-
-lay-choices-add-lay-choices : (t : ℕ) → lay-choices-lts.Need-add-lay-choices (
-  plus-part-reads.Asked,
-  plus-part-reads.Learnt,
-  lay-choices-below t,
-  lay-choices.Post,
-) (lay-choices-at t) lay-choices.Post
-lay-choices-add-lay-choices t c = omega arith
+    (size-ok (s .args .p) (s .args .n) (s .args .d) (s .args .bits) (s .args .bit) (s .args .at) (s .args .size) (s .args .sizes .now) (s .args .codes .now) (s .args .totals .now) (s .pre .1), omega arith, s .pre .1 .sized)
 
 lay-choices-sub-lay-choices : (t : ℕ) → lay-choices-lts.Need-sub-lay-choices (
   plus-part-reads.Asked,
@@ -162,34 +184,15 @@ lay-choices-sub-lay-choices : (t : ℕ) → lay-choices-lts.Need-sub-lay-choices
 ) (lay-choices-at t) lay-choices.Post
 lay-choices-sub-lay-choices t c = omega arith
 
-lay-choices-add-lay-choices-2 : (t : ℕ) → lay-choices-lts.Need-add-lay-choices-2 (
+lay-choices-add-lay-choices : (t : ℕ) → lay-choices-lts.Need-add-lay-choices (
   plus-part-reads.Asked,
   plus-part-reads.Learnt,
   lay-choices-below t,
   lay-choices.Post,
 ) (lay-choices-at t) lay-choices.Post
-lay-choices-add-lay-choices-2 t c = omega arith
-
-lay-choices-add-lay-choices-3 : (t : ℕ) → lay-choices-lts.Need-add-lay-choices-3 (
-  plus-part-reads.Asked,
-  plus-part-reads.Learnt,
-  lay-choices-below t,
-  lay-choices.Post,
-) (lay-choices-at t) lay-choices.Post
-lay-choices-add-lay-choices-3 t c =
+lay-choices-add-lay-choices t c =
     let s = c .before .before .before .before in
-    let q = numbers (s .args .p) (s .args .n) (s .args .d) (s .args .bits) (s .args .bit) (s .args .at) (s .args .size) (s .args .part-sizes .now) (s .args .codes .now) (s .args .list-sizes .now) (s .pre .1) in
-    omega arith
-
-lay-choices-mul-lay-choices : (t : ℕ) → lay-choices-lts.Need-mul-lay-choices (
-  plus-part-reads.Asked,
-  plus-part-reads.Learnt,
-  lay-choices-below t,
-  lay-choices.Post,
-) (lay-choices-at t) lay-choices.Post
-lay-choices-mul-lay-choices t c =
-    let s = c .before .before .before .before in
-    let q = numbers (s .args .p) (s .args .n) (s .args .d) (s .args .bits) (s .args .bit) (s .args .at) (s .args .size) (s .args .part-sizes .now) (s .args .codes .now) (s .args .list-sizes .now) (s .pre .1) in
+    let q = numbers (s .args .p) (s .args .n) (s .args .d) (s .args .bits) (s .args .bit) (s .args .at) (s .args .size) (s .args .sizes .now) (s .args .codes .now) (s .args .totals .now) (s .pre .1) in
     omega arith
 
 lay-choices-lay-choices-requires : (t : ℕ) → lay-choices-lts.Need-lay-choices-requires (
@@ -200,27 +203,8 @@ lay-choices-lay-choices-requires : (t : ℕ) → lay-choices-lts.Need-lay-choice
 ) (lay-choices-at t) lay-choices.Post
 lay-choices-lay-choices-requires t c κs =
     let s = c .before .before .before .before .before .before in
-    let h : s .args .p < length (s .args .part-sizes .now) = omega (arith, c .before .before .before .before .if1 .left, c .before .before .before .if2 .left, s .pre .1 .inside) in
-    (omega (arith, s .pre .0), taking (s .args .p) (s .args .n) (s .args .d) (s .args .bits) (s .args .bit) (s .args .at) (s .args .size) (s .args .part-sizes .now) (s .args .codes .now) (s .args .list-sizes .now) (s .pre .1) h (c .before .before .before .if2 .left) _ (c .before .before .plus-part .ensures) (s .pre .1 .sized .sized (s .args .p)))
-
-lay-choices-add-lay-choices-4 : (t : ℕ) → lay-choices-lts.Need-add-lay-choices-4 (
-  plus-part-reads.Asked,
-  plus-part-reads.Learnt,
-  lay-choices-below t,
-  lay-choices.Post,
-) (lay-choices-at t) lay-choices.Post
-lay-choices-add-lay-choices-4 t c = omega arith
-
-lay-choices-mul-lay-choices-2 : (t : ℕ) → lay-choices-lts.Need-mul-lay-choices-2 (
-  plus-part-reads.Asked,
-  plus-part-reads.Learnt,
-  lay-choices-below t,
-  lay-choices.Post,
-) (lay-choices-at t) lay-choices.Post
-lay-choices-mul-lay-choices-2 t c =
-    let s = c .before .before .before .before .before .before .before .before .before .before in
-    let q = numbers (s .args .p) (s .args .n) (s .args .d) (s .args .bits) (s .args .bit) (s .args .at) (s .args .size) (s .args .part-sizes .now) (s .args .codes .now) (s .args .list-sizes .now) (s .pre .1) in
-    omega arith
+    let h : s .args .p < length (s .args .sizes .now) = omega (arith, c .before .before .before .before .if1 .left, c .before .before .before .if2 .left, s .pre .1 .inside) in
+    (omega (arith, s .pre .0), taking (s .args .p) (s .args .n) (s .args .d) (s .args .bits) (s .args .bit) (s .args .at) (s .args .size) (s .args .sizes .now) (s .args .codes .now) (s .args .totals .now) (s .pre .1) h (c .before .before .before .if2 .left) _ (c .before .before .plus-part .ensures) (s .pre .1 .sized .sized (s .args .p)))
 
 lay-choices-lay-choices-requires-2 : (t : ℕ) → lay-choices-lts.Need-lay-choices-requires-2 (
   plus-part-reads.Asked,
@@ -230,8 +214,8 @@ lay-choices-lay-choices-requires-2 : (t : ℕ) → lay-choices-lts.Need-lay-choi
 ) (lay-choices-at t) lay-choices.Post
 lay-choices-lay-choices-requires-2 t c κs =
     let s = c .before .before .before .before .before .before .before .before .before .before .before .before in
-    let h : s .args .p < length (s .args .part-sizes .now) = omega (arith, c .before .before .before .before .before .before .before .before .before .before .if1 .left, c .before .before .before .before .before .before .before .before .before .if2 .left, s .pre .1 .inside) in
-    (omega (arith, s .pre .0), leaving (s .args .p) (s .args .n) (s .args .d) (s .args .bits) (s .args .bit) (s .args .at) (s .args .size) (s .args .part-sizes .now) (s .args .codes .now) (s .args .list-sizes .now) (s .pre .1) h (c .before .before .before .before .before .before .before .before .before .if2 .left) _ _ _ (c .before .before .before .before .before .lay-choices .ensures) (c .before .before .before .before .before .lay-choices .kept .1 .1 .1 .1 .1 .1 .1 .1 .0) (c .before .before .before .before .before .lay-choices .kept .1 .1 .1 .1 .1 .1 .1 .1 .1 .0))
+    let h : s .args .p < length (s .args .sizes .now) = omega (arith, c .before .before .before .before .before .before .before .before .before .before .if1 .left, c .before .before .before .before .before .before .before .before .before .if2 .left, s .pre .1 .inside) in
+    (omega (arith, s .pre .0), leaving (s .args .p) (s .args .n) (s .args .d) (s .args .bits) (s .args .bit) (s .args .at) (s .args .size) (s .args .sizes .now) (s .args .codes .now) (s .args .totals .now) (s .pre .1) h (c .before .before .before .before .before .before .before .before .before .if2 .left) _ _ _ (c .before .before .before .before .before .lay-choices .ensures) (c .before .before .before .before .before .lay-choices .kept .1 .1 .1 .1 .1 .1 .1 .1 .0) (c .before .before .before .before .before .lay-choices .kept .1 .1 .1 .1 .1 .1 .1 .1 .1 .0))
 
 lay-choices-same-length-3 : (t : ℕ) → lay-choices-lts.Need-same-length-3 (
   plus-part-reads.Asked,
@@ -257,8 +241,8 @@ lay-choices-returns-3 : (t : ℕ) → lay-choices-lts.Need-returns-3 (
 ) (lay-choices-at t) lay-choices.Post
 lay-choices-returns-3 t c =
     let s = c .before .before .before .before .before .before .before .before .before .before .before .before .before .before .before .before in
-    let h : s .args .p < length (s .args .part-sizes .now) = omega (arith, c .before .before .before .before .before .before .before .before .before .before .before .before .before .before .if1 .left, c .before .before .before .before .before .before .before .before .before .before .before .before .before .if2 .left, s .pre .1 .inside) in
-    both-chosen (s .args .p) (s .args .n) (s .args .d) (s .args .bits) (s .args .bit) (s .args .at) (s .args .size) (s .args .part-sizes .now) (s .args .codes .now) (s .args .list-sizes .now) (s .pre .1) h (c .before .before .before .before .before .before .before .before .before .before .before .before .before .if2 .left) _ _ _ (c .before .before .before .before .before .before .before .before .before .lay-choices .ensures) (c .before .before .before .before .before .before .before .before .before .lay-choices .kept .1 .1 .1 .1 .1 .1 .1 .1 .0) (c .before .before .before .before .before .before .before .before .before .lay-choices .kept .1 .1 .1 .1 .1 .1 .1 .1 .1 .0) _ _ _ (c .before .before .before .lay-choices2 .ensures)
+    let h : s .args .p < length (s .args .sizes .now) = omega (arith, c .before .before .before .before .before .before .before .before .before .before .before .before .before .before .if1 .left, c .before .before .before .before .before .before .before .before .before .before .before .before .before .if2 .left, s .pre .1 .inside) in
+    both-chosen (s .args .p) (s .args .n) (s .args .d) (s .args .bits) (s .args .bit) (s .args .at) (s .args .size) (s .args .sizes .now) (s .args .codes .now) (s .args .totals .now) (s .pre .1) h (c .before .before .before .before .before .before .before .before .before .before .before .before .before .if2 .left) _ _ _ (c .before .before .before .before .before .before .before .before .before .lay-choices .ensures) (c .before .before .before .before .before .before .before .before .before .lay-choices .kept .1 .1 .1 .1 .1 .1 .1 .1 .0) (c .before .before .before .before .before .before .before .before .before .lay-choices .kept .1 .1 .1 .1 .1 .1 .1 .1 .1 .0) _ _ _ (c .before .before .before .lay-choices2 .ensures)
 
 pub +lay-choices-spec : {M : Type 1} → statement M
 +lay-choices-spec = close μ-lay-choices λ t. lay-choices-lts.spec (
@@ -281,15 +265,13 @@ pub +lay-choices-spec : {M : Type 1} → statement M
     (lay-choices-same-length t)
     (lay-choices-same-length-2 t)
     (lay-choices-returns-2 t)
+    (lay-choices-add-q t)
+    (lay-choices-mul-next t)
+    (lay-choices-add-taken t)
     (lay-choices-plus-part-requires t)
-    (lay-choices-add-lay-choices t)
     (lay-choices-sub-lay-choices t)
-    (lay-choices-add-lay-choices-2 t)
-    (lay-choices-add-lay-choices-3 t)
-    (lay-choices-mul-lay-choices t)
+    (lay-choices-add-lay-choices t)
     (lay-choices-lay-choices-requires t)
-    (lay-choices-add-lay-choices-4 t)
-    (lay-choices-mul-lay-choices-2 t)
     (lay-choices-lay-choices-requires-2 t)
     (lay-choices-same-length-3 t)
     (lay-choices-same-length-4 t)

@@ -11,7 +11,7 @@ use Rattle.kplib.proofs.pathscore.score_chain.Statement.{statement}
 use Rattle.kplib.proofs.pathscore.score_chain.Tie as tie
 use Rattle.kplib.proofs.pathscore.score_chain.Reads as reads
 use Rattle.kplib.proofs.pathscore.score_chain.Lts as lts
-use Rattle.kplib.proofs.pathscore.nothing.Reads as nothing-reads
+use Rattle.kplib.proofs.pathscore.none_tried.Reads as none-tried-reads
 use Rattle.kplib.proofs.pathscore.try_list.Reads as try-list-reads
 
 abbrev Inv-loop : tie.InvT-loop
@@ -22,13 +22,13 @@ Inv-loop s sizes features chain chain-size part-sizes part-features codes list-s
 abbrev μ-loop : tie.MeasureT-loop
 μ-loop s sizes features chain chain-size part-sizes part-features codes list-sizes count chosen₀ chain-row₀ list-row₀ best₀ i₀ chosen chain-row list-row best i = count - i
 
-nothing-requires : tie.Need-nothing-requires Inv-loop μ-loop
-nothing-requires c κs = search needs
+none-tried-requires : tie.Need-none-tried-requires Inv-loop μ-loop
+none-tried-requires c κs = search needs
 
 loop-holds : tie.Need-loop-holds Inv-loop μ-loop
 loop-holds c =
     let s = c .before .before .before .before in
-    (omega arith, refl, refl, refl, none-tried (s .args .s) (s .args .features .now) (s .args .chain .now) _ (s .args .part-sizes .now) (s .args .part-features .now) (s .args .chain-row .now) _ (c .nothing .ensures))
+    (omega arith, refl, refl, refl, none-tried (s .args .s) (s .args .features .now) (s .args .chain .now) _ (s .args .part-sizes .now) (s .args .part-features .now) (s .args .chain-row .now) _ (c .none-tried .ensures))
 
 mul-try-list : tie.Need-mul-try-list Inv-loop μ-loop
 mul-try-list c = search needs
@@ -87,7 +87,7 @@ score-chain-spec =
     (tie.spec
     Inv-loop
     μ-loop
-    nothing-requires
+    none-tried-requires
     loop-holds
     mul-try-list
     shared-slice-read-try-list

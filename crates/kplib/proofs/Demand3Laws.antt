@@ -1,0 +1,116 @@
+-- Demand 3 is that of the step rule (paths, proofs/Demand), read of the answer: scores are numbers, so they are in order, and none is below the scoring's start.
+use mathlib.Core.Path.{_≡_, refl, sym, ap, _∙_}
+use Prim.Native.Nat.{ℕ, _+_, _≤_, min}
+use native.Mathlib.Omega.{arith}
+use mathlib.Core.Bool.{Bool, true, false, not, _&&_, _||_}
+use mathlib.Core.List.{List, [], _∷_, map, reverse}
+use borrow.Author.Tests.{eqb-true}
+use lib.Dec.{T, leb, eqb}
+use lib.ListN.{length}
+use lib.Ieee.{Float, le, isNan}
+use Rattle.metrics.specs.Similarity.{whole}
+use Rattle.metrics.proofs.FloatOrder.{le-trans, le-total}
+use Rattle.paths.specs.Best.{Order, best, Latest}
+use Rattle.paths.specs.Search.{none}
+use Rattle.paths.specs.Demand.{Demand3 as Rule}
+use Rattle.paths.proofs.Demand.{demand3}
+use Rattle.kplib.specs.Numbers.{Table, Parts, firstFault, searchMode}
+use Rattle.kplib.specs.Graph.{chainsOf}
+use Rattle.kplib.specs.Score.{chainScore}
+use Rattle.kplib.specs.Search.{Result, noLower, startResult, followsIn, distanceIn, scoredIn, leftIn, resultOf, bestIn}
+use Rattle.kplib.specs.Answer.{searched, answerWith, foundAfter, answerOf, rowsOf, searches}
+use Rattle.kplib.specs.Demand3.{Demand3, resultIn}
+use Rattle.kplib.specs.declared.graphparams.Settings.{Settings}
+use Rattle.kplib.specs.declared.traverse.Answer.{Answer}
+use Rattle.kplib.proofs.GraphLaws.{counts-chains}
+use Rattle.kplib.proofs.AnswerLaws.{at-least-zero, score-number}
+
+holds : (t : Bool) → t ≡ true → T t
+holds true e = tt
+holds false e = let z : _≡_ {A = ℕ} 0 1 = cc in absurd (omega arith)
+
+is-true : (t : Bool) → T t → t ≡ true
+is-true true h = refl
+is-true false h = absurd h
+
+or-right : (a b : Bool) → a ≡ false → T (a || b) → b ≡ true
+or-right true b e h = let z : _≡_ {A = ℕ} 0 1 = cc in absurd (omega arith)
+or-right false b e h = is-true b h
+
+abbrev Number : Result → Type 0
+Number r = T (not (isNan (r .scored .score)))
+
+-- results whose score is a number are in order
+in-order : Order Number noLower
+in-order = record {
+  total = λ a b p q e. or-right (le (a .scored .score) (b .scored .score)) (le (b .scored .score) (a .scored .score)) e (le-total (a .scored .score) (b .scored .score) p q);
+  trans = λ a b c p q r e f. is-true (le (a .scored .score) (c .scored .score)) (le-trans (a .scored .score) (b .scored .score) (c .scored .score) (holds _ e) (holds _ f));
+}
+
+and-both : (a b : Bool) → (a && b) ≡ true → (a ≡ true) × (b ≡ true)
+and-both true b h = (refl, h)
+and-both false b h = let z : _≡_ {A = ℕ} 0 1 = cc in absurd (omega arith)
+
+module _ (s : Settings) (t : Table) (p : Parts) where
+  number : (c : List ℕ) → Number (resultOf s t p c)
+  unfolding resultOf
+  number c = score-number s (t .sizes) (t .features) (p .sizes) (p .features) (reverse c)
+
+  first : noLower startResult (resultOf s t p []) ≡ true
+  unfolding resultOf
+  first = at-least-zero s (t .sizes) (t .features) (p .sizes) (p .features) (reverse [])
+
+  rule : Rule noLower startResult (resultOf s t p) (followsIn s t p) (length (t .starts)) (distanceIn s t p) (s .maxpaths + 1)
+  rule = demand3 Number noLower in-order startResult (resultOf s t p) number first (followsIn s t p) (length (t .starts)) (distanceIn s t p) (s .maxpaths + 1) (omega arith)
+
+  score-of : (c : List ℕ) → resultOf s t p c .scored ≡ chainScore s (t .sizes) (t .features) (p .sizes) (p .features) (reverse c)
+  unfolding resultOf
+  score-of c = refl
+
+  module _ (q a : ℕ) (mode : searches s t p q a ≡ true) where
+    parts : (firstFault s t p q a ≡ 0) × (searchMode s (length (t .starts)) ≡ true)
+    unfolding searches
+    parts =
+        let b = and-both (eqb (firstFault s t p q a) 0) (searchMode s (length (t .starts))) mode in
+        (eqb-true (firstFault s t p q a) 0 (b .0), b .1)
+
+    found-is : foundAfter (firstFault s t p q a) s t p ≡ searched s t p
+    found-is = ap (λ (n : ℕ). foundAfter n s t p) (parts .0) ∙ rw (parts .1)
+
+    answer-is : answerOf s t p q a ≡ answerWith (firstFault s t p q a) (searched s t p)
+    unfolding answerOf
+    answer-is = ap (λ f. answerWith (firstFault s t p q a) f) found-is
+
+    count-is : answerOf s t p q a .scored ≡ length (scoredIn s t p)
+    unfolding searched
+    count-is = ap (λ (x : Answer). x .scored) answer-is
+
+    complete-is : answerOf s t p q a .complete ≡ none (leftIn s t p)
+    unfolding searched
+    complete-is = ap (λ (x : Answer). x .complete) answer-is
+
+    score-is : answerOf s t p q a .score ≡ bestIn s t p .scored .score
+    unfolding searched
+    score-is = ap (λ (x : Answer). x .score) answer-is
+
+    rows-are : rowsOf s t p q a ≡ bestIn s t p .rows
+    unfolding rowsOf searched
+    rows-are = ap (λ f. f .rows) found-is
+
+    result-is : resultIn (answerOf s t p q a) (rowsOf s t p q a) ≡ bestIn s t p
+    unfolding searched
+    result-is = rw (rows-are, answer-is)
+
+    pub demand : Demand3 s t p q a
+    demand =
+        let n = counts-chains (t .starts) (t .ends) (s .full) in
+        record {
+          only-chains = rule .only-chains;
+          none-twice = rule .none-twice;
+          counted = count-is;
+          as-many = count-is ∙ rule .as-many ∙ ap (λ (k : ℕ). min k (s .maxpaths + 1)) n;
+          complete-when = complete-is ∙ rule .complete-when ∙ ap (λ (k : ℕ). leb k (s .maxpaths + 1)) n;
+          complete-all = λ e. rule .complete-all (sym complete-is ∙ e);
+          latest-best = rw result-is (rule .latest-best);
+          none-higher = λ e x c. rw (score-is, ← score-of x) (rule .none-higher (sym complete-is ∙ e) x c);
+        }

@@ -1,0 +1,115 @@
+-- What a search, or a one-to-one match, ends with is the answer that document 01 gives. Assumes nothing.
+use mathlib.Core.Path.{_≡_, refl, sym, ap, _∙_}
+use Prim.Native.Nat.{ℕ, zero, suc, _+_, _*_, _≤_, _<_, min}
+use native.Mathlib.Omega.{arith}
+use mathlib.Core.Bool.{Bool, true, false}
+use mathlib.Core.List.{List, [], _∷_, _++_, reverse}
+use lib.Dec.{eqb}
+use lib.IntN.{ℤ}
+use lib.ListN.{length, drop}
+use Rattle.paths.specs.Queue.{chainAt}
+use Rattle.kplib.specs.Numbers.{Table, Parts, firstFault, searchMode}
+use Rattle.kplib.specs.Score.{start}
+use Rattle.kplib.specs.OneToOne.{oneToOne, loneRows, loneRowsAt}
+use Rattle.kplib.specs.Search.{rowsFor}
+use Rattle.kplib.specs.Answer.{searched, matchedAlone, foundAfter, answerWith, answerOf, rowsOf, placed, queueRoom, searches}
+use Rattle.kplib.specs.SearchSteps.{answerParts, Gone, Acceptable}
+use Rattle.kplib.specs.declared.graphparams.Settings.{Settings}
+use Rattle.kplib.specs.declared.pathscore.Scored.{Scored}
+use Rattle.kplib.specs.declared.pathscore.Target.{Target}
+use Rattle.kplib.specs.declared.pathscore.Target.the-variants.{Nothing, Whole, Partial}
+use Rattle.kplib.specs.declared.onetoone.Lone.{Lone}
+use Rattle.kplib.specs.declared.traverse.Answer.{Answer}
+use Rattle.kplib.specs.declared.traverse.Progress.{Progress}
+use Rattle.kplib.proofs.CheckedLaws.{accepted, queue-suffices, answer-suffices}
+use Rattle.kplib.proofs.ExtensionLaws.{reverse-length}
+
+pub rows-few : (t : Target) (l : List ℕ) → length (rowsFor t l) ≤ length l
+rows-few Nothing l = omega arith
+rows-few Whole l = omega arith
+rows-few (Partial n) l = omega arith
+
+pub lone-few : (t : Target) (r : ℕ) → length (loneRowsAt t r) ≤ 1
+lone-few Nothing r = omega arith
+lone-few Whole r = omega arith
+lone-few (Partial n) r = omega arith
+
+-- what the one-to-one match answers
+pub alone-answers : (s : Settings) (t : Table) (p : Parts) (lone : Lone) (n : ℕ) (r : Answer) (rows rows' : List ℕ) → lone ≡ oneToOne s (t .sizes) (t .features) (p .sizes) (p .features)
+    → (n ≡ length (loneRowsAt (lone .scored .target) (lone .row))) × (rows' ≡ placed rows (loneRowsAt (lone .scored .target) (lone .row)))
+    → r ≡ answerParts 0 n (lone .scored) (length (t .starts) + 2) true
+    → (r ≡ answerWith 0 (matchedAlone s t p)) × (rows' ≡ placed rows (matchedAlone s t p .rows))
+unfolding matchedAlone
+alone-answers s t p lone n r rows rows' e h k = rw (← e) (k ∙ ap (λ (m : ℕ). answerParts 0 m (lone .scored) (length (t .starts) + 2) true) (h .0), h .1)
+
+-- what a search answers
+pub search-answers : (s : Settings) (t : Table) (p : Parts) (parents lasts : List ℕ) (at : Progress) (n : ℕ) (r : Answer) (rows rows' : List ℕ) → Gone s t p parents lasts at
+    → (n ≡ length (rowsFor (at .best .scored .target) (reverse (chainAt parents lasts (at .best .entry))))) × (rows' ≡ placed rows (rowsFor (at .best .scored .target) (reverse (chainAt parents lasts (at .best .entry)))))
+    → r ≡ answerParts 0 n (at .best .scored) (at .count) (eqb (at .queued) 0)
+    → (r ≡ answerWith 0 (searched s t p)) × (rows' ≡ placed rows (searched s t p .rows))
+unfolding searched
+search-answers s t p parents lasts at n r rows rows' g h k =
+    rw (← g .ended .best-is, ← g .ended .count-is, ← g .ended .complete-is) (k ∙ ap (λ (m : ℕ). answerParts 0 m (at .best .scored) (at .count) (eqb (at .queued) 0)) (h .0), h .1)
+
+pub search-few : (s : Settings) (t : Table) (p : Parts) (parents lasts : List ℕ) (at : Progress) (n : ℕ) → Gone s t p parents lasts at
+    → n ≡ length (rowsFor (at .best .scored .target) (reverse (chainAt parents lasts (at .best .entry)))) → (n ≤ 64) × (at .count ≤ 4096)
+search-few s t p parents lasts at n g e =
+    let c = chainAt parents lasts (at .best .entry) in
+    (omega (arith, e, rows-few (at .best .scored .target) (reverse (chainAt parents lasts (at .best .entry))), reverse-length (chainAt parents lasts (at .best .entry)), g .walk .fits), g .few)
+
+-- ---- by the mode of an accepted job
+
+pub searched-found : (s : Settings) (t : Table) (p : Parts) (r : Answer) (rows rows' : List ℕ) {X : Type 0} → searchMode s (length (t .starts)) ≡ true
+    → (r ≡ answerWith 0 (searched s t p)) × (rows' ≡ placed rows (searched s t p .rows))
+    → (r ≡ answerWith 0 (foundAfter 0 s t p)) × ((rows' ≡ placed rows (foundAfter 0 s t p .rows)) × (searchMode s (length (t .starts)) ≡ false → X))
+searched-found s t p r rows rows' m h = (rw m (h .0), (rw m (h .1), λ z. let y : _≡_ {A = ℕ} 0 1 = cc in absurd (omega arith)))
+
+pub alone-found : (s : Settings) (t : Table) (p : Parts) (r : Answer) (rows rows' : List ℕ) {X : Type 0} → searchMode s (length (t .starts)) ≡ false
+    → (r ≡ answerWith 0 (matchedAlone s t p)) × (rows' ≡ placed rows (matchedAlone s t p .rows)) → X
+    → (r ≡ answerWith 0 (foundAfter 0 s t p)) × ((rows' ≡ placed rows (foundAfter 0 s t p .rows)) × (searchMode s (length (t .starts)) ≡ false → X))
+alone-found s t p r rows rows' m h x = (rw m (h .0), (rw m (h .1), λ z. x))
+
+-- ---- by the checks
+
+module _ (s : Settings) (t : Table) (p : Parts) (q a : ℕ) where
+  answer-at : (fault : ℕ) → fault ≡ firstFault s t p q a → answerWith fault (foundAfter fault s t p) ≡ answerOf s t p q a
+  unfolding answerOf
+  answer-at fault e = ap (λ (n : ℕ). answerWith n (foundAfter n s t p)) e
+
+  rows-at : (fault : ℕ) → fault ≡ firstFault s t p q a → foundAfter fault s t p .rows ≡ rowsOf s t p q a
+  unfolding rowsOf
+  rows-at fault e = ap (λ (n : ℕ). foundAfter n s t p .rows) e
+
+  pub refused-answers : (fault : ℕ) → fault ≡ firstFault s t p q a → (fault ≡ 0 → ⊥) → (x : Scored) → x ≡ start → (r : Answer) → r ≡ answerParts fault 0 x 0 false → (rows : List ℕ)
+      → (r ≡ answerOf s t p q a) × (rows ≡ placed rows (rowsOf s t p q a))
+  unfolding placed
+  refused-answers zero e z x hx r hr rows = absurd (z refl)
+  refused-answers (suc n) e z x hx r hr rows =
+      (hr ∙ ap (λ (y : Scored). answerParts (suc n) 0 y 0 false) hx ∙ answer-at (suc n) e, ap (λ (l : List ℕ). l ++ drop (length l) rows) (rows-at (suc n) e))
+
+  module _ (e : firstFault s t p q a ≡ 0) where
+    pub accepted-answers : (r : Answer) (rows rows' : List ℕ) → r ≡ answerWith 0 (foundAfter 0 s t p) → rows' ≡ placed rows (foundAfter 0 s t p .rows)
+        → (r ≡ answerOf s t p q a) × (rows' ≡ placed rows (rowsOf s t p q a))
+    accepted-answers r rows rows' h k = (h ∙ answer-at 0 (sym e), k ∙ ap (λ (l : List ℕ). placed rows l) (rows-at 0 (sym e)))
+
+    pub not-searched : searches s t p q a ≡ false → searchMode s (length (t .starts)) ≡ false
+    unfolding searches
+    not-searched h = rw e at h
+
+pub acceptable : (s : Settings) (t : Table) (p : Parts) (parents lasts keys : List ℕ) (a : ℕ) → firstFault s t p (queueRoom parents lasts keys) a ≡ 0 → Acceptable s t p (length parents) (length lasts) (length keys) a
+acceptable s t p parents lasts keys a e = record {
+  checked = accepted s t p (queueRoom parents lasts keys) a e;
+  answer-room = answer-suffices s t p (queueRoom parents lasts keys) a e;
+  queue-room = λ m.
+      let h = queue-suffices s t p (queueRoom parents lasts keys) a e m in
+      record {
+        checked = accepted s t p (queueRoom parents lasts keys) a e;
+        parent-room = omega (arith, h);
+        last-room = omega (arith, h);
+        key-room = omega (arith, h);
+      };
+}
+
+-- the room that the code computes is the shortest of the three
+pub room-is : (parents lasts keys : List ℕ) {n m : ℕ} → n ≡ min (length lasts) (length keys) → m ≡ min (length parents) n → m ≡ queueRoom parents lasts keys
+room-is parents lasts keys e f = f ∙ ap (λ (k : ℕ). min (length parents) k) e

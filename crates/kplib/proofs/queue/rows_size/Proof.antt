@@ -1,0 +1,67 @@
+-- The sum so far, with the rest of the rows added to it, is the whole sum.
+use Prim.Native.Nat.{_-_, _≤_}
+use native.Mathlib.Omega.{arith}
+use lib.ListN.{length}
+use denote.Ref.{now}
+use mir.Syntax.{w32}
+use mir.Val.{toZ}
+use Rattle.kplib.proofs.ExtensionLaws.{below-at, Summing, summing-begin, summing-fits, summing-on, summing-done}
+use Rattle.kplib.proofs.queue.rows_size.Statement.{statement}
+use Rattle.kplib.proofs.queue.rows_size.Tie as tie
+
+abbrev Inv-loop : tie.InvT-loop
+Inv-loop sizes rows size₀ i₀ size i = (i ≤ length rows) × Summing sizes rows (toZ w32 size) i
+
+abbrev μ-loop : tie.MeasureT-loop
+μ-loop sizes rows size₀ i₀ size i = length rows - i
+
+loop-holds : tie.Need-loop-holds Inv-loop μ-loop
+loop-holds c = (omega arith, summing-begin (now (c .args .sizes)) (now (c .args .rows)))
+
+mul-r : tie.Need-mul-r Inv-loop μ-loop
+mul-r c = omega arith
+
+shared-slice-read-r : tie.Need-shared-slice-read-r Inv-loop μ-loop
+shared-slice-read-r c = omega arith
+
+cast-r : tie.Need-cast-r Inv-loop μ-loop
+cast-r c = record { fits = omega (arith, c .shared-slice-known .given (c .before .before .loop .i)) }
+
+mul-size : tie.Need-mul-size Inv-loop μ-loop
+mul-size c = record { fits = omega (arith, c .before .before .before .pre .sized .few, below-at (now (c .before .before .before .args .rows)) (c .before .before .loop .i) (omega arith) (c .before .before .before .pre .within)) }
+
+shared-slice-copy-out-size : tie.Need-shared-slice-copy-out-size Inv-loop μ-loop
+shared-slice-copy-out-size c = below-at (now (c .before .before .before .args .rows)) (c .before .before .loop .i) (omega arith) (c .before .before .before .pre .within)
+
+add-size : tie.Need-add-size Inv-loop μ-loop
+add-size c = summing-fits (c .before .before .before .before .pre) (c .before .before .before .loop .inv .1) (omega arith)
+
+add-i : tie.Need-add-i Inv-loop μ-loop
+add-i c = omega arith
+
+loop-less : tie.Need-loop-less Inv-loop μ-loop
+loop-less c = omega arith
+
+loop-again : tie.Need-loop-again Inv-loop μ-loop
+loop-again c = (omega arith, summing-on (c .before .before .before .before .pre) (c .before .before .before .loop .inv .1) (omega arith))
+
+returns : tie.Need-returns Inv-loop μ-loop
+returns c = summing-done (c .before .loop .inv .1) (omega arith)
+
+pub rows-size-spec : {M : Type 1} → statement M
+rows-size-spec =
+    tie.close
+    (tie.spec
+    Inv-loop
+    μ-loop
+    loop-holds
+    mul-r
+    shared-slice-read-r
+    cast-r
+    mul-size
+    shared-slice-copy-out-size
+    add-size
+    add-i
+    loop-less
+    loop-again
+    returns)

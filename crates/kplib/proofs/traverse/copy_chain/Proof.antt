@@ -1,0 +1,58 @@
+-- What stands at the scratch's end is the chain, and it is written as it stands.
+use mathlib.Core.Path.{ap}
+use native.Mathlib.Omega.{arith}
+use lib.ListN.{length}
+use denote.Ref.{now}
+use Rattle.paths.specs.Queue.{chainAt}
+use Rattle.kplib.proofs.ExtensionLaws.{reverse-length}
+use Rattle.kplib.proofs.WeighLaws.{cut, cut-length, placed-cut}
+use borrow.Author.Needs.{needs}
+use Rattle.kplib.proofs.traverse.copy_chain.Statement.{statement}
+use Rattle.kplib.proofs.traverse.copy_chain.Tie as tie
+
+slice-aggregate-read-chain : tie.Need-slice-aggregate-read-chain
+slice-aggregate-read-chain c = search needs
+
+read-chain-requires : tie.Need-read-chain-requires
+read-chain-requires c κs = search needs
+
+mul-put-rows : tie.Need-mul-put-rows
+mul-put-rows c = search needs
+
+sub-put-rows : tie.Need-sub-put-rows
+sub-put-rows c = search needs
+
+part-put-rows-start : tie.Need-part-put-rows-start
+part-put-rows-start c = search needs
+
+part-put-rows-end : tie.Need-part-put-rows-end
+part-put-rows-end c = search needs
+
+put-rows-requires : tie.Need-put-rows-requires
+put-rows-requires c κs =
+    let k = ap length (cut _ 64 _ (omega arith) (c .before .before .before .before .read-chain .ensures)) in
+    omega (arith, k, reverse-length (chainAt (now (c .before .before .before .before .before .before .before .before .before .args .parents)) (now (c .before .before .before .before .before .before .before .before .before .args .lasts)) (c .before .before .before .before .before .before .before .before .before .args .entry)), c .before .before .before .before .before .before .before .before .before .pre .1)
+
+sub-result : tie.Need-sub-result
+sub-result c = search needs
+
+same-length : tie.Need-same-length
+same-length c = search needs
+
+returns : tie.Need-returns
+returns c = (cut-length _ 64 _ (omega arith) (c .before .before .before .before .before .before .before .read-chain .ensures), placed-cut (now (c .before .before .before .before .before .before .before .before .before .before .before .before .args .rows)) (cut _ 64 _ (omega arith) (c .before .before .before .before .before .before .before .read-chain .ensures)) (c .before .before .put-rows .ensures))
+
+pub copy-chain-spec : {M : Type 1} → statement M
+copy-chain-spec =
+    tie.close
+    (tie.spec
+    slice-aggregate-read-chain
+    read-chain-requires
+    mul-put-rows
+    sub-put-rows
+    part-put-rows-start
+    part-put-rows-end
+    put-rows-requires
+    sub-result
+    same-length
+    returns)

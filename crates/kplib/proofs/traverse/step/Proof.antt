@@ -1,0 +1,96 @@
+-- Each callee's asks follow from where the search stands, and what the callees promise is where it stands then.
+use mathlib.Core.Path.{refl, _∙_}
+use Prim.Native.Nat.{_-_}
+use native.Mathlib.Omega.{arith}
+use Rattle.kplib.proofs.StepLaws.{counts-small, weighable, end-asks, entry-in, extending, gone-on}
+use borrow.Author.Needs.{needs}
+use Rattle.kplib.proofs.traverse.step.Statement.{statement}
+use Rattle.kplib.proofs.traverse.step.Tie as tie
+
+take-next-requires : tie.Need-take-next-requires
+take-next-requires c κs = (c .before .before .before .before .before .before .before .pre .1 .0, c .before .before .before .before .before .before .before .pre .1 .2 .queued-in)
+
+weigh-requires : tie.Need-weigh-requires
+weigh-requires c κs =
+    let b = c .before .before .before .before .before .before .before .before .before .before .before .before .before .before in
+    let k = c .before .before .before .before .before .before .take-next in
+    weighable (b .pre .0) (b .pre .1 .2) _ (entry-in (b .pre .0) (b .pre .1 .2) (k .kept .0) (b .pre .1 .0) (b .pre .1 .1) (k .ensures)) refl refl
+
+later-of-requires : tie.Need-later-of-requires
+later-of-requires c κs = search needs
+
+end-node-requires : tie.Need-end-node-requires
+end-node-requires c κs =
+    let b = c .before .before .before .before .before .before .before .before .before .before .before .before .before .before .before .before .before .before .before .before in
+    let k = c .before .before .before .before .before .before .before .before .before .before .before .before .take-next in
+    end-asks (b .pre .0) (b .pre .1 .2) _ (entry-in (b .pre .0) (b .pre .1 .2) (k .kept .0) (b .pre .1 .0) (b .pre .1 .1) (k .ensures))
+
+sub-queue-extensions : tie.Need-sub-queue-extensions
+sub-queue-extensions c = c .before .before .before .before .before .before .before .before .before .before .before .before .before .before .before .before .before .before .before .before .before .before .before .before .before .pre .1 .0
+
+queue-extensions-requires : tie.Need-queue-extensions-requires
+queue-extensions-requires c κs =
+    let b = c .before .before .before .before .before .before .before .before .before .before .before .before .before .before .before .before .before .before .before .before .before .before .before .before .before .before in
+    let k = c .before .before .before .before .before .before .before .before .before .before .before .before .before .before .before .before .before .before .take-next in
+    extending (b .pre .0) (b .pre .1 .2) (k .kept .0) (b .pre .1 .0) (b .pre .1 .1) (k .ensures) _ _ (c .before .before .before .before .before .end-node .ensures) (c .before .before .before .before .before .before .before .before .before .before .before .weigh .ensures .size-is)
+
+add-t43 : tie.Need-add-t43
+add-t43 c = search needs
+
+sub-t44 : tie.Need-sub-t44
+sub-t44 c = c .before .before .before .before .before .before .before .before .before .before .before .before .before .before .before .before .before .before .before .before .before .before .before .before .before .before .before .before .before .before .before .before .before .before .before .pre .1 .0
+
+add-t45 : tie.Need-add-t45
+add-t45 c =
+    let b = c .before .before .before .before .before .before .before .before .before .before .before .before .before .before .before .before .before .before .before .before .before .before .before .before .before .before .before .before .before .before .before .before .before .before .before in
+    let m = counts-small (b .pre .0) (b .pre .1 .2) in
+    record { fits = omega (arith, c .before .before .before .before .before .before .before .before .queue-extensions .ensures .0 .most) }
+
+add-t46 : tie.Need-add-t46
+add-t46 c =
+    let b = c .before .before .before .before .before .before .before .before .before .before .before .before .before .before .before .before .before .before .before .before .before .before .before .before .before .before .before .before .before .before .before .before .before .before .before .before in
+    let m = counts-small (b .pre .0) (b .pre .1 .2) in
+    record { fits = omega arith }
+
+same-length : tie.Need-same-length
+same-length c = search needs
+
+same-length-2 : tie.Need-same-length-2
+same-length-2 c = search needs
+
+same-length-3 : tie.Need-same-length-3
+same-length-3 c = c .before .before .before .before .before .before .before .before .before .queue-extensions .kept .1 .1 .1 .1 .1 .1 .1 .0 ∙ c .before .before .before .before .before .before .before .before .before .before .before .before .before .before .before .before .before .before .before .before .before .before .before .before .before .before .before .before .take-next .kept .0
+
+same-length-4 : tie.Need-same-length-4
+same-length-4 c = c .before .before .before .before .before .before .before .before .before .before .before .before .before .before .before .before .before .before .before .before .before .weigh .kept .1 .1 .1 .1 .1 .1 .1 .1 .1 .1 .1 .0
+
+same-length-5 : tie.Need-same-length-5
+same-length-5 c = c .before .before .before .before .before .before .before .before .before .before .before .before .before .before .before .before .before .before .before .before .before .weigh .kept .1 .1 .1 .1 .1 .1 .1 .1 .1 .1 .1 .1 .0
+
+returns : tie.Need-returns
+returns c =
+    let b = c .before .before .before .before .before .before .before .before .before .before .before .before .before .before .before .before .before .before .before .before .before .before .before .before .before .before .before .before .before .before .before .before .before .before .before .before in
+    let k = c .before .before .before .before .before .before .before .before .before .before .before .before .before .before .before .before .before .before .before .before .before .before .before .before .before .before .before .before .take-next in
+    let q = c .before .before .before .before .before .before .before .before .before .queue-extensions in
+    (gone-on (b .pre .0) (b .pre .1 .2) (k .kept .0) (b .pre .1 .0) (b .pre .1 .1) (k .ensures) _ (q .ensures .0) (q .ensures .1) (c .before .before .before .before .before .before .before .before .before .before .before .before .before .before .before .before .before .before .before .before .before .weigh .ensures) (c .before .before .before .before .before .before .before .before .before .before .before .before .before .before .before .before .before .later-of .ensures), refl)
+
+pub step-spec : {M : Type 1} → statement M
+step-spec =
+    tie.close
+    (tie.spec
+    take-next-requires
+    weigh-requires
+    later-of-requires
+    end-node-requires
+    sub-queue-extensions
+    queue-extensions-requires
+    add-t43
+    sub-t44
+    add-t45
+    add-t46
+    same-length
+    same-length-2
+    same-length-3
+    same-length-4
+    same-length-5
+    returns)

@@ -1,0 +1,77 @@
+-- The answer of a call: what `apply_haplotype` returns, and what it writes.
+use Prim.Native.Nat.{ℕ, zero, suc, _+_, min}
+use mathlib.Core.Bool.{Bool, true, false, cond, _&&_}
+use mathlib.Core.List.{List, [], _∷_, _++_}
+use lib.Dec.{eqb}
+use lib.ListN.{length, drop}
+use Rattle.paths.specs.Search.{none}
+use Rattle.kplib.specs.Numbers.{Table, Parts, firstFault, searchMode}
+use Rattle.kplib.specs.Score.{start}
+use Rattle.kplib.specs.OneToOne.{oneToOne, loneRows}
+use Rattle.kplib.specs.Search.{scoredIn, leftIn, bestIn}
+use Rattle.kplib.specs.declared.graphparams.Settings.{Settings}
+use Rattle.kplib.specs.declared.pathscore.Scored.{Scored}
+use Rattle.kplib.specs.declared.traverse.Answer.{Answer}
+
+-- what is found: rows, their score, how many were scored, and whether these are all
+pub record Found : Type 0 where
+  pub rows : List ℕ
+  pub scored : Scored
+  pub count : ℕ
+  pub complete : Bool
+
+-- the search's best, the number of chains scored, and whether none is left queued
+unfoldable pub searched : Settings → Table → Parts → Found
+searched s t p = record {
+  rows = bestIn s t p .rows;
+  scored = bestIn s t p .scored;
+  count = length (scoredIn s t p);
+  complete = none (leftIn s t p);
+}
+
+-- one-to-one: count V + 2, complete yes
+unfoldable pub matchedAlone : Settings → Table → Parts → Found
+matchedAlone s t p =
+    let lone = oneToOne s (t .sizes) (t .features) (p .sizes) (p .features) in
+    record { rows = loneRows lone; scored = lone .scored; count = length (t .starts) + 2; complete = true }
+
+-- a refusal: no rows, no part list, three zeros, count 0, complete no
+abbrev pub noneFound : Found
+noneFound = record { rows = []; scored = start; count = 0; complete = false }
+
+-- what is found where the checks gave this number
+abbrev pub foundAfter : ℕ → Settings → Table → Parts → Found
+foundAfter zero s t p = cond (searchMode s (length (t .starts))) (searched s t p) (matchedAlone s t p)
+foundAfter (suc n) s t p = noneFound
+
+abbrev pub answerWith : ℕ → Found → Answer
+answerWith refusal f = record {
+  refusal = refusal;
+  rows = length (f .rows);
+  target = f .scored .target;
+  score = f .scored .score;
+  sizesim = f .scored .sizesim;
+  seqsim = f .scored .seqsim;
+  scored = f .count;
+  complete = f .complete;
+}
+
+unfoldable pub answerOf : Settings → Table → Parts → ℕ → ℕ → Answer
+answerOf s t p queueRoom answerRoom =
+    let refusal = firstFault s t p queueRoom answerRoom in
+    answerWith refusal (foundAfter refusal s t p)
+
+unfoldable pub rowsOf : Settings → Table → Parts → ℕ → ℕ → List ℕ
+rowsOf s t p queueRoom answerRoom = foundAfter (firstFault s t p queueRoom answerRoom) s t p .rows
+
+-- rows at the front of a buffer, its rest unchanged
+unfoldable pub placed : List ℕ → List ℕ → List ℕ
+placed buffer rows = rows ++ drop (length rows) buffer
+
+-- queue room is the shortest of the queue's slices
+abbrev pub queueRoom : List ℕ → List ℕ → List ℕ → ℕ
+queueRoom parents lastRows keys = min (length parents) (min (length lastRows) (length keys))
+
+-- the queue's slices are written by a search only
+unfoldable pub searches : Settings → Table → Parts → ℕ → ℕ → Bool
+searches s t p queueRoom answerRoom = eqb (firstFault s t p queueRoom answerRoom) 0 && searchMode s (length (t .starts))

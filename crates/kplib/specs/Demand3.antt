@@ -1,0 +1,43 @@
+-- Demand 3 of the answer to an accepted job in search mode. Chains are written last row first.
+use Prim.Native.Nat.{ℕ, _+_, _≤_, min}
+use mathlib.Core.Path.{_≡_}
+use mathlib.Core.Bool.{Bool, true}
+use mathlib.Core.List.{List, map, reverse}
+use lib.Dec.{leb}
+use lib.ListN.{length}
+use lib.Ieee.{le}
+use Rattle.paths.specs.Sums.{timesIn}
+use Rattle.paths.specs.Best.{Latest}
+use Rattle.paths.specs.Demand.{Lists}
+use Rattle.kplib.specs.Numbers.{Table, Parts}
+use Rattle.kplib.specs.Graph.{isChainIn, chainsOf}
+use Rattle.kplib.specs.Score.{chainScore}
+use Rattle.kplib.specs.Search.{Result, noLower, followsIn, scoredIn, resultOf}
+use Rattle.kplib.specs.Answer.{answerOf, rowsOf}
+use Rattle.kplib.specs.declared.graphparams.Settings.{Settings}
+use Rattle.kplib.specs.declared.pathscore.Scored.{Scored}
+use Rattle.kplib.specs.declared.traverse.Answer.{Answer}
+
+-- the rows and the score that an answer gives
+abbrev pub resultIn : Answer → List ℕ → Result
+resultIn a rows = record { rows = rows; scored = record { target = a .target; score = a .score; sizesim = a .sizesim; seqsim = a .seqsim } }
+
+module _ (s : Settings) (t : Table) (p : Parts) (queueRoom answerRoom : ℕ) where
+  pub record Demand3 : Type 0 where
+    -- only chains of the graph are scored
+    pub only-chains : (x : List ℕ) → 1 ≤ timesIn x (scoredIn s t p) → isChainIn (t .starts) (t .ends) (s .full) x ≡ true
+    -- and none twice
+    pub none-twice : (x : List ℕ) → timesIn x (scoredIn s t p) ≤ 1
+    -- the count reported is their number
+    pub counted : answerOf s t p queueRoom answerRoom .scored ≡ length (scoredIn s t p)
+    -- which is the smaller of N and maxpaths + 1
+    pub as-many : answerOf s t p queueRoom answerRoom .scored ≡ min (chainsOf (t .starts) (t .ends) (s .full)) (s .maxpaths + 1)
+    -- complete is yes exactly when N is at most maxpaths + 1
+    pub complete-when : answerOf s t p queueRoom answerRoom .complete ≡ leb (chainsOf (t .starts) (t .ends) (s .full)) (s .maxpaths + 1)
+    -- and then every chain of the graph is scored
+    pub complete-all : answerOf s t p queueRoom answerRoom .complete ≡ true → Lists (followsIn s t p) (length (t .starts)) (scoredIn s t p)
+    -- the answer is the scoring's result for the latest of the best among the chains scored
+    pub latest-best : Latest noLower (resultIn (answerOf s t p queueRoom answerRoom) (rowsOf s t p queueRoom answerRoom)) (map (resultOf s t p) (scoredIn s t p))
+    -- and when complete is yes no chain of the graph scores higher
+    pub none-higher : answerOf s t p queueRoom answerRoom .complete ≡ true → (x : List ℕ) → isChainIn (t .starts) (t .ends) (s .full) x ≡ true
+        → le (chainScore s (t .sizes) (t .features) (p .sizes) (p .features) (reverse x) .score) (answerOf s t p queueRoom answerRoom .score) ≡ true

@@ -1,0 +1,149 @@
+// The queue of the search, in three lent slices. Entries are only ever added: an entry has a parent and the row that it adds to
+// the parent's chain. `keys` holds, for each entry still queued, its distance × 2^20 + its number, in the order of queueing.
+ghost use mathlib.Core.Path.{_≡_};
+ghost use Prim.Native.Nat.{ℕ, _+_, _-_, _*_, _<_, _≤_};
+ghost use lib.ListN.{length, getD, take, drop};
+ghost use lib.IntN.{ℤ, natAbs, _+ℤ_, _-ℤ_};
+ghost use mathlib.Core.List.{reverse};
+ghost use Rattle.paths.specs.Queue.{Least, Taken, Walk, Queued, chainAt, keyOf, without};
+ghost use Rattle.kplib.specs.Sums.{sizeOf};
+ghost use Rattle.kplib.specs.Graph.{mayFollowIn};
+ghost use Rattle.kplib.specs.Search.{distanceTo};
+ghost use Rattle.kplib.specs.SearchSteps.{Rowed, Extending, endAt};
+use crate::vargraph::Node;
+use crate::vargraph::Row;
+use crate::vargraph::extends;
+use crate::vargraph::node_of;
+
+// The place of the least of the first `queued` keys.
+fn least(keys: &[u64], queued: usize) -> usize
+    requires { do ⌜ (0 < queued) × (queued ≤ (← ⟦keys.len()⟧)) ⌝ }
+    ensures { λ r. ⌜ Least (now (keys .entry)) queued r ⌝ }
+{
+    let mut place: usize = 0;
+    let mut i: usize = 1;
+    while i < queued {
+        if keys[i] < keys[place] {
+            place = i;
+        }
+        i += 1;
+    }
+    place
+}
+
+// Takes out the key at `place`: the later ones move down over it.
+fn take_out(keys: &mut [u64], queued: usize, place: usize)
+    requires { do ⌜ (place < queued) × (queued ≤ (← ⟦keys.len()⟧)) ⌝ }
+    ensures { λ _. ⌜ take (queued - 1) (now (keys .exit)) ≡ without place (take queued (now (keys .entry))) ⌝ }
+{
+    let mut i = place + 1;
+    while i < queued {
+        keys[i - 1] = keys[i];
+        i += 1;
+    }
+}
+
+// Takes the nearest entry, the earliest queued among equals, out of the queue.
+pub(crate) fn take_next(keys: &mut [u64], queued: usize) -> usize
+    requires { do ⌜ (0 < queued) × (queued ≤ (← ⟦keys.len()⟧)) ⌝ }
+    ensures { λ r. ⌜ Taken (now (keys .entry)) queued (now (keys .exit)) r ⌝ }
+{
+    let place = least(keys, queued);
+    let entry = (keys[place] % 1048576) as usize;
+    take_out(keys, queued, place);
+    entry
+}
+
+// Reads an entry's chain back through its parents to the end of `chain`, rows ascending; says where it begins.
+pub(crate) fn read_chain(parents: &[u32], lasts: &[u32], entry: usize, chain: &mut [u32]) -> usize
+    requires { do ⌜ Walk (now parents) (now lasts) entry (← ⟦chain.len()⟧) ⌝ }
+    ensures { λ r. ⌜ (r ≤ length (now (chain .exit))) × (drop r (now (chain .exit)) ≡ reverse (chainAt (now (parents .entry)) (now (lasts .entry)) entry)) ⌝ }
+{
+    let mut at = chain.len();
+    let mut i = entry;
+    while i > 0 {
+        at -= 1;
+        chain[at] = lasts[i];
+        i = parents[i] as usize;
+    }
+    at
+}
+
+// How far a is from b.
+fn apart(a: i32, b: i32) -> u64
+    requires { ⌜ (natAbs a ≤ 8388608) × (natAbs b ≤ 8388608) ⌝ }
+    ensures { λ r. ⌜ r ≡ natAbs (a -ℤ b) ⌝ }
+{
+    let d = a - b;
+    if d < 0 { (0 - d) as u64 } else { d as u64 }
+}
+
+// The key of an entry whose chain has this size.
+pub(crate) fn key(size: i32, target: i32, entry: usize) -> u64
+    requires { ⌜ (natAbs size ≤ 8388608) × (natAbs target ≤ 8388608) × (entry < 1048576) ⌝ }
+    ensures { λ r. ⌜ r ≡ keyOf (natAbs (size -ℤ target)) entry ⌝ }
+{
+    apart(size, target) * 1048576 + (entry as u64)
+}
+
+// The size of a chain.
+pub(crate) fn rows_size(sizes: &[i32], rows: &[u32]) -> i32
+    requires { ⌜ Rowed (now sizes) (now rows) ⌝ }
+    ensures { λ r. ⌜ r ≡ sizeOf (now (sizes .entry)) (now (rows .entry)) ⌝ }
+{
+    let mut size: i32 = 0;
+    let mut i: usize = 0;
+    while i < rows.len() {
+        let r = rows[i] as usize;
+        size += sizes[r];
+        i += 1;
+    }
+    size
+}
+
+// The node at which an entry's chain ends.
+pub(crate) fn end_node(lasts: &[u32], entry: usize) -> Node
+    requires { do ⌜ (entry < (← ⟦lasts.len()⟧)) × ((entry ≡ 0 → ⊥) → getD (now lasts) entry 0 ≤ 64) ⌝ }
+    ensures { λ r. ⌜ r .0 ≡ endAt entry (getD (now (lasts .entry)) entry 0) ⌝ }
+{
+    if entry == 0 {
+        return Node(0);
+    }
+    node_of(Row(lasts[entry]))
+}
+
+// Queues the extensions of an entry's chain, highest node first, behind the `used` entries and the `queued` keys. Returns
+// how many. `end` is the node at which the chain ends, `size` its size, `target` the haplotype's.
+pub(crate) fn queue_extensions(
+    starts: &[u64],
+    ends: &[u64],
+    sizes: &[i32],
+    full: bool,
+    target: i32,
+    parents: &mut [u32],
+    lasts: &mut [u32],
+    keys: &mut [u64],
+    used: usize,
+    queued: usize,
+    entry: usize,
+    end: Node,
+    size: i32,
+) -> usize
+    requires { ⌜ Extending (now starts) (now ends) (now sizes) full target (now parents) (now lasts) (now keys) used queued entry (end .0) size ⌝ }
+    ensures { λ r. ⌜ Queued (mayFollowIn (now (starts .entry)) (now (ends .entry)) full) (length (now (starts .entry))) (distanceTo (now (sizes .entry)) target) (now (parents .entry)) (now (lasts .entry)) (take queued (now (keys .entry))) used entry (now (parents .exit)) (now (lasts .exit)) (take (queued + r) (now (keys .exit))) r ⌝ }
+    ensures { λ r. ⌜ queued + r ≤ length (now (keys .exit)) ⌝ }
+{
+    let mut added: usize = 0;
+    let mut r = starts.len();
+    while r > 0 {
+        r -= 1;
+        if extends(starts, ends, full, end, Row(r as u32)) {
+            let new = used + added;
+            parents[new] = entry as u32;
+            lasts[new] = r as u32;
+            keys[queued + added] = key(size + sizes[r], target, new);
+            added += 1;
+        }
+    }
+    added
+}

@@ -1,0 +1,140 @@
+-- A step over the flat queue is a step of the rule over the list of chains. What is done and what is left come to the whole, so at the end what is done is the whole.
+use mathlib.Core.Path.{_≡_, refl, sym, ap, _∙_}
+use Prim.Native.Nat.{ℕ, zero, suc, _+_, _-_, _*_, _≤_, _<_}
+use native.Mathlib.Omega.{arith}
+use native.Mathlib.Nat.{mul-le-mul-right}
+use mathlib.Core.Bool.{Bool, true, false, cond}
+use mathlib.Core.List.{List, [], _∷_, _++_, map}
+use lib.ListN.{length, getD, take}
+use lib.Seq.{length-take-le, getD-take}
+use Rattle.paths.specs.Chains.{extensions, isChain}
+use Rattle.paths.specs.Search.{none, pick, after, scored, left}
+use Rattle.paths.specs.Best.{All, best}
+use Rattle.paths.specs.Demand.{scoredChains, leftChains}
+use Rattle.paths.specs.Queue.{chainAt, keyOf, entryOf, without, Key, chainsOf, Least, Taken, Queue, Queued, Running, Ended}
+use Rattle.paths.proofs.BestLaws.{all-map}
+use Rattle.paths.proofs.TableLaws.{chain-root}
+use Rattle.paths.proofs.PickLaws.{all-at, pick-least, least-all, length-without}
+use Rattle.paths.proofs.QueueLaws.{queue-begin, queue-without}
+
+module _ {A : Type 0} (D : A → ℕ) (X : A → List A) where
+  one-scored : (f : ℕ) (Q : List A) (x : A) (q : List A) (c : A) (r : List A) → Q ≡ x ∷ q → pick D x q ≡ (c, r) → scored D X (suc f) Q ≡ c ∷ scored D X f (r ++ X c)
+  unfolding scored after
+  one-scored f Q x q c r e p = rw e (rw p)
+
+  one-left : (f : ℕ) (Q : List A) (x : A) (q : List A) (c : A) (r : List A) → Q ≡ x ∷ q → pick D x q ≡ (c, r) → left D X (suc f) Q ≡ left D X f (r ++ X c)
+  unfolding left after
+  one-left f Q x q c r e p = rw e (rw p)
+
+  none-scored : (f : ℕ) → scored D X f [] ≡ []
+  unfolding scored
+  none-scored zero = refl
+  none-scored (suc f) = refl
+
+  none-left : (f : ℕ) → left D X f [] ≡ []
+  unfolding left
+  none-left zero = refl
+  none-left (suc f) = refl
+
+best-step : {R : Type 0} (le : R → R → Bool) (b r : R) (l : List R) → best le b (r ∷ l) ≡ best le (cond (le b r) r b) l
+unfolding best
+best-step le b r l = refl
+
+module _ {R : Type 0} (le : R → R → Bool) (start : R) (score : List ℕ → R) (follows : List ℕ → ℕ → Bool) (v : ℕ) (D : List ℕ → ℕ) (steps : ℕ) where
+  abbrev X : List ℕ → List (List ℕ)
+  X c = extensions follows v c
+
+  -- the empty chain is queued
+  pub begin : (par row : List ℕ) → Running le start score follows v D steps par row (keyOf (D []) 0 ∷ []) 1 0 start
+  begin par row =
+      let s : steps - 0 ≡ steps = omega arith in
+      let z : entryOf (keyOf (D []) 0) ≡ 0 = omega arith in
+      let q : chainsOf par row (keyOf (D []) 0 ∷ []) ≡ [] ∷ [] = rw (z, chain-root par row) in
+      record {
+        queue = queue-begin follows v D par row;
+        all = omega arith;
+        room = omega arith;
+        below = omega arith;
+        counted = rw (s, q) (omega arith);
+        lefts = rw (s, q);
+        bests = rw (s, q);
+      }
+
+module _ {R : Type 0} {le : R → R → Bool} {start : R} {score : List ℕ → R} {follows : List ℕ → ℕ → Bool} {v : ℕ} {D : List ℕ → ℕ} {steps : ℕ}
+    {par row : List ℕ} {n k : ℕ} {b : R} where
+  -- nothing is queued
+  pub end-empty : Running le start score follows v D steps par row [] n k b → Ended le start score follows v D steps k b true
+  unfolding best
+  end-empty h =
+      let e : scored D (λ c. extensions follows v c) (steps - k) [] ≡ [] = none-scored D (λ c. extensions follows v c) (steps - k) in
+      let f : left D (λ c. extensions follows v c) (steps - k) [] ≡ [] = none-left D (λ c. extensions follows v c) (steps - k) in
+      record {
+        best-is = rw e at (h .bests);
+        count-is = omega (arith, (rw e at (h .counted)));
+        complete-is = ap none (sym f ∙ h .lefts);
+      }
+
+  -- all steps are made, and something is queued
+  pub end-steps : {keys : List ℕ} → Running le start score follows v D steps par row keys n k b → k ≡ steps → 0 < length keys → Ended le start score follows v D steps k b false
+  unfolding best scored left
+  end-steps {keys} h e p =
+      let z : steps - k ≡ 0 = omega arith in
+      record {
+        best-is = rw z at (h .bests);
+        count-is = omega (arith, (rw z at (h .counted)));
+        complete-is = some keys p ∙ ap none (rw z at (h .lefts));
+      }
+    where
+      some : (l : List ℕ) → 0 < length l → false ≡ none (chainsOf par row l)
+      some [] p = absurd (omega arith)
+      some (x ∷ l) p = refl
+
+module _ {R : Type 0} {le : R → R → Bool} {start : R} {score : List ℕ → R} {follows : List ℕ → ℕ → Bool} {v : ℕ} {D : List ℕ → ℕ} {steps : ℕ}
+    {par row keys : List ℕ} {n k q : ℕ} {b : R} {keys' : List ℕ} {e : ℕ}
+    (h : Running le start score follows v D steps par row (take q keys) n k b) (l : q ≤ length keys) (t : Taken keys q keys' e) where
+  -- the entry that is taken is one of the queue's
+  pub taken-in : e < n
+  taken-in =
+      let len = length-take-le q keys l in
+      let i = t .place in
+      let w : Key D par row n (getD (take q keys) i 0) = all-at (λ j. Key D par row n j) 0 (take q keys) i (omega (arith, t .at .within)) (h .queue .keyed) in
+      omega (arith, w .within, t .names, getD-take q keys i 0 (t .at .within))
+
+  -- the queue without it
+  pub taken-queue : Queue follows v D par row (take (q - 1) keys') n
+  taken-queue = rw (t .rest) (queue-without (t .place) (h .queue))
+
+  picked : (x : List ℕ) × (r : List (List ℕ)) × (chainsOf par row (take q keys) ≡ x ∷ r) × (pick D x r ≡ (chainAt par row e, chainsOf par row (take (q - 1) keys')))
+  picked =
+      let len = length-take-le q keys l in
+      let i = t .place in
+      let same : e ≡ entryOf (getD (take q keys) i 0) = t .names ∙ ap entryOf (sym (getD-take q keys i 0 (t .at .within))) in
+      let p = pick-least D (λ j. chainAt par row (entryOf j)) (take q keys) i (omega (arith, t .at .within))
+      (all-map (λ j. Key D par row n j) (λ j. j ≡ keyOf (D (chainAt par row (entryOf j))) (entryOf j)) (λ j w. w .is) (take q keys) (h .queue .keyed)) (h .queue .rising) (least-all l (t .at)) in
+      (p .0, p .1, p .2, rw (same, t .rest) (p .3))
+
+  module _ {par' row' keys'' : List ℕ} {added : ℕ} (less : k < steps) (p : Queued follows v D par row (take (q - 1) keys') n e par' row' keys'' added) where
+    next-scored : scored D (λ c. extensions follows v c) (steps - k) (chainsOf par row (take q keys)) ≡ chainAt par row e ∷ scored D (λ c. extensions follows v c) (steps - (k + 1)) (chainsOf par' row' keys'')
+    next-scored =
+        let z : steps - k ≡ suc (steps - (k + 1)) = omega arith in
+        rw (z, p .chains) (one-scored D (λ c. extensions follows v c) (steps - (k + 1)) (chainsOf par row (take q keys)) (picked .0) (picked .1) (chainAt par row e) (chainsOf par row (take (q - 1) keys')) (picked .2) (picked .3))
+
+    next-left : left D (λ c. extensions follows v c) (steps - k) (chainsOf par row (take q keys)) ≡ left D (λ c. extensions follows v c) (steps - (k + 1)) (chainsOf par' row' keys'')
+    next-left =
+        let z : steps - k ≡ suc (steps - (k + 1)) = omega arith in
+        rw (z, p .chains) (one-left D (λ c. extensions follows v c) (steps - (k + 1)) (chainsOf par row (take q keys)) (picked .0) (picked .1) (chainAt par row e) (chainsOf par row (take (q - 1) keys')) (picked .2) (picked .3))
+
+    -- one step: the chain taken is scored, its result replaces the best unless it is lower, and its extensions are queued
+    pub step-on : Running le start score follows v D steps par' row' keys'' (n + added) (k + 1) (cond (le b (score (chainAt par row e))) (score (chainAt par row e)) b)
+    step-on =
+        let len = length-take-le q keys l in
+        let gone : length (take (q - 1) keys') ≡ q - 1 = ap length (t .rest) ∙ omega (arith, length-without (t .place) (take q keys) (omega (arith, t .at .within)), len) in
+        record {
+          queue = p .queue;
+          all = omega (arith, h .all, p .long, gone, len, t .at .within);
+          room = omega (arith, h .room, p .most);
+          below = omega arith;
+          counted = omega (arith, h .counted, ap length next-scored);
+          lefts = sym next-left ∙ h .lefts;
+          bests = sym (best-step le b (score (chainAt par row e)) (map score (scored D (λ c. extensions follows v c) (steps - (k + 1)) (chainsOf par' row' keys'')))) ∙ (rw next-scored at (h .bests));
+        }
