@@ -36,12 +36,13 @@ fn bar(out: &mut String, row: &Times, y: f64) {
     };
     text(out, LEFT - 8.0, y + 12.0, "end", &row.name);
     writeln!(out, r#"<rect x="{LEFT}" y="{:.1}" width="{long:.1}" height="{:.1}" fill="{colour}"/>"#, y + 2.0, LINE - 5.0).unwrap();
-    text(out, LEFT + long + 5.0, y + 12.0, "start", &format!("{:.2}", row.ratio()));
+    let cut = if row.ratio() > MOST { ", cut" } else { "" };
+    text(out, LEFT + long + 5.0, y + 12.0, "start", &format!("{:.2}{cut}", row.ratio()));
 }
 
 pub fn svg(rows: &[Times]) -> String {
     let bottom = TOP + LINE * rows.len() as f64;
-    let (width, height) = (LEFT + MOST * UNIT + 50.0, bottom + 12.0);
+    let (width, height) = (LEFT + MOST * UNIT + 80.0, bottom + 12.0);
     let mut out = String::new();
     writeln!(
         out,

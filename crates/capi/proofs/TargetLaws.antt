@@ -1,19 +1,20 @@
 -- The number of an answer's target is at most 65: each scoring begins with no part list and takes up none that leaves out more than all
 -- parts, whichever result is kept; and an accepted call has at most 64 parts. Assumes nothing.
 use mathlib.Core.Path.{_≡_, refl, subst}
-use mathlib.Core.Bool.{Bool, true, false, cond}
+use mathlib.Core.Bool.{Bool, true, false, cond, not, _&&_}
 use mathlib.Core.List.{List, [], _∷_, map}
 use Prim.Native.Nat.{ℕ, zero, suc, _+_, _-_, _^_, _≤_}
 use native.Mathlib.Omega.{arith}
 use lib.IntN.{ℤ}
 use lib.ListN.{length}
-use lib.Ieee.{lt}
+use lib.Dec.{eqb}
+use lib.Ieee.{Float, lt}
 use Rattle.metrics.specs.Similarity.{whole}
 use Rattle.paths.specs.Best.{best}
 use Rattle.kplib.specs.Numbers.{Table, Parts, firstFault, searchMode}
 use Rattle.kplib.specs.Parts.{partLists, wholeOf}
 use Rattle.kplib.specs.Sums.{Total, totalOf}
-use Rattle.kplib.specs.Score.{start, targetOf, listScore, greaterOf, afterList, afterLists, chainScore}
+use Rattle.kplib.specs.Score.{sign, gapOf, scoreValue, sizesimOfTotals, seqsimOfTotals, start, targetOf, afterList, afterLists, chainScore}
 use Rattle.kplib.specs.OneToOne.{nodeTotal, aloneScore, latestOf, overNodes, noLone, oneToOne}
 use Rattle.kplib.specs.Search.{Result, noLower, startResult, resultOf, scoredIn}
 use Rattle.kplib.specs.Answer.{Found, searched, matchedAlone, foundAfter, answerOf}
@@ -34,14 +35,29 @@ list-within : (n left : ℕ) → left ≤ n → targetNumber (targetOf left) ≤
 list-within n zero h = omega arith
 list-within n (suc left) h = omega arith
 
-after-within : (s : Settings) (e : ℕ) (sizes features : List ℤ) (chain : Total) (b : Scored) (list : List ℕ) →
-    Within (length sizes) b → Within (length sizes) (afterList s e sizes features chain b list)
-unfolding afterList listScore greaterOf
-after-within s e sizes features chain b list w =
-    let left = length sizes - length list in
-    let few : targetNumber (targetOf left) ≤ 1 + length sizes = list-within (length sizes) left (omega arith) in
-    let skipped-or = either (λ v. Within (length sizes) (greaterOf b left v)) in
-    skipped-or _ _ _ w (skipped-or _ _ _ w (skipped-or _ _ _ w (skipped-or _ _ _ w (either (Within (length sizes)) _ _ b few w))))
+module _ (s : Settings) (e : ℕ) (sizes features : List ℤ) (chain : Total) (b : Scored) (list : List ℕ) (w : Within (length sizes) b) where
+  abbrev left : ℕ
+  left = length sizes - length list
+
+  abbrev total : Total
+  total = totalOf e sizes features list
+
+  abbrev points : Float
+  points = scoreValue s (seqsimOfTotals s chain total) (sizesimOfTotals chain total) left (gapOf (s .squish) (total .count) (chain .count))
+
+  by-tests : (t u v x y : Bool) → (s .squish && eqb (chain .count) 0) ≡ t → not (eqb (sign (chain .size)) (sign (total .size))) ≡ u →
+      lt (sizesimOfTotals chain total) (s .sizesim) ≡ v → lt (seqsimOfTotals s chain total) (s .seqsim) ≡ x → lt (b .score) points ≡ y →
+      Within (length sizes) (afterList s e sizes features chain b list)
+  unfolding afterList
+  by-tests true u v x y p q r i j = rw p w
+  by-tests false true v x y p q r i j = rw (p, q) w
+  by-tests false false true x y p q r i j = rw (p, q, r) w
+  by-tests false false false true y p q r i j = rw (p, q, r, i) w
+  by-tests false false false false true p q r i j = rw (p, q, r, i, j) (list-within (length sizes) left (omega arith))
+  by-tests false false false false false p q r i j = rw (p, q, r, i, j) w
+
+  after-within : Within (length sizes) (afterList s e sizes features chain b list)
+  after-within = by-tests _ _ _ _ _ refl refl refl refl refl
 
 lists-within : (n : ℕ) (after : Scored → List ℕ → Scored) → ((b : Scored) (list : List ℕ) → Within n b → Within n (after b list)) →
     (b : Scored) (lists : List (List ℕ)) → Within n b → Within n (afterLists after b lists)
@@ -53,9 +69,10 @@ chain-within : (s : Settings) (sizes features partSizes partFeatures : List ℤ)
     Within (length partSizes) (chainScore s sizes features partSizes partFeatures chain)
 unfolding chainScore
 chain-within s sizes features partSizes partFeatures chain =
-    lists-within (length partSizes) _
-    (λ b list w. after-within s (4 ^ s .k) partSizes partFeatures (totalOf (4 ^ s .k) sizes features chain) b list w)
-    start _ (omega arith)
+    let total = totalOf (4 ^ s .k) sizes features chain in
+    lists-within (length partSizes) (afterList s (4 ^ s .k) partSizes partFeatures total)
+    (λ b list w. after-within s (4 ^ s .k) partSizes partFeatures total b list w)
+    start (partLists (length partSizes) (s .fnmax) (s .pileupmax)) (omega arith)
 
 best-keeps : {A R : Type 0} (P : R → Type 0) (le : R → R → Bool) (f : A → R) → ((a : A) → P (f a)) → (b : R) → P b → (l : List A) → P (best le b (map f l))
 unfolding best
@@ -92,10 +109,11 @@ nodes-within n step keeps b node (suc more) w = nodes-within n step keeps (step 
 alone-within : (s : Settings) (t : Table) (p : Parts) → Within (length (p .sizes)) (matchedAlone s t p .scored)
 unfolding matchedAlone oneToOne aloneScore
 alone-within s t p =
-    nodes-within (length (p .sizes)) _
-    (λ b node w. latest-within (length (p .sizes)) b node _ w
-    (after-within s (4 ^ s .k) (p .sizes) (p .features) _ start (wholeOf (length (p .sizes))) (omega arith)))
-    noLone 0 _ (omega arith)
+    let node-total = nodeTotal (4 ^ s .k) (t .sizes) (t .features) in
+    nodes-within (length (p .sizes)) (λ best node. latestOf best node (aloneScore s (p .sizes) (p .features) (node-total node)))
+    (λ b node w. latest-within (length (p .sizes)) b node (aloneScore s (p .sizes) (p .features) (node-total node)) w
+    (after-within s (4 ^ s .k) (p .sizes) (p .features) (node-total node) start (wholeOf (length (p .sizes))) (omega arith)))
+    noLone 0 (length (t .sizes) + 2) (omega arith)
 
 pub target-within : (s : Settings) (t : Table) (p : Parts) (queueRoom answerRoom : ℕ) → targetNumber (answerOf s t p queueRoom answerRoom .target) ≤ 65
 unfolding answerOf

@@ -1,3 +1,5 @@
+-- Each of the seven numbers is what its own call promises, or stands in the answer.
+use mathlib.Core.Path.{refl}
 use borrow.Author.Needs.{needs}
 use Rattle.capi.proofs.report.put_report.Statement.{statement}
 use Rattle.capi.proofs.report.put_report.Tie as tie
@@ -29,7 +31,9 @@ flag-number-requires c κs = search needs
 
 -- src/report.rt:33:1
 returns : tie.Need-returns
-returns c = ?
+returns c =
+    let b = c .before .before .before in
+    rw (← b .before .target-number .ensures, ← b .bits-of .ensures, ← c .before .before .bits-of2 .ensures, ← c .before .bits-of3 .ensures, ← c .flag-number .ensures) refl
 
 pub put-report-spec : {M : Type 1} → statement M
 put-report-spec =
