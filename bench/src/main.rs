@@ -99,16 +99,29 @@ fn capped_count(random: &mut Random, variants: usize, crowded: bool) -> Times {
     )
 }
 
+/// Inputs on which both sides say the same. They may differ only where a search stopped while chains of equal distance were
+/// queued, since kanpig's heap takes any of them; such an input is left out.
+fn agreeing(random: &mut Random, shape: &Shape, inputs: usize) -> Vec<Case> {
+    let mut room = Room::new();
+    let mut cases = Vec::new();
+    while cases.len() < inputs {
+        let case = Case::new(random, shape);
+        let answer = apply_haplotype_in(&case.settings, &case.table(), &case.haplotype(), &mut room).expect("within the limits");
+        if rust_side::agrees(&answer, &Search::new(&case).run()) {
+            cases.push(case);
+        } else {
+            assert!(!answer.complete, "the answers differ: {}", shape.name());
+        }
+    }
+    cases
+}
+
 fn search(random: &mut Random, shape: &Shape) -> Times {
     let inputs = if shape.maxpaths > 63 { 4 } else { 16 };
-    let cases: Vec<Case> = (0..inputs).map(|_| Case::new(random, shape)).collect();
+    let cases = agreeing(random, shape, inputs);
     let ours: Vec<(Settings, Table, Haplotype)> = cases.iter().map(|case| (case.settings, case.table(), case.haplotype())).collect();
     let rust: Vec<Search> = cases.iter().map(Search::new).collect();
     let mut room = Room::new();
-    for ((settings, table, haplotype), search) in ours.iter().zip(&rust) {
-        let answer = apply_haplotype_in(settings, table, haplotype, &mut room).expect("within the limits");
-        assert!(rust_side::agrees(&answer, &search.run()), "the answers differ: {}", shape.name());
-    }
     compare(
         shape.name(),
         inputs,
