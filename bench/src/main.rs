@@ -1,6 +1,6 @@
 //! Times the proved code beside kanpig's Rust, both in this process, on the same inputs. Each line gives the median time of
 //! one call, ours and the Rust's, and their ratio. Before a row is timed its answers are compared bit for bit.
-//! With a file's name it also writes the chart there.
+//! `--chart FILE` writes the chart too; `--only WORDS` times the rows whose name holds these words.
 use bench::cases::{shapes, Case, Shape};
 use bench::chart;
 use bench::random::Random;
@@ -9,7 +9,10 @@ use bench::timing::{compare, Times};
 use ndigomarr::{apply_haplotype_in, count_chains, seq_to_kmer_into, Haplotype, Room, Settings, Table};
 use std::hint::black_box;
 
-fn counter(random: &mut Random, k: u8, count: usize) -> Times {
+/// What the search may count to.
+const CAP: u32 = 4_096;
+
+fn counter(random: &mut Random, name: &str, k: u8, count: usize) -> Times {
     let inputs = 400_000 / count;
     let letters: Vec<Vec<u8>> = (0..inputs).map(|_| random.letters(count)).collect();
     let mut row = vec![0i32; 1 << (2 * k as usize)];
@@ -19,7 +22,7 @@ fn counter(random: &mut Random, k: u8, count: usize) -> Times {
         assert_eq!(floats(&row), wanted, "the counters differ");
     }
     compare(
-        format!("counter, k {k}, {count} letters"),
+        name,
         inputs,
         &mut |at| {
             black_box(seq_to_kmer_into(&letters[at], black_box(k), black_box(false), black_box(&mut row)).is_ok());
@@ -31,7 +34,7 @@ fn counter(random: &mut Random, k: u8, count: usize) -> Times {
 }
 
 /// Rows of entries from `low` to 3, the first entry apart.
-fn seqsim(random: &mut Random, kind: &str, k: u32, low: i32, first: i32, minkfreq: u32) -> Times {
+fn seqsim(random: &mut Random, name: &str, k: u32, low: i32, first: i32, minkfreq: u32) -> Times {
     let entries = 1 << (2 * k);
     let inputs = 65_536 / entries;
     let mut row = || {
@@ -46,7 +49,7 @@ fn seqsim(random: &mut Random, kind: &str, k: u32, low: i32, first: i32, minkfre
         assert_eq!(ours.to_bits(), rust_side::seqsim(fa, fb, minkfreq as f32).to_bits(), "the similarities differ");
     }
     compare(
-        format!("seqsim, k {k}, {kind}, minkfreq {minkfreq}"),
+        name,
         inputs,
         &mut |at| {
             let (a, b) = &rows[at];
@@ -66,7 +69,7 @@ fn sizesim(random: &mut Random) -> Times {
         assert_eq!(ours.to_bits(), rust_side::sizesim(a, b).to_bits(), "the similarities differ");
     }
     compare(
-        "sizesim".to_string(),
+        "sizesim",
         sizes.len(),
         &mut |at| {
             let (a, b) = sizes[at];
@@ -79,22 +82,20 @@ fn sizesim(random: &mut Random) -> Times {
     )
 }
 
-fn capped_count(random: &mut Random, variants: usize, crowded: bool) -> Times {
-    let cap = 4_096;
+fn capped_count(random: &mut Random, name: &str, variants: usize, crowded: bool) -> Times {
     let shape = Shape { k: 4, variants, maxpaths: 63, parts: 3, threshold: 0.0, crowded };
     let case = Case::new(random, &shape);
     let (table, graph) = (case.table(), Search::new(&case).variants);
-    let ours = count_chains(&table, true, cap).expect("within the limits");
-    assert_eq!(ours, rust_side::count_chains(&graph, cap), "the counts differ");
-    let kind = if crowded { "crowded" } else { "loose" };
+    let ours = count_chains(&table, true, CAP).expect("within the limits");
+    assert_eq!(ours, rust_side::count_chains(&graph, CAP), "the counts differ");
     compare(
-        format!("chain count up to {cap}, V {variants}, {kind}"),
+        name,
         1,
         &mut |_| {
-            black_box(count_chains(&table, true, black_box(cap)).is_ok());
+            black_box(count_chains(&table, true, black_box(CAP)).is_ok());
         },
         &mut |_| {
-            black_box(rust_side::count_chains(&graph, black_box(cap)));
+            black_box(rust_side::count_chains(&graph, black_box(CAP)));
         },
     )
 }
@@ -116,14 +117,24 @@ fn agreeing(random: &mut Random, shape: &Shape, inputs: usize) -> Vec<Case> {
     cases
 }
 
+/// Fewer inputs where one call of the Rust takes seconds.
+fn inputs_of(shape: &Shape) -> usize {
+    match (shape.maxpaths, shape.k, shape.parts) {
+        (63, _, _) => 16,
+        (_, 6, 8) => 1,
+        (_, 6, _) => 2,
+        _ => 4,
+    }
+}
+
 fn search(random: &mut Random, shape: &Shape) -> Times {
-    let inputs = if shape.maxpaths > 63 { 4 } else { 16 };
+    let inputs = inputs_of(shape);
     let cases = agreeing(random, shape, inputs);
     let ours: Vec<(Settings, Table, Haplotype)> = cases.iter().map(|case| (case.settings, case.table(), case.haplotype())).collect();
     let rust: Vec<Search> = cases.iter().map(Search::new).collect();
     let mut room = Room::new();
     compare(
-        shape.name(),
+        &shape.name(),
         inputs,
         &mut |at| {
             let (settings, table, haplotype) = &ours[at];
@@ -135,39 +146,76 @@ fn search(random: &mut Random, shape: &Shape) -> Times {
     )
 }
 
-/// Prints a row as soon as it is known, and keeps it.
-fn told(rows: &mut Vec<Times>, times: Times) {
-    println!("{:<66} {:>12.1} {:>12.1} {:>8.2}", times.name, times.ours / 1e3, times.rust / 1e3, times.ratio());
-    rows.push(times);
+/// What is asked for: a chart's file, and words that stand in the names of the rows wanted.
+struct Asked {
+    chart: Option<String>,
+    only: String,
+}
+
+fn asked() -> Asked {
+    let mut asked = Asked { chart: None, only: String::new() };
+    let mut words = std::env::args().skip(1);
+    while let Some(word) = words.next() {
+        let value = words.next();
+        match (word.as_str(), value) {
+            ("--chart", Some(file)) => asked.chart = Some(file),
+            ("--only", Some(only)) => asked.only = only,
+            _ => panic!("usage: bench [--chart FILE] [--only WORDS]"),
+        }
+    }
+    asked
+}
+
+/// The table: a row is printed as soon as it is known.
+struct Rows {
+    only: String,
+    told: Vec<Times>,
+}
+
+impl Rows {
+    /// Each row has inputs of its own seed, so that it stands alone too.
+    fn tell(&mut self, name: &str, work: impl FnOnce(&mut Random) -> Times) {
+        if !name.contains(&self.only) {
+            return;
+        }
+        let times = work(&mut Random(1));
+        let [ours, rust] = [times.ours, times.rust].map(|nanos| nanos / 1e3);
+        println!("{name:<66} {ours:>12.2} {rust:>12.2} {:>8.2}", times.ratio());
+        self.told.push(times);
+    }
 }
 
 fn main() {
-    let mut random = Random(1);
-    let mut rows = Vec::new();
+    let asked = asked();
+    let mut rows = Rows { only: asked.only, told: Vec::new() };
     println!("{:<66} {:>12} {:>12} {:>8}", "one call, microseconds", "ours", "the Rust", "ratio");
     for k in [4, 6] {
         for count in [50, 100, 1_000, 100_000] {
-            told(&mut rows, counter(&mut random, k, count));
+            let name = format!("counter, k {k}, {count} letters");
+            rows.tell(&name, |random| counter(random, &name, k, count));
         }
     }
     for k in [4, 6] {
         // a large entry is what a long repeat gives
         for (kind, low, first) in [("non-negative", 0, 1), ("mixed", -3, -1), ("one large entry", -3, 100_000)] {
             for minkfreq in [0, 2] {
-                told(&mut rows, seqsim(&mut random, kind, k, low, first, minkfreq));
+                let name = format!("seqsim, k {k}, {kind}, minkfreq {minkfreq}");
+                rows.tell(&name, |random| seqsim(random, &name, k, low, first, minkfreq));
             }
         }
     }
-    told(&mut rows, sizesim(&mut random));
+    rows.tell("sizesim", sizesim);
     for variants in [16, 64] {
         for crowded in [true, false] {
-            told(&mut rows, capped_count(&mut random, variants, crowded));
+            let kind = if crowded { "crowded" } else { "loose" };
+            let name = format!("chain count up to {CAP}, V {variants}, {kind}");
+            rows.tell(&name, |random| capped_count(random, &name, variants, crowded));
         }
     }
     for shape in shapes() {
-        told(&mut rows, search(&mut random, &shape));
+        rows.tell(&shape.name(), |random| search(random, &shape));
     }
-    if let Some(file) = std::env::args().nth(1) {
-        std::fs::write(&file, chart::svg(&rows)).expect("the chart cannot be written");
+    if let Some(file) = asked.chart {
+        std::fs::write(&file, chart::svg(&rows.told)).expect("the chart cannot be written");
     }
 }

@@ -4,8 +4,8 @@ use std::time::Instant;
 /// A round takes about this long, or one call; few short rounds are cut by another program's turn.
 const ROUND_NANOS: f64 = 250_000.0;
 const MOST_ROUNDS: f64 = 301.0;
-const LEAST_ROUNDS: f64 = 5.0;
-/// A row of the table takes about this long, where five rounds do not take longer.
+const LEAST_ROUNDS: f64 = 3.0;
+/// A row of the table takes about this long, where three rounds do not take longer.
 const ROW_NANOS: f64 = 1_000_000_000.0;
 
 /// The median times of one call in nanoseconds.
@@ -60,10 +60,11 @@ impl<'a> Side<'a> {
 }
 
 /// The two sides take turns, so that a slow moment of the machine meets both.
-pub fn compare(name: String, inputs: usize, ours: &mut dyn FnMut(usize), rust: &mut dyn FnMut(usize)) -> Times {
+pub fn compare(name: &str, inputs: usize, ours: &mut dyn FnMut(usize), rust: &mut dyn FnMut(usize)) -> Times {
     let mut ours = Side::new(inputs, ours);
     let mut rust = Side::new(inputs, rust);
-    let (our, their) = (ours.nanos(inputs), rust.nanos(inputs));
+    // a first call of each tells how long a round is
+    let (our, their) = (ours.nanos(1), rust.nanos(1));
     let calls = (ROUND_NANOS / our.max(their)).ceil();
     // every input as often as every other, where a call is long and its input tells
     let round = if calls > 1.0 { calls } else { inputs as f64 };
@@ -72,5 +73,5 @@ pub fn compare(name: String, inputs: usize, ours: &mut dyn FnMut(usize), rust: &
         ours.round(round as usize);
         rust.round(round as usize);
     }
-    Times { name, ours: ours.median(), rust: rust.median() }
+    Times { name: name.to_string(), ours: ours.median(), rust: rust.median() }
 }
