@@ -1,0 +1,66 @@
+/* Ndigomarr for C: the functions of the archive that `rt staticlib capi` writes.
+ *
+ * Each function asks nothing of its caller but that every pointer and its length belong together
+ * and that no lent buffer overlaps another. It returns 0, or the number of a refusal; then every
+ * lent buffer is as it was. An empty slice still needs a pointer that is not null.
+ *
+ * What a call promises is proved of the Rattle source. Nothing checks this header against it.
+ */
+#ifndef NDIGOMARR_H
+#define NDIGOMARR_H
+
+#include <stdbool.h>
+#include <stddef.h>
+#include <stdint.h>
+
+/* Counts the windows of k letters in a row of 4^k entries, each +1, or -1 for a negative sequence.
+ * Refuses by 1 (k not 1 to 6), 6 (row_len not 4^k), 13 (over 131,072 letters), in this order. */
+uint32_t nd_seq_to_kmer(const uint8_t *letters, size_t letters_len, uint8_t k, bool negative,
+                        int32_t *row, size_t row_len);
+
+/* The similarity of two feature rows in *value: over entries with |x| + |y| at least minkfreq,
+ * 1 - (sum of |x - y|) / (sum of |x| + |y|). Refuses by 3 (minkfreq over 16,777,216), 6 (unequal
+ * lengths), 10 (a row's magnitudes sum to over 8,388,608); *value is then 0. */
+uint32_t nd_seqsim(const int32_t *a, size_t a_len, const int32_t *b, size_t b_len,
+                   uint32_t minkfreq, float *value);
+
+/* The similarity of two sizes in *value: equal ones 1, else smaller over larger, each first raised
+ * to at least 1. Refuses by 9 (a size over 8,388,608); *value is then 0. */
+uint32_t nd_sizesim(uint64_t a, uint64_t b, float *value);
+
+/* The number of paths of a table in *count, counted up to cap. Refuses by 3 (cap over 4,096) and
+ * then 4 to 8; *count is then 0. */
+uint32_t nd_count_chains(const uint64_t *starts, size_t starts_len, const uint64_t *ends,
+                         size_t ends_len, bool full, uint32_t cap, uint32_t *count);
+
+/* What stands in the report of a search. */
+enum nd_report {
+    ND_ROWS,     /* how many row numbers stand at the front of rows */
+    ND_TARGET,   /* 0 no part list, 1 the whole haplotype, 1 more for each part left out */
+    ND_SCORE,    /* the bits of a float, as the next two */
+    ND_SIZESIM,
+    ND_SEQSIM,
+    ND_SCORED,   /* how many paths were scored */
+    ND_COMPLETE, /* 1 where these were all paths: else a better one may exist */
+    ND_REPORT_LEN
+};
+
+/* The path of a table that best explains a haplotype. Rows are row numbers of the table handed
+ * over, from 0, ascending, at the front of rows, whose rest stays as it was. Of equally good paths
+ * the later one wins. V is starts_len, m is part_sizes_len; feature rows of 4^k entries lie one
+ * behind the other. The three queue buffers hold at least 1 + (maxpaths + 1) * V entries each in a
+ * search; their content afterwards is open. rows holds at least V. Refuses by 1 to 12; the report
+ * is then all zeros. */
+uint32_t nd_apply_haplotype(uint8_t k, bool squish, bool one_to_one, bool full, uint32_t maxpaths,
+                            uint32_t maxnodes, uint32_t fnmax, uint32_t pileupmax,
+                            uint32_t minkfreq, float sizesim, float seqsim, float fpenalty,
+                            float gpenalty, const uint64_t *starts, size_t starts_len,
+                            const uint64_t *ends, size_t ends_len, const int32_t *sizes,
+                            size_t sizes_len, const int32_t *features, size_t features_len,
+                            const int32_t *part_sizes, size_t part_sizes_len,
+                            const int32_t *part_features, size_t part_features_len,
+                            uint32_t *parents, size_t parents_len, uint32_t *last_rows,
+                            size_t last_rows_len, uint64_t *keys, size_t keys_len, uint32_t *rows,
+                            size_t rows_len, uint32_t report[ND_REPORT_LEN]);
+
+#endif

@@ -1,0 +1,158 @@
+//! The boundary: the archive's functions, declared once, and the room that they are lent.
+//!
+//! Nothing checks these declarations against the proved source, so they stand together here. A
+//! slice passes as a pointer and then a length; each function asks nothing more of its caller than
+//! that the two belong together and that no lent buffer overlaps another, which Rust's slices
+//! guarantee.
+use crate::{checked, Answer, Haplotype, Refusal, Room, Settings, Table, Target};
+
+mod archive {
+    extern "C" {
+        pub fn nd_seq_to_kmer(letters: *const u8, letters_len: usize, k: u8, negative: bool, row: *mut i32, row_len: usize) -> u32;
+        pub fn nd_seqsim(a: *const i32, a_len: usize, b: *const i32, b_len: usize, minkfreq: u32, value: *mut f32) -> u32;
+        pub fn nd_sizesim(a: u64, b: u64, value: *mut f32) -> u32;
+        pub fn nd_count_chains(starts: *const u64, starts_len: usize, ends: *const u64, ends_len: usize, full: bool, cap: u32, count: *mut u32) -> u32;
+        pub fn nd_apply_haplotype(
+            k: u8,
+            squish: bool,
+            one_to_one: bool,
+            full: bool,
+            maxpaths: u32,
+            maxnodes: u32,
+            fnmax: u32,
+            pileupmax: u32,
+            minkfreq: u32,
+            sizesim: f32,
+            seqsim: f32,
+            fpenalty: f32,
+            gpenalty: f32,
+            starts: *const u64,
+            starts_len: usize,
+            ends: *const u64,
+            ends_len: usize,
+            sizes: *const i32,
+            sizes_len: usize,
+            features: *const i32,
+            features_len: usize,
+            part_sizes: *const i32,
+            part_sizes_len: usize,
+            part_features: *const i32,
+            part_features_len: usize,
+            parents: *mut u32,
+            parents_len: usize,
+            last_rows: *mut u32,
+            last_rows_len: usize,
+            keys: *mut u64,
+            keys_len: usize,
+            rows: *mut u32,
+            rows_len: usize,
+            report: *mut [u32; 7],
+        ) -> u32;
+    }
+}
+
+/// 4^k, or no entries for a k that the counter refuses before it looks at the room.
+pub fn entries(k: u8) -> usize {
+    match k {
+        1..=6 => 1 << (2 * k),
+        _ => 0,
+    }
+}
+
+pub fn seq_to_kmer(letters: &[u8], k: u8, negative: bool, row: &mut [i32]) -> u32 {
+    unsafe { archive::nd_seq_to_kmer(letters.as_ptr(), letters.len(), k, negative, row.as_mut_ptr(), row.len()) }
+}
+
+pub fn seqsim(a: &[i32], b: &[i32], minkfreq: u32, value: &mut f32) -> u32 {
+    unsafe { archive::nd_seqsim(a.as_ptr(), a.len(), b.as_ptr(), b.len(), minkfreq, value) }
+}
+
+pub fn sizesim(a: u64, b: u64, value: &mut f32) -> u32 {
+    unsafe { archive::nd_sizesim(a, b, value) }
+}
+
+pub fn count_chains(starts: &[u64], ends: &[u64], full: bool, cap: u32, count: &mut u32) -> u32 {
+    unsafe { archive::nd_count_chains(starts.as_ptr(), starts.len(), ends.as_ptr(), ends.len(), full, cap, count) }
+}
+
+impl Room {
+    /// Grows to what a search is asked to be lent: 1 + (maxpaths + 1) × V entries, and none where it will be refused anyway.
+    fn grow(&mut self, settings: &Settings, variants: usize) {
+        let asked = settings.maxpaths <= 4095 && variants <= 64 && !settings.one_to_one;
+        let entries = if asked { 1 + (settings.maxpaths as usize + 1) * variants } else { 0 };
+        if entries > self.keys.len() {
+            self.parents.resize(entries, 0);
+            self.last_rows.resize(entries, 0);
+            self.keys.resize(entries, 0);
+        }
+    }
+}
+
+pub fn apply_haplotype(settings: &Settings, table: &Table, haplotype: &Haplotype, room: &mut Room) -> Result<Answer, Refusal> {
+    room.grow(settings, table.len());
+    let mut rows = vec![0; table.len()];
+    let mut report = [0; 7];
+    let number = search(settings, table, haplotype, room, &mut rows, &mut report);
+    let [count, target, score, sizesim, seqsim, scored, complete] = report;
+    let answer = Answer {
+        rows: rows.iter().take(count as usize).map(|&row| row as usize).collect(),
+        target: target_of(target),
+        score: f32::from_bits(score),
+        sizesim: f32::from_bits(sizesim),
+        seqsim: f32::from_bits(seqsim),
+        scored,
+        complete: complete == 1,
+    };
+    checked(number, answer)
+}
+
+/// The archive writes 0 for no part list, 1 for the whole haplotype, and 1 more for each part left out.
+fn target_of(number: u32) -> Target {
+    match number {
+        0 => Target::Nothing,
+        1 => Target::Whole,
+        more => Target::Partial(more - 1),
+    }
+}
+
+fn search(settings: &Settings, table: &Table, haplotype: &Haplotype, room: &mut Room, rows: &mut [u32], report: &mut [u32; 7]) -> u32 {
+    let s = settings;
+    unsafe {
+        archive::nd_apply_haplotype(
+            s.k,
+            s.squish,
+            s.one_to_one,
+            s.full,
+            s.maxpaths,
+            s.maxnodes,
+            s.fnmax,
+            s.pileupmax,
+            s.minkfreq,
+            s.sizesim,
+            s.seqsim,
+            s.fpenalty,
+            s.gpenalty,
+            table.starts().as_ptr(),
+            table.starts().len(),
+            table.ends().as_ptr(),
+            table.ends().len(),
+            table.sizes().as_ptr(),
+            table.sizes().len(),
+            table.features().as_ptr(),
+            table.features().len(),
+            haplotype.sizes().as_ptr(),
+            haplotype.sizes().len(),
+            haplotype.features().as_ptr(),
+            haplotype.features().len(),
+            room.parents.as_mut_ptr(),
+            room.parents.len(),
+            room.last_rows.as_mut_ptr(),
+            room.last_rows.len(),
+            room.keys.as_mut_ptr(),
+            room.keys.len(),
+            rows.as_mut_ptr(),
+            rows.len(),
+            report,
+        )
+    }
+}

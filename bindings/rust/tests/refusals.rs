@@ -1,0 +1,113 @@
+//! Every refusal of a search that a safe caller can reach. 11 and 12 it cannot: the room is made to fit.
+use ndigomarr::{apply_haplotype, Haplotype, Refusal, Settings, Table};
+
+fn one_letter() -> Settings {
+    Settings { k: 1, ..Settings::default() }
+}
+
+/// So many variants of one letter.
+fn table(variants: u64) -> Table {
+    let mut table = Table::new(1);
+    for at in 0..variants {
+        table.add_counted(at, at, 1, &[1, 0, 0, 0]);
+    }
+    table
+}
+
+/// So many parts of one letter.
+fn haplotype(parts: usize) -> Haplotype {
+    let mut haplotype = Haplotype::new(1);
+    for _ in 0..parts {
+        haplotype.add_counted(1, &[1, 0, 0, 0]);
+    }
+    haplotype
+}
+
+fn refusal(settings: &Settings, table: &Table, haplotype: &Haplotype) -> Refusal {
+    apply_haplotype(settings, table, haplotype).expect_err("refused")
+}
+
+fn number(settings: &Settings, table: &Table, haplotype: &Haplotype) -> u32 {
+    refusal(settings, table, haplotype).number()
+}
+
+#[test]
+fn the_largest_call_is_accepted() {
+    assert!(apply_haplotype(&one_letter(), &table(64), &haplotype(64)).is_ok());
+}
+
+#[test]
+fn settings_outside_their_limits() {
+    let with = |change: &dyn Fn(&mut Settings)| {
+        let mut settings = one_letter();
+        change(&mut settings);
+        number(&settings, &table(1), &haplotype(1))
+    };
+    assert_eq!(with(&|s| s.k = 0), 1);
+    assert_eq!(with(&|s| s.k = 7), 1);
+    assert_eq!(with(&|s| s.sizesim = f32::NAN), 2);
+    assert_eq!(with(&|s| s.seqsim = 1.5), 2);
+    assert_eq!(with(&|s| s.fpenalty = -0.5), 2);
+    assert_eq!(with(&|s| s.gpenalty = f32::INFINITY), 2);
+    assert_eq!(with(&|s| s.maxpaths = 4_096), 3);
+    assert_eq!(with(&|s| s.maxnodes = 65_536), 3);
+    assert_eq!(with(&|s| s.fnmax = 65_536), 3);
+    assert_eq!(with(&|s| s.pileupmax = 13), 3);
+    assert_eq!(with(&|s| s.minkfreq = 16_777_217), 3);
+}
+
+#[test]
+fn numbers_of_variants_and_parts() {
+    assert_eq!(number(&one_letter(), &table(0), &haplotype(1)), 4);
+    assert_eq!(number(&one_letter(), &table(65), &haplotype(1)), 5);
+    assert_eq!(number(&one_letter(), &table(1), &haplotype(65)), 5);
+}
+
+#[test]
+fn rows_counted_for_another_k() {
+    let settings = Settings { k: 2, ..one_letter() };
+    assert_eq!(number(&settings, &table(1), &haplotype(1)), 6);
+    let mut longer = haplotype(1);
+    longer.add_counted(1, &[1, 0, 0, 0, 0]);
+    assert_eq!(number(&one_letter(), &table(1), &longer), 6);
+}
+
+#[test]
+fn bounds_out_of_order() {
+    let mut turned = Table::new(1);
+    turned.add_counted(2, 1, 1, &[1, 0, 0, 0]);
+    assert_eq!(number(&one_letter(), &turned, &haplotype(1)), 7);
+    let mut falling = table(3);
+    falling.add_counted(1, 9, 1, &[1, 0, 0, 0]);
+    assert_eq!(number(&one_letter(), &falling, &haplotype(1)), 8);
+}
+
+#[test]
+fn sizes_and_rows_over_their_limits() {
+    for (size, row, wanted) in [(131_073, [1, 0, 0, 0], 9), (i32::MIN, [1, 0, 0, 0], 9), (1, [131_072, -1, 0, 0], 10)] {
+        let mut large = table(1);
+        large.add_counted(1, 1, size, &row);
+        assert_eq!(number(&one_letter(), &large, &haplotype(1)), wanted);
+        let mut part = haplotype(1);
+        part.add_counted(size, &row);
+        assert_eq!(number(&one_letter(), &table(1), &part), wanted);
+    }
+}
+
+#[test]
+fn letters_that_are_not_counted() {
+    let mut table = Table::new(7);
+    assert_eq!(table.add(1, 1, 1, b"A", false).map_err(Refusal::number), Err(1));
+    assert!(table.is_empty());
+    let mut haplotype = Haplotype::new(6);
+    assert_eq!(haplotype.add(1, &vec![b'A'; 131_073], false).map_err(Refusal::number), Err(13));
+    assert!(haplotype.is_empty());
+}
+
+#[test]
+fn a_refusal_says_the_tables_words() {
+    let said = refusal(&Settings { k: 9, ..one_letter() }, &table(1), &haplotype(1));
+    assert_eq!(said.to_string(), "refused 1: k not 1 to 6");
+    let error: Box<dyn std::error::Error> = said.into();
+    assert_eq!(error.to_string(), said.to_string());
+}
