@@ -1,13 +1,39 @@
 # `make run` and `make test` do all set-up themselves; README.md says what each target is for.
-.PHONY: run test check
+.PHONY: run test program oracle faults fuzz bindings bench
 
-run: check
+program:
+	rt check ndigomarr >&2
 
-check:
-	rt check
+run: program
+	target/bin/ndigomarr < examples/worked.job
+	tools/sheet answer examples/first-dive.tsv
+	tools/sheet draw examples/first-dive.tsv > target/first-dive.svg
+	@echo 'picture target/first-dive.svg'
 
-# rt ci stands last: its last line, 'N passed, 0 failed', is the gate's.
-test:
+# rt ci stands last: its last line, 'N passed, 0 failed', is the gate's. It proves all from nothing, so what runs before it builds for itself.
+test: program
 	tools/promises
 	rt fmt --check
+	tools/run-examples
+	SHEET_NEEDS_PROGRAM=1 tools/test_sheet
+	oracle/setup
+	oracle/run --short
+	bindings/test
 	rt ci
+
+oracle:
+	oracle/setup
+	oracle/run
+
+faults:
+	oracle/setup
+	oracle/faults
+
+fuzz: program
+	tools/fuzz --seed 1
+
+bindings:
+	bindings/test
+
+bench:
+	bench/run

@@ -18,7 +18,7 @@ use Rattle.kplib.specs.Score.{chainScore}
 use Rattle.kplib.specs.Search.{Result, noLower, startResult, followsIn, distanceIn, scoredIn, leftIn, resultOf, bestIn}
 use Rattle.kplib.specs.Answer.{searched, answerWith, foundAfter, answerOf, rowsOf, searches}
 use Rattle.audit.specs.Demand3.{Demand3, resultIn}
-use Rattle.kplib.specs.declared.graphparams.Settings.{Settings}
+use Rattle.params.specs.declared.Settings.{Settings}
 use Rattle.kplib.specs.declared.traverse.Answer.{Answer}
 use Rattle.kplib.proofs.GraphLaws.{counts-chains}
 use Rattle.kplib.proofs.AnswerLaws.{at-least-zero, score-number}

@@ -15,7 +15,7 @@ use Rattle.kplib.specs.Sums.{sizeFrom, sizeOf, rowPlus, zeros, featuresFrom, fe
 use Rattle.kplib.specs.Score.{listScore, greaterOf, afterList, afterLists, chainScore}
 use Rattle.kplib.specs.Search.{scoredIn, distanceTo, resultOf}
 use Rattle.kplib.specs.Answer.{searched, answerOf, rowsOf}
-use Rattle.kplib.specs.declared.graphparams.Settings.{Settings}
+use Rattle.params.specs.declared.Settings.{Settings}
 use Rattle.kplib.specs.declared.pathscore.Scored.{Scored}
 use Rattle.kplib.specs.declared.pathscore.Target.the-variants.{Whole}
 use Rattle.kplib.specs.declared.traverse.Answer.{Answer}

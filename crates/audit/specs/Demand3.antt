@@ -14,7 +14,7 @@ use Rattle.kplib.specs.Graph.{isChainIn, chainsOf}
 use Rattle.kplib.specs.Score.{chainScore}
 use Rattle.kplib.specs.Search.{Result, noLower, followsIn, scoredIn, resultOf}
 use Rattle.kplib.specs.Answer.{answerOf, rowsOf}
-use Rattle.kplib.specs.declared.graphparams.Settings.{Settings}
+use Rattle.params.specs.declared.Settings.{Settings}
 use Rattle.kplib.specs.declared.pathscore.Scored.{Scored}
 use Rattle.kplib.specs.declared.traverse.Answer.{Answer}
 

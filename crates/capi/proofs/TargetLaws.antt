@@ -18,7 +18,7 @@ use Rattle.kplib.specs.Score.{sign, gapOf, scoreValue, sizesimOfTotals, seqsimO
 use Rattle.kplib.specs.OneToOne.{nodeTotal, aloneScore, latestOf, overNodes, noLone, oneToOne}
 use Rattle.kplib.specs.Search.{Result, noLower, startResult, resultOf, scoredIn}
 use Rattle.kplib.specs.Answer.{Found, searched, matchedAlone, foundAfter, answerOf}
-use Rattle.kplib.specs.declared.graphparams.Settings.{Settings}
+use Rattle.params.specs.declared.Settings.{Settings}
 use Rattle.kplib.specs.declared.pathscore.Scored.{Scored}
 use Rattle.kplib.proofs.CheckedLaws.{accepted}
 use Rattle.capi.specs.Report.{targetNumber}

@@ -3,7 +3,7 @@ use Prim.Native.Nat.{ℕ, _+_}
 use mathlib.Core.Bool.{Bool, true, false}
 use mathlib.Core.List.{List, [], _∷_}
 use lib.Ieee.{Float, binary32, toBits}
-use Rattle.kplib.specs.declared.graphparams.Settings.{Settings}
+use Rattle.params.specs.declared.Settings.{Settings}
 use Rattle.kplib.specs.declared.pathscore.Target.{Target}
 use Rattle.kplib.specs.declared.pathscore.Target.the-variants.{Nothing, Whole, Partial}
 use Rattle.kplib.specs.declared.traverse.Answer.{Answer}

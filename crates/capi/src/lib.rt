@@ -9,11 +9,11 @@ ghost use Rattle.kplib.specs.Numbers.{tableOf, partsOf};
 ghost use Rattle.kplib.specs.Answer.{answerOf, rowsOf, placed, queueRoom, searches};
 ghost use Rattle.capi.specs.Report.{settingsOf, reportOf};
 use crate::report::put_report;
-use kplib::graphparams::Settings;
 use kplib::vargraph::ChainCount;
 use metrics::Sim;
 use metrics::kmer::Counted;
 use metrics::refusals::ACCEPTED;
+use params::Settings;
 
 mod report;
 

@@ -11,7 +11,7 @@ use lib.ListN.{length, take, drop, replicate, length-append, length-map, length-
 use lib.Seq.{take-at, drop-at}
 use borrow.Author.Tests.{ltb-true, lt-ltb, le-ltb, le-leb}
 use Rattle.metrics.specs.Letters.{countsOf}
-use Rattle.kplib.specs.declared.graphparams.Settings.{Settings}
+use Rattle.params.specs.declared.Settings.{Settings}
 use Rattle.kplib.specs.Numbers.{Table, Parts, tableOf, partsOf}
 use Rattle.job.specs.declared.form.Counts.{Counts}
 use Rattle.job.specs.declared.form.Scan.{Scan}

@@ -14,7 +14,7 @@ use lib.Ieee.Bits.{ofBits-toBits, toBits-lt}
 use borrow.Author.Tests.{ltb-true, ltb-false}
 use mir.Val.{SFits}
 use mir.Syntax.{w32}
-use Rattle.kplib.specs.declared.graphparams.Settings.{Settings}
+use Rattle.params.specs.declared.Settings.{Settings}
 use Rattle.job.specs.Fields.{le2, le4, le8, signedOf, bitsOf, bytes2, bytes4, bytes8, flag}
 use Rattle.job.specs.Settings40.{settingsOf, settingsBytes, numberBytes, floatBytes}
 use Rattle.job.specs.Form.{bodyLen, countOf}

@@ -10,7 +10,7 @@ use lib.Dec.{ltb, leb, eqb}
 use lib.ListN.{length, getD, drop, length-append, drop-of-length-le}
 use lib.Seq.{sets, slice, drop-cons, length-slice, sets-eq}
 use borrow.Author.Tests.{lt-ltb, le-ltb, eqb-true}
-use Rattle.kplib.specs.declared.graphparams.Settings.{Settings}
+use Rattle.params.specs.declared.Settings.{Settings}
 use Rattle.job.specs.declared.writer.Left.{Left}
 use Rattle.job.specs.declared.writer.Left.the-variants.{Short, Enough}
 use Rattle.job.specs.declared.writer.Writing.{Writing}

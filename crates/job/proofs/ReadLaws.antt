@@ -11,7 +11,7 @@ use lib.Dec.{ltb, leb, eqb}
 use lib.ListN.{length, take, drop, set, length-drop, length-map, length-append}
 use lib.Seq.{take-all, sets-eq}
 use borrow.Author.Tests.{le-leb, lt-leb, leb-true, eqb-true}
-use Rattle.kplib.specs.declared.graphparams.Settings.{Settings}
+use Rattle.params.specs.declared.Settings.{Settings}
 use Rattle.job.specs.declared.form.State.{State}
 use Rattle.job.specs.declared.form.Counts.{Counts}
 use Rattle.job.specs.declared.form.Scan.{Scan}

@@ -6,7 +6,7 @@ use mathlib.Core.List.{List, [], _∷_, _++_}
 use lib.ListN.{length}
 use lib.Seq.{sets}
 use lib.Ieee.{binary32, toBits}
-use Rattle.kplib.specs.declared.graphparams.Settings.{Settings}
+use Rattle.params.specs.declared.Settings.{Settings}
 use Rattle.job.specs.Fields.{bytes4, bytes2, flag}
 use Rattle.job.specs.Settings40.{numberBytes, floatBytes, settingsBytes}
 use Rattle.job.proofs.FieldLaws.{join, join4, long4}

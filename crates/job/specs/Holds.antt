@@ -7,7 +7,7 @@ use lib.ListN.{length, getD}
 use lib.Ieee.{binary32, fits}
 use mir.Val.{SFits}
 use mir.Syntax.{w32}
-use Rattle.kplib.specs.declared.graphparams.Settings.{Settings}
+use Rattle.params.specs.declared.Settings.{Settings}
 use Rattle.job.specs.Job.{Variant, Part, Job}
 use Rattle.job.specs.Reading.{Lent}
 

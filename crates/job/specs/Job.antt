@@ -6,7 +6,7 @@ use mathlib.Core.Bool.{Bool, cond}
 use lib.IntN.{ℤ}
 use lib.ListN.{getD, length, take, drop, replicate}
 use lib.Dec.{ltb, eqb}
-use Rattle.kplib.specs.declared.graphparams.Settings.{Settings}
+use Rattle.params.specs.declared.Settings.{Settings}
 use Rattle.job.specs.Fields.{le4, le8, signedOf, bytes4, bytes8, bitsOf, flag}
 use Rattle.job.specs.Settings40.{settingsOf, settingsBytes}
 use Rattle.job.specs.Form.{bodyLen, countOf, run, start}

@@ -5,7 +5,7 @@ use mathlib.Core.List.{List, [], _∷_, _++_}
 use lib.ListN.{getD}
 use lib.Dec.{eqb}
 use lib.Ieee.{binary32, ofBits, toBits}
-use Rattle.kplib.specs.declared.graphparams.Settings.{Settings}
+use Rattle.params.specs.declared.Settings.{Settings}
 use Rattle.job.specs.Fields.{le4, bytes4, flag}
 
 unfoldable pub settingsOf : List ℕ → Settings

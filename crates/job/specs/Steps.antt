@@ -12,7 +12,7 @@ use Rattle.job.specs.Job.{Variant, Part, lettersAfter}
 use Rattle.job.specs.Job.{recordsFor, sequenceBytes, variantBody, variantsBytes, partBody, partsBytes, jobBytes}
 use Rattle.job.specs.Writing.{variantsFrom, partsFrom, sum, agree, jobFrom}
 use Rattle.job.specs.Reading.{Lent}
-use Rattle.kplib.specs.declared.graphparams.Settings.{Settings}
+use Rattle.params.specs.declared.Settings.{Settings}
 use Rattle.job.specs.declared.form.State.{State}
 use Rattle.job.specs.declared.writer.Left.{Left}
 use Rattle.job.specs.declared.writer.Left.the-variants.{Short, Enough}

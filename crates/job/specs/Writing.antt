@@ -6,7 +6,7 @@ use lib.IntN.{ℤ, pos}
 use lib.ListN.{length, getD}
 use lib.Seq.{slice}
 use lib.Dec.{eqb, ltb}
-use Rattle.kplib.specs.declared.graphparams.Settings.{Settings}
+use Rattle.params.specs.declared.Settings.{Settings}
 use Rattle.job.specs.Job.{Variant, Part, Job, jobBytes}
 use Rattle.job.specs.Reading.{Lent, placed}
 use Rattle.job.specs.declared.writer.Writing.{Writing}

@@ -5,7 +5,7 @@ use crate::fields::float_of;
 use crate::fields::four;
 use crate::fields::put_four;
 use crate::fields::put_one;
-use kplib::graphparams::Settings;
+use params::Settings;
 ghost use mathlib.Core.Path.{_≡_};
 ghost use Prim.Native.Nat.{_≤_, _+_};
 ghost use lib.ListN.{length};

@@ -18,7 +18,7 @@ use Rattle.kplib.specs.Sums.{Total, totalOf}
 use Rattle.kplib.specs.Score.{start, targetOf, listScore, greaterOf, afterList, afterLists, chainScore}
 use Rattle.kplib.specs.OneToOne.{rowTotal, nodeTotal, aloneScore, latestOf, overNodes, noLone, oneToOne, loneRowsAt, loneRows}
 use Rattle.kplib.specs.Scoring.{Tables}
-use Rattle.kplib.specs.declared.graphparams.Settings.{Settings}
+use Rattle.params.specs.declared.Settings.{Settings}
 use Rattle.kplib.specs.declared.pathscore.Scored.{Scored}
 use Rattle.kplib.specs.declared.pathscore.Target.{Target}
 use Rattle.kplib.specs.declared.pathscore.Target.the-variants.{Nothing, Whole, Partial}

@@ -12,7 +12,7 @@ use Rattle.metrics.specs.Similarity.{magnitudeSum}
 use Rattle.kplib.specs.Sums.{sizeOf, featuresOf}
 use Rattle.kplib.specs.Score.{listScore, greaterOf, afterList}
 use Rattle.kplib.specs.Scoring.{listOfCode, Summable, Ready, total, Comparable, mayWin, Attempt, Attempted}
-use Rattle.kplib.specs.declared.graphparams.Settings.{Settings}
+use Rattle.params.specs.declared.Settings.{Settings}
 use Rattle.kplib.specs.declared.pathscore.Scored.{Scored}
 use Rattle.kplib.specs.declared.pathscore.Verdict.{Verdict}
 use Rattle.kplib.specs.declared.pathscore.Best.{Best}

@@ -3,7 +3,7 @@ use mathlib.Core.Path.{_≡_}
 use Prim.Native.Nat.{ℕ, _^_}
 use mathlib.Core.List.{List, _++_}
 use lib.ListN.{length}
-use Rattle.kplib.specs.declared.graphparams.Settings.{Settings}
+use Rattle.params.specs.declared.Settings.{Settings}
 use Rattle.kplib.specs.Numbers.{Table, Parts, Rule, firstOf, settingsRules, lengthRules, boundRules, limitRules, roomRules, firstFault}
 use Rattle.kplib.proofs.CheckLaws.{Passed, stops, goes-on}
 

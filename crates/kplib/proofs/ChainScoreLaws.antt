@@ -15,7 +15,7 @@ use Rattle.kplib.specs.Parts.{partLists}
 use Rattle.kplib.specs.Sums.{featuresOf}
 use Rattle.kplib.specs.Score.{start, afterList, afterLists, chainScore}
 use Rattle.kplib.specs.Scoring.{Tables, listOfCode, LaidList, Ready, chainTotal, Attempt, Attempted, noneTried, Scorable}
-use Rattle.kplib.specs.declared.graphparams.Settings.{Settings}
+use Rattle.params.specs.declared.Settings.{Settings}
 use Rattle.kplib.specs.declared.pathscore.Scored.{Scored}
 use Rattle.kplib.specs.declared.pathscore.Best.{Best}
 use Rattle.kplib.proofs.WordLaws.{back}

@@ -11,7 +11,7 @@ use lib.Dec.{leb, ltb, eqb}
 use lib.IntN.{ℤ, pos, natAbs}
 use lib.ListN.{length, getD, take, drop-of-length-le}
 use Rattle.metrics.specs.Similarity.{magnitudeSum}
-use Rattle.kplib.specs.declared.graphparams.Settings.{Settings}
+use Rattle.params.specs.declared.Settings.{Settings}
 use Rattle.kplib.specs.Checked.{rowAt, Flat, Checked}
 use Rattle.kplib.specs.Numbers.{Table, Parts, badK, badNumber, badSize, badRow, searchMode, queueNeeds, littleQueueRoom, settingsRules, lengthRules, roomRules, callRules, firstFault}
 use Rattle.kplib.proofs.CheckLaws.{Passed, none-given, or-no, and-yes, any-where, few-entries}

@@ -13,7 +13,7 @@ use Rattle.kplib.specs.OneToOne.{oneToOne, loneRowsAt}
 use Rattle.kplib.specs.Search.{rowsFor}
 use Rattle.kplib.specs.Answer.{searched, matchedAlone, foundAfter, answerWith, answerOf, rowsOf, placed, queueRoom, searches}
 use Rattle.kplib.specs.SearchSteps.{answerParts, Gone, Acceptable}
-use Rattle.kplib.specs.declared.graphparams.Settings.{Settings}
+use Rattle.params.specs.declared.Settings.{Settings}
 use Rattle.kplib.specs.declared.pathscore.Scored.{Scored}
 use Rattle.kplib.specs.declared.pathscore.Target.{Target}
 use Rattle.kplib.specs.declared.pathscore.Target.the-variants.{Nothing, Whole, Partial}

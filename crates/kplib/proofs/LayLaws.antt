@@ -18,7 +18,7 @@ use Rattle.metrics.proofs.Ints.{add-le}
 use Rattle.kplib.specs.Parts.{wholeOf, choices, fallingLists, lengthsOf, partLists}
 use Rattle.kplib.specs.Sums.{sizeFrom, sizeOf}
 use Rattle.kplib.specs.Scoring.{positionsOfBits, LaidList, LaidFrom, Choosing, Chosen, LayingLengths, LaidLengths, Layable, LaidDown}
-use Rattle.kplib.specs.declared.graphparams.Settings.{Settings}
+use Rattle.params.specs.declared.Settings.{Settings}
 use Rattle.kplib.proofs.WordLaws.{back}
 use Rattle.kplib.proofs.PartLaws.{choices-none, one-choice, map-length, split-under, split-length, falling-none, falling-more, falling-few, whole-only, all-lengths}
 use Rattle.kplib.proofs.CodeLaws.{bits-zero, bits-more, code-bits, code-whole, bits-below, bits-length, whole-below, whole-length}

@@ -21,7 +21,7 @@ use Rattle.kplib.specs.Sums.{zeros, sizeOf, featuresOf, Total}
 use Rattle.kplib.specs.Score.{sign, gapOf, scoreValue, seqsimOfRows, listScore, greaterOf, afterList, start}
 use Rattle.kplib.specs.OneToOne.{anchorTotal, rowTotal, nodeTotal, aloneScore, latestOf, overNodes, noLone, oneToOne}
 use Rattle.kplib.specs.Scoring.{Tables, Summable, Comparable, total, Matching, Matchable}
-use Rattle.kplib.specs.declared.graphparams.Settings.{Settings}
+use Rattle.params.specs.declared.Settings.{Settings}
 use Rattle.kplib.specs.declared.pathscore.Scored.{Scored}
 use Rattle.kplib.specs.declared.pathscore.Verdict.{Verdict}
 use Rattle.kplib.specs.declared.pathscore.Verdict.the-variants.{Skipped, Scores}

@@ -14,7 +14,7 @@ use lib.Ieee.Fits.{round-is, down-pos}
 use lib.Ieee.Exact.{HasValue, round-exact}
 use lib.Ieee.Order.{round-mono}
 use Rattle.kplib.specs.Score.{scoreValue}
-use Rattle.kplib.specs.declared.graphparams.Settings.{Settings}
+use Rattle.params.specs.declared.Settings.{Settings}
 use Rattle.metrics.proofs.FloatOrder.{Sides, Le, le→Le, Le→le, le-trans, lt-not-le, zero-of, times-zero}
 
 -- a signed number's part above 0 and its part below

@@ -27,7 +27,7 @@ use Rattle.kplib.specs.Scoring.{LaidDown}
 use Rattle.kplib.specs.Graph.{isChainIn}
 use Rattle.kplib.specs.Search.{distanceTo, haplotypeSize, resultWith, startResult, noLower, followsIn, distanceIn, resultOf}
 use Rattle.kplib.specs.SearchSteps.{laterOf, advanced, endAt, Extending, Weighable, WeighedAs, Searchable, Startable, Going, Gone}
-use Rattle.kplib.specs.declared.graphparams.Settings.{Settings}
+use Rattle.params.specs.declared.Settings.{Settings}
 use Rattle.kplib.specs.declared.pathscore.Scored.{Scored}
 use Rattle.kplib.specs.declared.traverse.Leader.{Leader}
 use Rattle.kplib.specs.declared.traverse.Weighed.{Weighed}

@@ -14,7 +14,7 @@ use Rattle.metrics.specs.Similarity.{whole, sizesimValue, seqsimValue, sumD, su
 use Rattle.metrics.proofs.Casts.{one-is}
 use Rattle.kplib.specs.Score.{sign, gapOf, scoreValue, seqsimOfRows, listScore, targetOf, greaterOf}
 use Rattle.kplib.specs.Scoring.{total, mayWin}
-use Rattle.kplib.specs.declared.graphparams.Settings.{Settings}
+use Rattle.params.specs.declared.Settings.{Settings}
 use Rattle.kplib.specs.declared.pathscore.Scored.{Scored}
 use Rattle.kplib.specs.declared.pathscore.Target.{Target}
 use Rattle.kplib.specs.declared.pathscore.Verdict.{Verdict}

@@ -12,7 +12,7 @@ use Rattle.kplib.specs.Score.{chainScore}
 use Rattle.kplib.specs.Scoring.{Tables, LaidDown, Scorable}
 use Rattle.kplib.specs.Answer.{placed}
 use Rattle.kplib.specs.SearchSteps.{Rowed, WeighedAs}
-use Rattle.kplib.specs.declared.graphparams.Settings.{Settings}
+use Rattle.params.specs.declared.Settings.{Settings}
 use Rattle.kplib.specs.declared.pathscore.Scored.{Scored}
 use Rattle.kplib.specs.declared.traverse.Weighed.{Weighed}
 

@@ -9,7 +9,7 @@ use Rattle.kplib.specs.Numbers.{Table, Parts, firstFault, searchMode}
 use Rattle.kplib.specs.Score.{start}
 use Rattle.kplib.specs.OneToOne.{oneToOne, loneRows}
 use Rattle.kplib.specs.Search.{scoredIn, leftIn, bestIn}
-use Rattle.kplib.specs.declared.graphparams.Settings.{Settings}
+use Rattle.params.specs.declared.Settings.{Settings}
 use Rattle.kplib.specs.declared.pathscore.Scored.{Scored}
 use Rattle.kplib.specs.declared.traverse.Answer.{Answer}
 

@@ -5,7 +5,7 @@ use mathlib.Core.List.{List, [], _∷_}
 use lib.IntN.{ℤ, pos, natAbs}
 use lib.ListN.{length, getD, take, drop}
 use Rattle.metrics.specs.Similarity.{magnitudeSum}
-use Rattle.kplib.specs.declared.graphparams.Settings.{Settings}
+use Rattle.params.specs.declared.Settings.{Settings}
 
 -- row r of a table that holds rows of e entries one behind the other
 abbrev pub rowAt : ℕ → List ℤ → ℕ → List ℤ

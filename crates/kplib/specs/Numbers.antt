@@ -8,7 +8,7 @@ use lib.ListN.{length, getD}
 use lib.Ieee.{Float, le}
 use Rattle.metrics.specs.Similarity.{whole, magnitudeSum}
 use Rattle.kplib.specs.Checked.{rowAt}
-use Rattle.kplib.specs.declared.graphparams.Settings.{Settings}
+use Rattle.params.specs.declared.Settings.{Settings}
 
 -- what the caller lends of the variants; V is the number of starts
 pub record Table : Type 0 where

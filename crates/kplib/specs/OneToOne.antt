@@ -11,7 +11,7 @@ use Rattle.kplib.specs.Checked.{rowAt}
 use Rattle.kplib.specs.Parts.{positionsFrom, wholeOf}
 use Rattle.kplib.specs.Sums.{zeros, Total}
 use Rattle.kplib.specs.Score.{afterList, start}
-use Rattle.kplib.specs.declared.graphparams.Settings.{Settings}
+use Rattle.params.specs.declared.Settings.{Settings}
 use Rattle.kplib.specs.declared.pathscore.Scored.{Scored}
 use Rattle.kplib.specs.declared.pathscore.Target.{Target}
 use Rattle.kplib.specs.declared.pathscore.Target.the-variants.{Nothing, Whole, Partial}

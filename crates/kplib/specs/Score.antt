@@ -9,7 +9,7 @@ use lib.Ieee.{Float, binary32, add, sub, mul, div, lt}
 use Rattle.metrics.specs.Similarity.{whole, sizesimValue, seqsimValue, sumD, sumN}
 use Rattle.kplib.specs.Parts.{partLists}
 use Rattle.kplib.specs.Sums.{sizeOf, featuresOf, Total, totalOf}
-use Rattle.kplib.specs.declared.graphparams.Settings.{Settings}
+use Rattle.params.specs.declared.Settings.{Settings}
 use Rattle.kplib.specs.declared.pathscore.Scored.{Scored}
 use Rattle.kplib.specs.declared.pathscore.Target.{Target}
 use Rattle.kplib.specs.declared.pathscore.Target.the-variants.{Nothing, Whole, Partial}

@@ -12,7 +12,7 @@ use Rattle.kplib.specs.Checked.{rowAt, Below, Flat, Sized}
 use Rattle.kplib.specs.Parts.{positionsFrom, wholeOf, choices, fallingLists, partLists}
 use Rattle.kplib.specs.Sums.{sizeOf, featuresOf, Total}
 use Rattle.kplib.specs.Score.{sign, gapOf, scoreValue, start, afterList}
-use Rattle.kplib.specs.declared.graphparams.Settings.{Settings}
+use Rattle.params.specs.declared.Settings.{Settings}
 use Rattle.kplib.specs.declared.pathscore.Scored.{Scored}
 use Rattle.kplib.specs.declared.pathscore.Best.{Best}
 

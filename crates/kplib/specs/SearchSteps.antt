@@ -16,7 +16,7 @@ use Rattle.kplib.specs.Score.{chainScore}
 use Rattle.kplib.specs.Scoring.{Tables, LaidDown}
 use Rattle.kplib.specs.Graph.{mayFollowIn}
 use Rattle.kplib.specs.Search.{distanceTo, haplotypeSize, resultWith, startResult, noLower, followsIn, distanceIn, resultOf}
-use Rattle.kplib.specs.declared.graphparams.Settings.{Settings}
+use Rattle.params.specs.declared.Settings.{Settings}
 use Rattle.kplib.specs.declared.pathscore.Scored.{Scored}
 use Rattle.kplib.specs.declared.pathscore.Target.{Target}
 use Rattle.kplib.specs.declared.pathscore.Target.the-variants.{Nothing, Whole, Partial}

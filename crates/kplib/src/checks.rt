@@ -1,5 +1,4 @@
 // The refusals of a call, in the order of document 01's table ("Numbers a job may hold"), before any work is done.
-use crate::graphparams::Settings;
 use crate::graphparams::entries;
 use crate::graphparams::search_mode;
 use crate::graphparams::settings_fault;
@@ -13,6 +12,7 @@ use metrics::refusals::NO_VARIANTS;
 use metrics::refusals::QUEUE_ROOM;
 use metrics::refusals::START_AFTER_END;
 use metrics::refusals::TOO_MANY;
+use params::Settings;
 ghost use mathlib.Core.Path.{_≡_};
 ghost use Prim.Native.Nat.{_*_, _^_, _≤_};
 ghost use lib.Dec.{ltb};

@@ -1,27 +1,12 @@
-// The settings of a job (graphparams.rs, the fields that document 01 takes), and the refusals that look at nothing else.
+// What the settings of a job decide by themselves: the refusals that look at nothing else, the mode, and the length of a feature row.
 use metrics::refusals::ACCEPTED;
 use metrics::refusals::BAD_FLOAT;
 use metrics::refusals::BAD_K;
 use metrics::refusals::BAD_NUMBER;
+use params::Settings;
 ghost use mathlib.Core.Path.{_≡_};
 ghost use Prim.Native.Nat.{_^_, _≤_};
 ghost use Rattle.kplib.specs.Numbers.{outside, badFloat, badNumber, firstOf, settingsRules, searchMode};
-
-pub struct Settings {
-    pub k: u8,
-    pub squish: bool,
-    pub one_to_one: bool,
-    pub full: bool,
-    pub maxpaths: u32,
-    pub maxnodes: u32,
-    pub fnmax: u32,
-    pub pileupmax: u32,
-    pub minkfreq: u32,
-    pub sizesim: f32,
-    pub seqsim: f32,
-    pub fpenalty: f32,
-    pub gpenalty: f32,
-}
 
 // 4 to the k: the entries of a feature row.
 pub(crate) fn entries(k: u8) -> usize

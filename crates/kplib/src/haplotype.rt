@@ -7,7 +7,7 @@ ghost use Rattle.kplib.specs.Checked.{Sized};
 ghost use Rattle.kplib.specs.Parts.{wholeOf, lengthsOf, fallingLists};
 ghost use Rattle.kplib.specs.Sums.{sizeOf};
 ghost use Rattle.kplib.specs.Scoring.{positionsOfBits, listOfCode, Choosing, Chosen, LayingLengths, LaidLengths, Layable, LaidDown};
-use crate::graphparams::Settings;
+use params::Settings;
 
 fn larger(a: usize, b: usize) -> usize
     ensures { λ r. ⌜ r ≡ max a b ⌝ }

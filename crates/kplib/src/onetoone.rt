@@ -3,7 +3,6 @@ ghost use mathlib.Core.Path.{_≡_};
 ghost use Prim.Native.Nat.{ℕ, _+_, _≤_};
 ghost use Rattle.kplib.specs.OneToOne.{latestOf, oneToOne};
 ghost use Rattle.kplib.specs.Scoring.{Matchable, Matching};
-use crate::graphparams::Settings;
 use crate::haplotype::all_positions;
 use crate::haplotype::whole_size;
 use crate::pathscore::Scored;
@@ -11,6 +10,7 @@ use crate::pathscore::greater_of;
 use crate::pathscore::list_score;
 use crate::pathscore::nothing;
 use crate::pathscore::sum_rows;
+use params::Settings;
 
 // The best node's row. Where its target is `Nothing` no node matched, and the row means nothing.
 pub(crate) struct Lone {

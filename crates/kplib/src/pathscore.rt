@@ -9,9 +9,9 @@ ghost use Rattle.metrics.specs.Similarity.{sizesimValue, magnitudeSum};
 ghost use Rattle.kplib.specs.Sums.{rowPlus, zeros, featuresFrom, featuresOf, Total};
 ghost use Rattle.kplib.specs.Score.{sign, seqsimOfRows, gapOf, scoreValue, listScore, start, targetOf, greaterOf, chainScore};
 ghost use Rattle.kplib.specs.Scoring.{Summable, Ready, Comparable, mayWin, total, listOfCode, Attempt, Attempted, noneTried, Scorable};
-use crate::graphparams::Settings;
 use crate::haplotype::positions;
 use metrics::Sim;
+use params::Settings;
 
 // Which part list matched; a partial one says how many parts it leaves out.
 pub enum Target {

@@ -13,7 +13,6 @@ ghost use Rattle.kplib.specs.Search.{rowsFor};
 ghost use Rattle.kplib.specs.Answer.{searched, matchedAlone, foundAfter, answerWith, queueRoom, answerOf, rowsOf, placed, searches};
 ghost use Rattle.kplib.specs.SearchSteps.{answerParts, laterOf, advanced, matchedBy, Weighable, WeighedAs, Searchable, Going, Gone, Startable, Scratch, Acceptable};
 use crate::checks::call_fault;
-use crate::graphparams::Settings;
 use crate::graphparams::entries;
 use crate::graphparams::search_mode;
 use crate::haplotype::lay_lists;
@@ -30,6 +29,7 @@ use crate::queue::queue_extensions;
 use crate::queue::read_chain;
 use crate::queue::rows_size;
 use crate::queue::take_next;
+use params::Settings;
 
 // `rows` is how many row numbers stand at the front of the answer buffer; `refusal` is 0 where the job was accepted.
 pub struct Answer {

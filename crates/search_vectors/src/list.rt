@@ -2,8 +2,8 @@
 // anything, so every length is held to its slice.
 use job::reader::Reading;
 use job::reader::read_job;
-use kplib::graphparams::Settings;
 use metrics::kmer::seq_to_kmer;
+use params::Settings;
 ghost use Prim.Native.Nat.{_≤_, _<_};
 
 fn wide(b: u8) -> u32

@@ -10,8 +10,8 @@ use crate::list::read_rows;
 use crate::list::read_u64s;
 use crate::list::settings_of;
 use crate::print::print_answer;
-use kplib::graphparams::Settings;
 use kplib::traverse::apply_haplotype;
+use params::Settings;
 
 // The call with the lengths that the list gives, and its answer printed.
 fn ask_in(

@@ -1,0 +1,1 @@
+-- The settings are a struct of src/; their rules stand where they are checked and read.
