@@ -2,7 +2,7 @@
 .PHONY: run test program oracle faults fuzz bindings bench
 
 program:
-	rt check ndigomarr >&2
+	rt check ndigomarr copy_job >&2
 
 run: program
 	target/bin/ndigomarr < examples/worked.job
@@ -15,7 +15,7 @@ test: program
 	tools/promises
 	rt fmt --check
 	tools/run-examples
-	SHEET_NEEDS_PROGRAM=1 tools/test_sheet
+	SHEET_NEEDS_PROGRAM=1 SHEET_WRITER=target/bin/copy_job tools/test_sheet
 	oracle/setup
 	oracle/run --short
 	bindings/test

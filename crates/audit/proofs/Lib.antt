@@ -3,3 +3,4 @@ pub mod Bench
 pub mod Demand3Laws
 pub mod Worked
 pub mod NoParts
+pub mod UniqueLaws

@@ -1,2 +1,3 @@
 pub mod Bench
 pub mod Demand3
+pub mod Unique

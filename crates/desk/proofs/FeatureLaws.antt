@@ -9,26 +9,22 @@ use mathlib.Core.List.{List, [], _∷_, _++_, append-nil, append-assoc}
 use lib.IntN.{ℤ}
 use lib.ListN.{length, getD, take, drop, length-append, length-take, length-drop, drop-of-length-le}
 use lib.Seq.{drop-cons, drop-drop, take-at, length-take-le}
-use borrow.Author.Tests.{le-leb, le-ltb, eq-eqb}
 use borrow.Rule.Slice.PartMut.{putMid, post-is}
 use Rattle.metrics.specs.declared.kmer.Counted.{Counted as CountAnswer}
 use Rattle.metrics.specs.declared.kmer.Counted.the-variants.{Done, Refused}
-use Rattle.metrics.specs.Letters.{windows, countsOf, counterAnswer, rowAfter}
-use Rattle.metrics.proofs.Windows.{counts-length}
+use Rattle.metrics.specs.Letters.{windowsOf, timesIn, signed, countsOf, counterAnswer, rowAfter}
+use Rattle.metrics.proofs.Windows.{table-length}
+use Rattle.metrics.proofs.Totals.{counter-done}
 use Rattle.job.specs.Writing.{sum}
 use Rattle.desk.specs.Rows.{rowsFrom, rowStored, RowFits, RowsFit, Counted}
 
 row-length : (k : ℕ) (negative : Bool) (s : List ℕ) → length (countsOf k negative s) ≡ 4 ^ k
 unfolding countsOf
-row-length k negative s = counts-length k negative s (windows k s)
+row-length k negative s = table-length (λ i. signed negative (timesIn i (windowsOf k s))) 0 (4 ^ k)
 
 -- the counter refuses none of these rows
 accepted : (k : ℕ) (s : List ℕ) (out : List ℤ) → 1 ≤ k → k ≤ 4 → length out ≡ 4 ^ k → length s ≤ 32768 → counterAnswer k s out ≡ Done
-unfolding counterAnswer
-accepted k s out low high long few =
-    let six : k ≤ 6 = omega arith in
-    let short : length s ≤ 131072 = omega arith in
-    simp (le-leb 1 k low, le-leb k 6 six, eq-eqb (length out) (4 ^ k) long, le-ltb 131072 (length s) short)
+accepted k s out low high long few = counter-done k s out low (omega arith) long (omega arith)
 
 pub row-counted : (k at end from to : ℕ) (negative : Bool) (letters : List ℕ) (table : List ℤ) → RowFits k at end from to letters table →
     (answer : CountAnswer) → answer ≡ counterAnswer k (take (end - at) (drop at letters)) (take (to - from) (drop from table)) →

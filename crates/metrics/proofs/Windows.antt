@@ -83,7 +83,7 @@ unfolding hits
 hits-le k s zero i = zero-le
 hits-le k s (suc n) i = omega (arith, hits-le k s n i, cond-le (eqb i (windowAt k s n)) 1 0 1 (le-refl 1) zero-le)
 
-table-length : (f : ℕ → ℤ) (i n : ℕ) → length (tableFrom f i n) ≡ n
+pub table-length : (f : ℕ → ℤ) (i n : ℕ) → length (tableFrom f i n) ≡ n
 unfolding tableFrom
 table-length f i zero = refl
 table-length f i (suc n) = ap suc (table-length f (suc i) n)
