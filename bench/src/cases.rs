@@ -1,5 +1,6 @@
 //! Searches to time: seeded tables with a haplotype that some of their rows explain, up to noise.
 use crate::random::Random;
+use judge::call::{queue_need, Call};
 use ndigomarr::{seq_to_kmer, Haplotype, Settings, Table};
 
 /// One row of the bench's table.
@@ -33,19 +34,29 @@ impl Shape {
     }
 }
 
-/// A variant or a part: its size and its counted letters.
-#[derive(Clone)]
-pub struct Piece {
-    pub size: i32,
-    pub features: Vec<i32>,
+/// The settings as the judge has them.
+fn judges(s: &Settings) -> judge::job::Settings {
+    judge::job::Settings {
+        k: s.k,
+        squish: s.squish,
+        one_to_one: s.one_to_one,
+        full: s.full,
+        maxpaths: s.maxpaths,
+        maxnodes: s.maxnodes,
+        fnmax: s.fnmax,
+        pileupmax: s.pileupmax,
+        minkfreq: s.minkfreq,
+        sizesim: s.sizesim,
+        seqsim: s.seqsim,
+        fpenalty: s.fpenalty,
+        gpenalty: s.gpenalty,
+    }
 }
 
-/// One input of a search, in a form that either side is made from.
+/// One input of a search: what the Rust and the judge are asked, and the settings as we take them.
 pub struct Case {
     pub settings: Settings,
-    pub bounds: Vec<(u64, u64)>,
-    pub variants: Vec<Piece>,
-    pub parts: Vec<Piece>,
+    pub call: Call,
 }
 
 /// A sequence put in or, with `negative`, left out.
@@ -68,52 +79,75 @@ impl Change {
         Change { letters, negative: self.negative }
     }
 
-    fn piece(&self, k: u8) -> Piece {
+    fn size(&self) -> i32 {
         let count = self.letters.len() as i32;
-        Piece {
-            size: if self.negative { -count } else { count },
-            features: seq_to_kmer(&self.letters, k, self.negative).expect("within the limits"),
+        if self.negative {
+            -count
+        } else {
+            count
         }
+    }
+
+    fn features(&self, k: u8) -> Vec<i32> {
+        seq_to_kmer(&self.letters, k, self.negative).expect("within the limits")
     }
 }
 
 /// In a loose table no row overlaps another; in a crowded one each overlaps the next eighth of the rows.
-fn bounds(shape: &Shape) -> Vec<(u64, u64)> {
-    let wide = if shape.crowded { 100 * (shape.variants as u64 / 8) + 50 } else { 50 };
-    (0..shape.variants as u64).map(|r| (100 * r, 100 * r + wide)).collect()
+fn width(shape: &Shape) -> u64 {
+    if shape.crowded {
+        100 * (shape.variants as u64 / 8) + 50
+    } else {
+        50
+    }
 }
 
 impl Case {
     pub fn new(random: &mut Random, shape: &Shape) -> Self {
-        let changes: Vec<Change> = (0..shape.variants).map(|_| Change::random(random)).collect();
+        let variants: Vec<Change> = (0..shape.variants).map(|_| Change::random(random)).collect();
         // every part from its own stretch of the table
         let stretch = shape.variants / shape.parts;
-        let parts = (0..shape.parts)
+        let parts: Vec<Change> = (0..shape.parts)
             .map(|part| {
                 let row = part * stretch + random.below(stretch);
-                changes[row].noisy(random).piece(shape.k)
+                variants[row].noisy(random)
             })
             .collect();
-        Case {
-            settings: shape.settings(),
-            bounds: bounds(shape),
-            variants: changes.iter().map(|change| change.piece(shape.k)).collect(),
-            parts,
-        }
+        let settings = shape.settings();
+        let judged = judges(&settings);
+        let starts: Vec<u64> = (0..shape.variants as u64).map(|row| 100 * row).collect();
+        let call = Call {
+            ends: starts.iter().map(|start| start + width(shape)).collect(),
+            sizes: variants.iter().map(Change::size).collect(),
+            features: variants.iter().flat_map(|change| change.features(shape.k)).collect(),
+            part_sizes: parts.iter().map(Change::size).collect(),
+            part_features: parts.iter().flat_map(|change| change.features(shape.k)).collect(),
+            queue_room: queue_need(&judged, shape.variants),
+            answer_room: shape.variants,
+            settings: judged,
+            starts,
+        };
+        Case { settings, call }
+    }
+
+    fn row<'a>(&self, features: &'a [i32], row: usize) -> &'a [i32] {
+        let entries = 1 << (2 * self.settings.k as usize);
+        &features[row * entries..(row + 1) * entries]
     }
 
     pub fn table(&self) -> Table {
+        let call = &self.call;
         let mut table = Table::new(self.settings.k);
-        for (&(start, end), variant) in self.bounds.iter().zip(&self.variants) {
-            table.add_counted(start, end, variant.size, &variant.features);
+        for row in 0..call.starts.len() {
+            table.add_counted(call.starts[row], call.ends[row], call.sizes[row], self.row(&call.features, row));
         }
         table
     }
 
     pub fn haplotype(&self) -> Haplotype {
         let mut haplotype = Haplotype::new(self.settings.k);
-        for part in &self.parts {
-            haplotype.add_counted(part.size, &part.features);
+        for (part, &size) in self.call.part_sizes.iter().enumerate() {
+            haplotype.add_counted(size, self.row(&self.call.part_features, part));
         }
         haplotype
     }

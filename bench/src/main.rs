@@ -1,12 +1,13 @@
 //! Times the proved code beside kanpig's Rust, both in this process, on the same inputs. Each line gives the median time of
-//! one call, ours and the Rust's, and their ratio. Before a row is timed its answers are compared bit for bit.
+//! one call, ours and the Rust's, and their ratio. Before a row is timed our answers are compared with the judge's, bit for bit.
 //! `--chart FILE` writes the chart too; `--only WORDS` times the rows whose name holds these words.
 use bench::cases::{shapes, Case, Shape};
 use bench::chart;
 use bench::random::Random;
 use bench::rust_side::{self, floats, Search};
 use bench::timing::{compare, Times};
-use ndigomarr::{apply_haplotype_in, count_chains, seq_to_kmer_into, Haplotype, Room, Settings, Table};
+use judge::rust::judged;
+use ndigomarr::{apply_haplotype_in, count_chains, seq_to_kmer_into, Answer, Haplotype, Room, Settings, Table, Target};
 use std::hint::black_box;
 
 /// What the search may count to.
@@ -85,7 +86,7 @@ fn sizesim(random: &mut Random) -> Times {
 fn capped_count(random: &mut Random, name: &str, variants: usize, crowded: bool) -> Times {
     let shape = Shape { k: 4, variants, maxpaths: 63, parts: 3, threshold: 0.0, crowded };
     let case = Case::new(random, &shape);
-    let (table, graph) = (case.table(), Search::new(&case).variants);
+    let (table, graph) = (case.table(), Search::new(&case.call).variants);
     let ours = count_chains(&table, true, CAP).expect("within the limits");
     assert_eq!(ours, rust_side::count_chains(&graph, CAP), "the counts differ");
     compare(
@@ -100,21 +101,48 @@ fn capped_count(random: &mut Random, name: &str, variants: usize, crowded: bool)
     )
 }
 
-/// Inputs on which both sides say the same. They may differ only where a search stopped while chains of equal distance were
-/// queued, since kanpig's heap takes any of them; such an input is left out.
-fn agreeing(random: &mut Random, shape: &Shape, inputs: usize) -> Vec<Case> {
-    let mut room = Room::new();
-    let mut cases = Vec::new();
-    while cases.len() < inputs {
-        let case = Case::new(random, shape);
-        let answer = apply_haplotype_in(&case.settings, &case.table(), &case.haplotype(), &mut room).expect("within the limits");
-        if rust_side::agrees(&answer, &Search::new(&case).run()) {
-            cases.push(case);
-        } else {
-            assert!(!answer.complete, "the answers differ: {}", shape.name());
-        }
+/// Our answer in the judge's words.
+fn judges(answer: &Answer) -> judge::answer::Answer {
+    judge::answer::Answer {
+        refusal: 0,
+        rows: answer.rows.iter().map(|&row| row as u32).collect(),
+        target: match answer.target {
+            Target::Nothing => judge::answer::Target::Nothing,
+            Target::Whole => judge::answer::Target::Whole,
+            Target::Partial(left) => judge::answer::Target::Partial(left),
+        },
+        score: answer.score.to_bits(),
+        sizesim: answer.sizesim.to_bits(),
+        seqsim: answer.seqsim.to_bits(),
+        scored: answer.scored,
+        complete: answer.complete,
     }
-    cases
+}
+
+/// Inputs on which the unchanged Rust says what we say, and how many were left out: it may say something else only where
+/// chains of equal distance were queued, since its heap takes any of them. The judge sees to that.
+struct Agreeing {
+    cases: Vec<Case>,
+    left_out: usize,
+}
+
+impl Agreeing {
+    fn new(random: &mut Random, shape: &Shape, inputs: usize) -> Self {
+        let mut room = Room::new();
+        let mut agreeing = Agreeing { cases: Vec::new(), left_out: 0 };
+        while agreeing.cases.len() < inputs {
+            let case = Case::new(random, shape);
+            let answer = apply_haplotype_in(&case.settings, &case.table(), &case.haplotype(), &mut room).expect("within the limits");
+            let judged = judged(&case.call);
+            assert_eq!(judges(&answer), judged.answer, "the answers differ: {}", shape.name());
+            if judged.unchanged_differs.is_none() {
+                agreeing.cases.push(case);
+            } else {
+                agreeing.left_out += 1;
+            }
+        }
+        agreeing
+    }
 }
 
 /// Fewer inputs where one call of the Rust takes seconds.
@@ -127,11 +155,12 @@ fn inputs_of(shape: &Shape) -> usize {
     }
 }
 
-fn search(random: &mut Random, shape: &Shape) -> Times {
+fn search(random: &mut Random, shape: &Shape, left_out: &mut usize) -> Times {
     let inputs = inputs_of(shape);
-    let cases = agreeing(random, shape, inputs);
+    let Agreeing { cases, left_out: more } = Agreeing::new(random, shape, inputs);
+    *left_out += more;
     let ours: Vec<(Settings, Table, Haplotype)> = cases.iter().map(|case| (case.settings, case.table(), case.haplotype())).collect();
-    let rust: Vec<Search> = cases.iter().map(Search::new).collect();
+    let rust: Vec<Search> = cases.iter().map(|case| Search::new(&case.call)).collect();
     let mut room = Room::new();
     compare(
         &shape.name(),
@@ -212,9 +241,11 @@ fn main() {
             rows.tell(&name, |random| capped_count(random, &name, variants, crowded));
         }
     }
+    let mut left_out = 0;
     for shape in shapes() {
-        rows.tell(&shape.name(), |random| search(random, &shape));
+        rows.tell(&shape.name(), |random| search(random, &shape, &mut left_out));
     }
+    println!("inputs left out, where equally near chains made the unchanged Rust answer otherwise: {left_out}");
     if let Some(file) = asked.chart {
         std::fs::write(&file, chart::svg(&rows.told)).expect("the chart cannot be written");
     }

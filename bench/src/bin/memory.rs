@@ -44,7 +44,7 @@ fn main() {
     // neither k nor the thresholds change a queue
     for shape in shapes().iter().filter(|shape| shape.k == 4 && shape.threshold == 0.0) {
         let case = Case::new(&mut random, shape);
-        let rust = Search::new(&case);
+        let rust = Search::new(&case.call);
         let lists = most(|| rust.whole.partial_haplotypes(rust.params.kmer, rust.params.fnmax, rust.params.pileupmax));
         let theirs = most(|| rust.run()) - lists;
         let mut room = Room::new();

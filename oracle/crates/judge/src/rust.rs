@@ -40,12 +40,12 @@ impl Judged {
 macro_rules! build {
     ($module:ident, $build:ident) => {
         /// The call put to one build: rows, target and the three floats.
-        mod $module {
+        pub mod $module {
             use super::*;
             use noodles_vcf::variant::RecordBuf;
             use $build::kplib::{GraphParams, Haplotype, HaplotypeMeta, PathScore, Variants};
 
-            fn params(call: &Call) -> GraphParams {
+            pub fn params(call: &Call) -> GraphParams {
                 let s = &call.settings;
                 GraphParams {
                     kmer: s.k,
@@ -68,7 +68,7 @@ macro_rules! build {
                 row.iter().map(|&x| x as f32).collect()
             }
 
-            fn table(call: &Call) -> Variants {
+            pub fn table(call: &Call) -> Variants {
                 let e = 1usize << (2 * call.settings.k);
                 let records = (0..call.starts.len())
                     .map(|r| RecordBuf {
@@ -83,7 +83,7 @@ macro_rules! build {
                 variants
             }
 
-            fn haplotype(call: &Call) -> Haplotype {
+            pub fn haplotype(call: &Call) -> Haplotype {
                 let e = 1usize << (2 * call.settings.k);
                 let meta = HaplotypeMeta::new_blank(1);
                 let mut whole = Haplotype::blank(call.settings.k, meta.clone());
