@@ -1,10 +1,10 @@
 // The report of a search: an answer as seven numbers.
 ghost use mathlib.Core.Path.{_≡_};
 ghost use Prim.Native.Nat.{_≤_};
-ghost use lib.Ieee.{binary32, toBits};
 ghost use Rattle.capi.specs.Report.{targetNumber, flagNumber, reportOf};
 use kplib::pathscore::Target;
 use kplib::traverse::Answer;
+use metrics::floats::bits_of;
 
 fn target_number(target: Target) -> u32
     requires { ⌜ targetNumber target ≤ 65 ⌝ }
@@ -21,13 +21,6 @@ fn flag_number(x: bool) -> u32
     ensures { λ r. ⌜ r ≡ flagNumber x ⌝ }
 {
     if x { 1 } else { 0 }
-}
-
-// The bits of a float: a NaN, and nothing else, differs from itself, and has one pattern here.
-fn bits_of(x: f32) -> u32
-    ensures { λ r. ⌜ r ≡ toBits binary32 x ⌝ }
-{
-    if x != x { 2143289344 } else { f32::to_bits(x) }
 }
 
 pub(crate) fn put_report(answer: Answer, report: &mut [u32; 7])

@@ -1,10 +1,10 @@
 // The lines of text that the program prints, each stored behind the other in a lent slice.
 use kplib::pathscore::Target;
 use kplib::traverse::Answer;
+use metrics::floats::bits_of;
 ghost use mathlib.Core.Path.{_≡_};
 ghost use Prim.Native.Nat.{_+_, _*_, _≤_, _<_};
 ghost use lib.ListN.{length};
-ghost use lib.Ieee.{binary32, toBits};
 ghost use Rattle.desk.specs.Text.{hexDigit, hex2, hex4, hex8, digitsWithin, decimal, rowText, rowsText, rowsLine, floatLine, flagLine, numberLine, refusedText, isWhole, similarityLines, reachLines, sevenLines};
 ghost use Rattle.desk.specs.Pieces.{Put};
 
@@ -50,13 +50,6 @@ fn put_hex8(out: &mut [u8], at: usize, x: u32) -> usize
 {
     let a = put_hex4(out, at, x / 65536);
     put_hex4(out, a, x % 65536)
-}
-
-// The bits of a float; a NaN, and nothing else, differs from itself.
-fn bits_of(x: f32) -> u32
-    ensures { λ r. ⌜ r ≡ toBits binary32 x ⌝ }
-{
-    if x != x { 2143289344 } else { f32::to_bits(x) }
 }
 
 // The digits of n, at most `left` of them.

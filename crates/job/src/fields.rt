@@ -4,7 +4,7 @@ ghost use Prim.Native.Nat.{ℕ, _+_, _-_, _≤_, _<_, _^_};
 ghost use mathlib.Core.List.{_∷_, []};
 ghost use lib.ListN.{length};
 ghost use lib.Seq.{sets};
-ghost use lib.Ieee.{binary32, ofBits, toBits};
+ghost use lib.Ieee.{binary32, ofBits};
 ghost use Rattle.job.specs.Fields.{le2, le4, le8, signedOf, bitsOf, bytes2, bytes4, bytes8, flag};
 
 fn wide(x: u8) -> u32
@@ -59,13 +59,6 @@ pub(crate) fn float_of(n: u32) -> f32
     } else {
         f32::from_bits(n)
     }
-}
-
-// The pattern of a float: one pattern for a NaN.
-pub(crate) fn bits_of(x: f32) -> u32
-    ensures { λ r. ⌜ r ≡ toBits binary32 x ⌝ }
-{
-    if x != x { 2143289344 } else { f32::to_bits(x) }
 }
 
 pub(crate) fn flag_of(x: bool) -> u8

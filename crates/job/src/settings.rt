@@ -1,10 +1,10 @@
 // The 40 bytes of a settings record's body.
-use crate::fields::bits_of;
 use crate::fields::flag_of;
 use crate::fields::float_of;
 use crate::fields::four;
 use crate::fields::put_four;
 use crate::fields::put_one;
+use metrics::floats::bits_of;
 use params::Settings;
 ghost use mathlib.Core.Path.{_≡_};
 ghost use Prim.Native.Nat.{_≤_, _+_};

@@ -7,6 +7,7 @@ use crate::refusals::BAD_NUMBER;
 use crate::refusals::BAD_ROW;
 use crate::refusals::BAD_SIZE;
 
+pub mod floats;
 pub mod kmer;
 mod lanes;
 pub mod refusals;

@@ -5,6 +5,7 @@ ghost use lib.ListN.{length};
 use libc::STDIN_FILENO;
 use libc::STDOUT_FILENO;
 use metrics::Sim;
+use metrics::floats::bits_of;
 use metrics::kmer::Counted;
 
 fn print(text: &[u8]) {
@@ -270,10 +271,6 @@ fn read_row(list: &[u8], at: usize) -> [i32; 64]
         i += 1;
     }
     row
-}
-
-fn bits_of(x: f32) -> u32 {
-    if x == x { f32::to_bits(x) } else { 2143289344 }
 }
 
 fn print_sim(sim: Sim) {

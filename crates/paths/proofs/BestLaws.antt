@@ -84,7 +84,3 @@ pub best-first : {R : Type 0} (P : R → Type 0) (le : R → R → Bool) (ord : 
     → Latest le (best le start (r ∷ l)) (r ∷ l)
 unfolding best
 best-first P le ord start r l e p a = rw e (best-latest P le ord r l p a)
-
--- an order of scores orders results by their score
-pub order-by : {R S : Type 0} (P : S → Type 0) (le : S → S → Bool) (f : R → S) → Order P le → Order (λ r. P (f r)) (λ a b. le (f a) (f b))
-order-by P le f o = record { total = λ a b. o .total (f a) (f b); trans = λ a b c. o .trans (f a) (f b) (f c) }

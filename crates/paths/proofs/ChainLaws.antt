@@ -1,4 +1,4 @@
--- Laws of chains and of their chainsFrom. Assumes nothing.
+-- Chains and how many grow from each: a chain's count is itself and the sum over its extensions.
 use mathlib.Core.Path.{_≡_, refl, ap, _∙_}
 use Prim.Native.Nat.{ℕ, zero, suc, _+_, _*_, _-_, _≤_, _<_}
 use native.Mathlib.Omega.{arith}

@@ -1,14 +1,14 @@
--- Document 01's chainsFrom is the number of chains. Assumes nothing.
+-- Document 01's N, a sum over the rows, is the number of chains, a sum over extensions: an extension is a row that has an edge from the last.
 use mathlib.Core.Path.{_≡_, refl, sym, ap, _∙_}
-use Prim.Native.Nat.{ℕ, zero, suc, _+_, _-_, _≤_, _<_}
+use Prim.Native.Nat.{ℕ, zero, suc, _+_, _-_, _<_}
 use native.Mathlib.Omega.{arith}
 use native.Mathlib.Nat.{add-zero, zero-add}
-use borrow.Author.Tests.{le-ltb, lt-leb}
+use borrow.Author.Tests.{le-ltb}
 use mathlib.Core.Bool.{Bool, true, false, cond, _&&_}
 use mathlib.Core.List.{List, [], _∷_}
-use lib.Dec.{ltb, leb, leb·zero}
+use lib.Dec.{ltb, leb·zero}
 use Rattle.paths.specs.Sums.{sumBy}
-use Rattle.paths.specs.Chains.{endNode, extends, extensions, chainsWithin, chainsFrom}
+use Rattle.paths.specs.Chains.{extends, extensions, chainsWithin, chainsFrom}
 use Rattle.paths.specs.Count.{mayFollow, sumRows, rowCountWithin, chainCount, sumRowsFrom, rowCount}
 use Rattle.paths.proofs.ChainLaws.{chainsFrom-step}
 
@@ -36,7 +36,7 @@ module _ (edge : ℕ → ℕ → Bool) (n : ℕ) where
   row-chainsFrom (suc f) r c = ap suc (rows (mayFollow edge true) _ _ _ (r ∷ c) (λ s. refl) (λ s. row-chainsFrom f s (r ∷ c)) n)
 
   pub doc-full : chainsFrom (mayFollow edge true) n [] ≡ chainCount edge n true
-  unfolding chainCount chainsFrom extends
+  unfolding chainCount rowCount chainsFrom extends
   doc-full = chainsFrom-step (mayFollow edge true) n [] ∙ omega (arith, rows (mayFollow edge true) (λ e. chainsFrom (mayFollow edge true) n e) (λ s. rowCountWithin edge n (n - suc s) s) (λ s. true) [] (λ s. rw (leb·zero s)) (λ s. row-chainsFrom (n - suc s) s []) n)
 
   pub doc-bare : chainsFrom (mayFollow edge false) n [] ≡ chainCount edge n false
@@ -82,19 +82,3 @@ module _ (edge : ℕ → ℕ → Bool) (n : ℕ) where
       rows (mayFollow edge true) (λ c. chainsFrom (mayFollow edge true) n c) w p (r ∷ []) (λ s. refl) (λ s. row-chainsFrom edge n (n - suc s) s (r ∷ [])) n in
       let d : sumRows p w n ≡ sumRows p w (suc r) + sumRowsFrom p w (n - suc r) (suc r) = sym (ap (λ (m : ℕ). sumRows p w m) e) ∙ rows-split p w (n - suc r) (suc r) in
       omega (arith, a, chainsFrom-step (mayFollow edge true) n (r ∷ []), b, d, none)
-
--- the same for any graph rule: the recursion that a walk over the later rows makes (base and P5 alike)
-extends-early : (follows : List ℕ → ℕ → Bool) (c : List ℕ) (s : ℕ) → s < endNode c → extends follows c s ≡ false
-unfolding extends
-extends-early follows c s h = ap (λ (t : Bool). t && follows c s) (lt-leb (endNode c) s h)
-
-pub chainsFrom-up : (follows : List ℕ → ℕ → Bool) (n : ℕ) (c : List ℕ) → endNode c ≤ n
-    → chainsFrom follows n c ≡ suc (sumRowsFrom (λ s. extends follows c s) (λ s. chainsFrom follows n (s ∷ c)) (n - endNode c) (endNode c))
-chainsFrom-up follows n c h =
-    let p : ℕ → Bool = λ s. extends follows c s in
-    let w : ℕ → ℕ = λ s. chainsFrom follows n (s ∷ c) in
-    let e : endNode c + (n - endNode c) ≡ n = omega arith in
-    let none : sumRows p w (endNode c) ≡ 0 = rows-none p w (endNode c) (λ s l. extends-early follows c s l) in
-    let b : sumBy (λ x. chainsFrom follows n x) (extensions follows n c) ≡ sumRows p w n = rows follows (λ x. chainsFrom follows n x) w p c (λ s. refl) (λ s. refl) n in
-    let d : sumRows p w n ≡ sumRows p w (endNode c) + sumRowsFrom p w (n - endNode c) (endNode c) = sym (ap (λ (m : ℕ). sumRows p w m) e) ∙ rows-split p w (n - endNode c) (endNode c) in
-    omega (arith, chainsFrom-step follows n c, b, d, none)

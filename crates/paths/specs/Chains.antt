@@ -2,7 +2,7 @@
 -- `follows c s` is the graph's rule, may row s stand right after chain c. That s comes later than c's last row is not asked of it: that is built in.
 use Prim.Native.Nat.{ℕ, zero, suc, _-_}
 use mathlib.Core.Bool.{Bool, true, cond, _&&_}
-use mathlib.Core.List.{List, [], _∷_, _++_}
+use mathlib.Core.List.{List, [], _∷_}
 use lib.Dec.{leb, ltb}
 use Rattle.paths.specs.Sums.{sumBy}
 

@@ -15,20 +15,21 @@ sumRows p w zero = 0
 sumRows p w (suc k) = cond (p k) (w k + sumRows p w k) (sumRows p w k)
 
 module _ (edge : ℕ → ℕ → Bool) (n : ℕ) where
-  -- c(r), by a number f that is at least that of the later rows
+  -- c(r) by recursion on f, which is at least the number of later rows
   unfoldable pub rowCountWithin : ℕ → ℕ → ℕ
   rowCountWithin zero r = 1
   rowCountWithin (suc f) r = suc (sumRows (λ s. ltb r s && edge r s) (λ s. rowCountWithin f s) n)
 
+  -- c(r)
+  unfoldable pub rowCount : ℕ → ℕ
+  rowCount r = rowCountWithin (n - suc r) r
+
+  -- N
   unfoldable pub chainCount : Bool → ℕ
-  chainCount true = suc (sumRows (λ s. true) (λ s. rowCountWithin (n - suc s) s) n)
+  chainCount true = suc (sumRows (λ s. true) (λ s. rowCount s) n)
   chainCount false = 1
 
 -- the sum of w over the k rows from s on at which p holds
 unfoldable pub sumRowsFrom : (ℕ → Bool) → (ℕ → ℕ) → ℕ → ℕ → ℕ
 sumRowsFrom p w zero s = 0
 sumRowsFrom p w (suc k) s = cond (p s) (w s + sumRowsFrom p w k (suc s)) (sumRowsFrom p w k (suc s))
-
--- c(r)
-unfoldable pub rowCount : (ℕ → ℕ → Bool) → ℕ → ℕ → ℕ
-rowCount edge n r = rowCountWithin edge n (n - suc r) r

@@ -1,6 +1,7 @@
 // Prints an answer as words of eight hexadecimal digits parted by spaces, a line for each answer.
 use kplib::pathscore::Target;
 use kplib::traverse::Answer;
+use metrics::floats::bits_of;
 
 fn put_word(x: u32) {
     io::print_hex(1, x as u64, 8);
@@ -9,10 +10,6 @@ fn put_word(x: u32) {
 fn put_next(x: u32) {
     io::write_all(1, b" ");
     put_word(x);
-}
-
-fn bits(x: f32) -> u32 {
-    if x != x { 2143289344 } else { f32::to_bits(x) }
 }
 
 fn put_target(target: Target) {
@@ -45,9 +42,9 @@ pub(crate) fn print_answer(a: Answer, rows: &[u32]) {
     put_next(a.rows);
     let target = a.target;
     put_target(target);
-    put_next(bits(a.score));
-    put_next(bits(a.sizesim));
-    put_next(bits(a.seqsim));
+    put_next(bits_of(a.score));
+    put_next(bits_of(a.sizesim));
+    put_next(bits_of(a.seqsim));
     put_next(a.scored);
     if a.complete {
         put_next(1);

@@ -5,7 +5,6 @@ use Rattle.capi.proofs.report.put_report.Statement.{statement}
 use Rattle.capi.proofs.report.put_report.Tie as tie
 use Rattle.capi.proofs.report.put_report.Reads as reads
 use Rattle.capi.proofs.report.put_report.Lts as lts
-use Rattle.capi.proofs.report.bits_of.Reads as bits-of-reads
 use Rattle.capi.proofs.report.flag_number.Reads as flag-number-reads
 use Rattle.capi.proofs.report.target_number.Reads as target-number-reads
 

@@ -1,16 +1,14 @@
--- A NaN, and nothing else, differs from itself.
-use Prim.Native.Nat.{ℕ}
-use mathlib.Core.Path.{_≡_, sym, subst, ap}
+-- A NaN, and nothing else, differs from itself; its one pattern is what the definition gives.
+use borrow.Author.Needs.{needs}
+use Prim.Native.Nat.{ℕ, _%_}
+use mathlib.Core.Path.{_≡_, refl, sym, subst, ap, _∙_}
 use native.Mathlib.Omega.{arith}
 use lib.Ieee.Compare.{differs-from-itself}
-use mathlib.Core.Bool.{false, not}
-use lib.Dec.{T}
+use mathlib.Core.Bool.{Bool, true, false, not}
+use lib.Dec.{T, ltb}
 use lib.Ieee.{Float, nan, inf, fin, binary32, toBits, isNan, ne, eq}
-use borrow.Author.Needs.{needs}
-use Rattle.desk.proofs.text.bits_of.Statement.{statement}
-use Rattle.desk.proofs.text.bits_of.Tie as tie
-use Rattle.desk.proofs.text.bits_of.Reads as reads
-use Rattle.desk.proofs.text.bits_of.Lts as lts
+use Rattle.metrics.proofs.floats.bits_of.Statement.{statement}
+use Rattle.metrics.proofs.floats.bits_of.Tie as tie
 
 equal-no-nan : (x : Float) → ne x x ≡ false → T (not (isNan x))
 unfolding isNan ne eq
