@@ -1,3 +1,5 @@
 pub mod Bench
 pub mod Demand3
+pub mod Worked
+pub mod NoParts
 pub mod Unique
