@@ -2,4 +2,5 @@ pub mod Bench
 pub mod Demand3
 pub mod Worked
 pub mod NoParts
+pub mod PartOrder
 pub mod Unique
