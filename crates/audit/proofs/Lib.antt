@@ -4,4 +4,5 @@ pub mod Demand3Laws
 pub mod Worked
 pub mod NoParts
 pub mod PartOrderLaws
+pub mod AnchorsLaws
 pub mod UniqueLaws

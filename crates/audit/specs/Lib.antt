@@ -3,4 +3,5 @@ pub mod Demand3
 pub mod Worked
 pub mod NoParts
 pub mod PartOrder
+pub mod Anchors
 pub mod Unique
