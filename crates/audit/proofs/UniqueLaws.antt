@@ -1,9 +1,5 @@
 -- A promise that is an equation fixes its result; where a slice's equation speaks of the value, the values agree first, and where it holds under a condition, the condition is given.
-use mathlib.Core.Path.{_≡_, refl, sym, ap, _∙_}
-use Prim.Native.Nat.{ℕ}
-use mathlib.Core.Bool.{Bool}
-use mathlib.Core.List.{List}
-use lib.IntN.{ℤ}
+use mathlib.Core.Path.{_≡_, sym, ap, _∙_}
 use Rattle.metrics.specs.Letters.{countsOf, rowAfter}
 use Rattle.job.specs.Job.{jobBytes}
 use Rattle.job.specs.Writing.{jobFrom, outAfter}

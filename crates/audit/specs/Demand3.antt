@@ -15,7 +15,6 @@ use Rattle.kplib.specs.Score.{chainScore}
 use Rattle.kplib.specs.Search.{Result, noLower, followsIn, scoredIn, resultOf}
 use Rattle.kplib.specs.Answer.{answerOf, rowsOf, searches}
 use Rattle.params.specs.declared.Settings.{Settings}
-use Rattle.kplib.specs.declared.pathscore.Scored.{Scored}
 use Rattle.kplib.specs.declared.traverse.Answer.{Answer}
 
 -- the rows and the score that an answer gives

@@ -1,11 +1,11 @@
 -- `fields::bits_of`: a NaN, and nothing else, differs from itself.
 use borrow.Author.Needs.{needs}
-use Prim.Native.Nat.{ℕ, _%_}
-use mathlib.Core.Path.{_≡_, refl, sym, subst, ap, _∙_}
+use Prim.Native.Nat.{ℕ}
+use mathlib.Core.Path.{_≡_, sym, subst, ap}
 use native.Mathlib.Omega.{arith}
 use lib.Ieee.Compare.{differs-from-itself}
-use mathlib.Core.Bool.{Bool, true, false, not}
-use lib.Dec.{T, ltb}
+use mathlib.Core.Bool.{false, not}
+use lib.Dec.{T}
 use lib.Ieee.{Float, nan, inf, fin, binary32, toBits, isNan, ne, eq}
 use Rattle.job.proofs.fields.bits_of.Statement.{statement}
 use Rattle.job.proofs.fields.bits_of.Tie as tie
