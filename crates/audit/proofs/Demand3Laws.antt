@@ -17,7 +17,7 @@ use Rattle.kplib.specs.Numbers.{Table, Parts, firstFault, searchMode}
 use Rattle.kplib.specs.Score.{chainScore}
 use Rattle.kplib.specs.Search.{Result, noLower, startResult, followsIn, distanceIn, scoredIn, leftIn, resultOf, bestIn}
 use Rattle.kplib.specs.Answer.{searched, answerWith, foundAfter, answerOf, rowsOf, searches}
-use Rattle.audit.specs.Demand3.{Demand3, resultIn}
+use Rattle.audit.specs.Demand3.{Demand3, Demand3Holds, resultIn}
 use Rattle.params.specs.declared.Settings.{Settings}
 use Rattle.kplib.specs.declared.traverse.Answer.{Answer}
 use Rattle.kplib.proofs.GraphLaws.{counts-chains}
@@ -99,7 +99,7 @@ module _ (s : Settings) (t : Table) (p : Parts) where
     unfolding searched
     result-is = rw (rows-are, answer-is)
 
-    pub demand : Demand3 s t p q a
+    demand : Demand3 s t p q a
     demand =
         let n = counts-chains (t .starts) (t .ends) (s .full) in
         record {
@@ -112,3 +112,6 @@ module _ (s : Settings) (t : Table) (p : Parts) where
           latest-best = rw result-is (rule .latest-best);
           none-higher = λ e x c. rw (score-is, ← score-of x) (rule .none-higher (sym complete-is ∙ e) x c);
         }
+
+pub demand3-holds : Demand3Holds
+demand3-holds = demand

@@ -3,4 +3,6 @@ pub mod Bench
 pub mod Demand3Laws
 pub mod Worked
 pub mod NoParts
+pub mod PartOrderLaws
+pub mod AnchorsLaws
 pub mod UniqueLaws

@@ -13,9 +13,8 @@ use Rattle.kplib.specs.Numbers.{Table, Parts}
 use Rattle.kplib.specs.Graph.{isChainIn, chainsOf}
 use Rattle.kplib.specs.Score.{chainScore}
 use Rattle.kplib.specs.Search.{Result, noLower, followsIn, scoredIn, resultOf}
-use Rattle.kplib.specs.Answer.{answerOf, rowsOf}
+use Rattle.kplib.specs.Answer.{answerOf, rowsOf, searches}
 use Rattle.params.specs.declared.Settings.{Settings}
-use Rattle.kplib.specs.declared.pathscore.Scored.{Scored}
 use Rattle.kplib.specs.declared.traverse.Answer.{Answer}
 
 -- the rows and the score that an answer gives
@@ -41,3 +40,8 @@ module _ (s : Settings) (t : Table) (p : Parts) (queueRoom answerRoom : ℕ) whe
     -- and when complete is yes no chain of the graph scores higher
     pub none-higher : answerOf s t p queueRoom answerRoom .complete ≡ true → (x : List ℕ) → isChainIn (t .starts) (t .ends) (s .full) x ≡ true
         → le (chainScore s (t .sizes) (t .features) (p .sizes) (p .features) (reverse x) .score) (answerOf s t p queueRoom answerRoom .score) ≡ true
+
+-- demand 3: so it is for every job that is accepted and in search mode
+abbrev pub Demand3Holds : Type 0
+Demand3Holds =
+    (s : Settings) (t : Table) (p : Parts) (queueRoom answerRoom : ℕ) → searches s t p queueRoom answerRoom ≡ true → Demand3 s t p queueRoom answerRoom

@@ -1,8 +1,9 @@
 -- Document 01, "No empty promises": two results that meet a public function's promise coincide, the value and what each lent slice holds at exit.
--- A field for each function, its promise written as in its contract. The queue's slices after a search are the one exception (docs/PROMISES.md).
+-- A field for each function, its promise written as in its contract; `-rows` and `-queue` are further slices of the function named before them.
+-- The queue's slices after a search are the one exception (docs/PROMISES.md): of them only what stands there where no search runs is promised.
 use Prim.Native.Nat.{ℕ}
 use mathlib.Core.Path.{_≡_}
-use mathlib.Core.Bool.{Bool}
+use mathlib.Core.Bool.{Bool, false}
 use mathlib.Core.List.{List}
 use lib.IntN.{ℤ}
 use lib.ListN.{length}
@@ -14,7 +15,7 @@ use Rattle.metrics.specs.declared.kmer.Counted.{Counted}
 use Rattle.params.specs.declared.Settings.{Settings}
 use Rattle.kplib.specs.Numbers.{Table, Parts}
 use Rattle.kplib.specs.Graph.{cappedCount, countNumber, countValue}
-use Rattle.kplib.specs.Answer.{answerOf, rowsOf, placed}
+use Rattle.kplib.specs.Answer.{answerOf, rowsOf, placed, searches}
 use Rattle.kplib.specs.declared.vargraph.ChainCount.{ChainCount}
 use Rattle.kplib.specs.declared.traverse.Answer.{Answer}
 use Rattle.job.specs.Job.{readJob, jobBytes}
@@ -33,6 +34,11 @@ One A promise = (x y : A) → promise x → promise y → x ≡ y
 abbrev pub Pair : (A B : Type 0) → (A → B → Type 0) → Type 0
 Pair A B promise = (x y : A) (u v : B) → promise x u → promise y v → (x ≡ y) × (u ≡ v)
 
+-- a queue slice that held `old` at entry, after a refusal or a one-to-one match: at most one content meets its promise
+abbrev pub QueueSlice : Settings → Table → Parts → ℕ → ℕ → List ℕ → Type 0
+QueueSlice s t p queueRoom answerRoom old =
+    searches s t p queueRoom answerRoom ≡ false → One (List ℕ) (λ out. (searches s t p queueRoom answerRoom ≡ false → out ≡ old))
+
 pub record Unique : Type 0 where
   pub sizesim : (a b : ℕ) → One Sim (λ r. r ≡ sizesimOf a b)
   pub seqsim : (a b : List ℤ) (minkfreq : ℕ) → One Sim (λ r. r ≡ seqsimOf a b minkfreq)
@@ -42,6 +48,7 @@ pub record Unique : Type 0 where
   pub count-chains : (starts ends : List ℕ) (full : Bool) (cap : ℕ) → One ChainCount (λ r. r ≡ cappedCount starts ends full cap)
   pub apply-haplotype : (s : Settings) (t : Table) (p : Parts) (room : ℕ) (rows : List ℕ)
       → Pair Answer (List ℕ) (λ r out. (r ≡ answerOf s t p room (length rows)) × (out ≡ placed rows (rowsOf s t p room (length rows))))
+  pub apply-haplotype-queue : (s : Settings) (t : Table) (p : Parts) (room : ℕ) (rows old : List ℕ) → QueueSlice s t p room (length rows) old
   pub scan : (bytes : List ℕ) → One Scan (λ r. r ≡ scanOf (readJob bytes))
   pub read-job : (bytes : List ℕ) (t : Lent) → Pair Reading Lent (λ r u. (r ≡ readingOf (readJob bytes) t) × (u ≡ lentAfter (readJob bytes) t))
   pub write-job : (s : Settings) (t : Lent) (out : List ℕ)
@@ -57,3 +64,4 @@ pub record Unique : Type 0 where
       → Pair ℕ (List ℕ) (λ r report. (r ≡ answerOf s t p room (length rows) .refusal) × (report ≡ reportOf (answerOf s t p room (length rows))))
   pub nd-apply-haplotype-rows : (s : Settings) (t : Table) (p : Parts) (room : ℕ) (rows : List ℕ)
       → One (List ℕ) (λ out. out ≡ placed rows (rowsOf s t p room (length rows)))
+  pub nd-apply-haplotype-queue : (s : Settings) (t : Table) (p : Parts) (room : ℕ) (rows old : List ℕ) → QueueSlice s t p room (length rows) old

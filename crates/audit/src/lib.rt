@@ -1,1 +1,1 @@
-// Theory only, over all that is public: the twelve bench examples as one statement, and that a promise leaves nothing open. No code.
+// Theory only, over all that is public: the bench examples and the worked job, demand 3, which part lists there are, and that a promise leaves nothing open. No code.

@@ -1,22 +1,21 @@
 -- The text of an answer, and which text is given where.
-use Prim.Native.Nat.{ℕ, zero, suc, _+_, _≤_, _<_}
+use Prim.Native.Nat.{ℕ, _+_, _≤_, _<_}
 use native.Mathlib.Omega.{arith}
 use native.Mathlib.Nat.{zero-add}
 use mathlib.Core.Path.{_≡_, refl, sym, ap, _∙_}
-use mathlib.Core.Bool.{Bool, true, false, cond, _||_}
-use mathlib.Core.List.{List, [], _∷_, _++_}
-use lib.Dec.{ltb, eqb}
+use mathlib.Core.Bool.{true}
+use mathlib.Core.List.{List, _++_}
 use lib.ListN.{length, drop}
-use lib.Seq.{sets, sets-eq}
+use lib.Seq.{sets-eq}
 use borrow.Author.Tests.{lt-ltb, le-ltb, eq-eqb, ne-eqb}
 use Rattle.kplib.specs.declared.traverse.Answer.{Answer}
 use Rattle.job.specs.declared.form.Scan.{Scan}
 use Rattle.job.specs.declared.form.Scan.the-variants.{Good, Refused}
 use Rattle.job.specs.declared.form.Counts.{Counts}
 use Rattle.job.specs.Job.{Job, Read, Faulty, Held, readJob}
-use Rattle.job.specs.Reading.{placed, countsOf, scanOf}
+use Rattle.job.specs.Reading.{placed, jobCounts, scanOf}
 use Rattle.desk.specs.Text.{sevenLines, refusedText}
-use Rattle.desk.specs.Desk.{answerText, tooLarge, readText, jobText, deskText}
+use Rattle.desk.specs.Desk.{answerText, tooLarge, readText, deskText}
 use Rattle.desk.specs.Memory.{Holds}
 use Rattle.desk.specs.Pieces.{Put}
 
@@ -50,29 +49,29 @@ module _ (input : List ℕ) where
   pub scan-faulty : (read : Read) (found : Scan) → found ≡ scanOf read → (n : ℕ) → found ≡ Refused n → refusedText n ≡ readText read
   unfolding scanOf readText
   scan-faulty (Faulty m) found e n f = let q : Refused n ≡ Refused m = sym f ∙ e in let z : n ≡ m = cc in ap refusedText z
-  scan-faulty (Held job) found e n f = let q : Refused n ≡ Good (countsOf job) = sym f ∙ e in let z : _≡_ {A = ℕ} 0 1 = cc in let w : ⊥ = omega arith in absurd w
+  scan-faulty (Held job) found e n f = let q : Refused n ≡ Good (jobCounts job) = sym f ∙ e in let z : _≡_ {A = ℕ} 0 1 = cc in let w : ⊥ = omega arith in absurd w
 
   -- what the first pass counts, and the job that it counted
   pub record Found (c : Counts) : Type 0 where
     pub job : Job
     pub held : readJob input ≡ Held job
-    pub counts : c ≡ countsOf job
+    pub counts : c ≡ jobCounts job
 
   scan-held : (read : Read) → readJob input ≡ read → (found : Scan) → found ≡ scanOf read → (c : Counts) → found ≡ Good c → Found c
   unfolding scanOf
   scan-held (Faulty m) r found e c f = let q : Good c ≡ Refused m = sym f ∙ e in let z : _≡_ {A = ℕ} 0 1 = cc in let w : ⊥ = omega arith in absurd w
-  scan-held (Held job) r found e c f = let q : Good c ≡ Good (countsOf job) = sym f ∙ e in let z : c ≡ countsOf job = cc in record { job = job; held = r; counts = z }
+  scan-held (Held job) r found e c f = let q : Good c ≡ Good (jobCounts job) = sym f ∙ e in let z : c ≡ jobCounts job = cc in record { job = job; held = r; counts = z }
 
   pub found-job : (found : Scan) → found ≡ scanOf (readJob input) → (c : Counts) → found ≡ Good c → Found c
   found-job found e c f = scan-held (readJob input) refl found e c f
 
   module _ (c : Counts) (f : Found c) where
     variants-are : c .variants ≡ length (f .job .variants)
-    unfolding countsOf
+    unfolding jobCounts
     variants-are = ap (λ (x : Counts). x .variants) (f .counts)
 
     parts-are : c .parts ≡ length (f .job .parts)
-    unfolding countsOf
+    unfolding jobCounts
     parts-are = ap (λ (x : Counts). x .parts) (f .counts)
 
     large-read : tooLarge (f .job) ≡ true → refusedText 26 ≡ readText (readJob input)

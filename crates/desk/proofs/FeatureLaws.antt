@@ -3,15 +3,15 @@ use Prim.Native.Nat.{ℕ, suc, _+_, _-_, _*_, _^_, _≤_, _<_}
 use native.Mathlib.Omega.{arith}
 use native.Mathlib.Numerals.{add-one}
 use native.Mathlib.Nat.{suc-mul, mul-le-mul-right}
-use mathlib.Core.Path.{_≡_, refl, sym, ap, subst, _∙_}
-use mathlib.Core.Bool.{Bool, true, false}
-use mathlib.Core.List.{List, [], _∷_, _++_, append-nil, append-assoc}
+use mathlib.Core.Path.{_≡_, refl, sym, ap, _∙_}
+use mathlib.Core.Bool.{Bool, false}
+use mathlib.Core.List.{List, [], _++_, append-nil, append-assoc}
 use lib.IntN.{ℤ}
 use lib.ListN.{length, getD, take, drop, length-append, length-take, length-drop, drop-of-length-le}
 use lib.Seq.{drop-cons, drop-drop, take-at, length-take-le}
 use borrow.Rule.Slice.PartMut.{putMid, post-is}
 use Rattle.metrics.specs.declared.kmer.Counted.{Counted as CountAnswer}
-use Rattle.metrics.specs.declared.kmer.Counted.the-variants.{Done, Refused}
+use Rattle.metrics.specs.declared.kmer.Counted.the-variants.{Done}
 use Rattle.metrics.specs.Letters.{windowsOf, timesIn, signed, countsOf, counterAnswer, rowAfter}
 use Rattle.metrics.proofs.Windows.{table-length}
 use Rattle.metrics.proofs.Totals.{counter-done}

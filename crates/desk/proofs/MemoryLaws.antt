@@ -1,27 +1,24 @@
 -- A job that fits is read whole: the fronts of the program's arrays are its lists, the rows counted from its letters are its features.
-use Prim.Native.Nat.{ℕ, zero, suc, _+_, _*_, _^_, _≤_, _<_}
+use Prim.Native.Nat.{ℕ, _+_, _*_, _^_, _≤_, _<_}
 use native.Mathlib.Omega.{arith}
 use native.Mathlib.Nat.{mul-le-mul-right, zero-add}
-use mathlib.Core.Path.{_≡_, refl, sym, ap, subst, _∙_}
-use mathlib.Core.Bool.{Bool, true, false, cond, _||_, _&&_}
+use mathlib.Core.Path.{_≡_, refl, sym, ap, _∙_}
+use mathlib.Core.Bool.{Bool, true, false, cond, _||_}
 use mathlib.Core.List.{List, [], _∷_, _++_, map, append-assoc}
-use lib.Dec.{ltb, leb}
+use lib.Dec.{ltb}
 use lib.IntN.{ℤ, pos}
 use lib.ListN.{length, take, drop, replicate, length-append, length-map, length-drop}
 use lib.Seq.{take-at, drop-at}
 use borrow.Author.Tests.{ltb-true, lt-ltb, le-ltb, le-leb}
-use Rattle.metrics.specs.Letters.{countsOf}
 use Rattle.params.specs.declared.Settings.{Settings}
-use Rattle.kplib.specs.Numbers.{Table, Parts, tableOf, partsOf}
+use Rattle.kplib.specs.Numbers.{tableOf, partsOf}
 use Rattle.job.specs.declared.form.Counts.{Counts}
-use Rattle.job.specs.declared.form.Scan.{Scan}
-use Rattle.job.specs.declared.form.Scan.the-variants.{Good, Refused}
 use Rattle.job.specs.declared.reader.Reading.{Reading}
 use Rattle.job.specs.declared.reader.Reading.the-variants.{Refused as Declined, Job as Given}
-use Rattle.job.specs.Form.{run, start}
-use Rattle.job.specs.Job.{Variant, Part, Job, Read, Faulty, Held, readJob, jobOf}
+use Rattle.job.specs.Form.{start}
+use Rattle.job.specs.Job.{Variant, Part, Job, readJob}
 use Rattle.job.specs.Reading.{Lent, lent, variantLetters, partLetters, lettersOf, five, three, hasRoom, placed, lentWith, readingOf, lentAfter}
-use Rattle.job.specs.Reading.{countsOf as countsOfJob}
+use Rattle.job.specs.Reading.{jobCounts}
 use Rattle.job.specs.Writing.{sum}
 use Rattle.job.proofs.LetterLaws.{letters-within}
 use Rattle.desk.specs.Text.{refusedText}
@@ -217,8 +214,8 @@ module _ (input : List ℕ) (holds : Holds input) (t : Lent) (room : Room t) whe
   abbrev theJob : Job
   theJob = holds .job
 
-  has-room : hasRoom (countsOfJob theJob) t ≡ true
-  unfolding five three countsOfJob
+  has-room : hasRoom (jobCounts theJob) t ≡ true
+  unfolding five three jobCounts
   has-room =
       let l = letters-within input theJob (holds .held) in
       let s = holds .short in
@@ -226,7 +223,7 @@ module _ (input : List ℕ) (holds : Holds input) (t : Lent) (room : Room t) whe
       rw (room .starts, room .ends, room .sizes, room .negatives, room .counts, room .partSizes, room .partNegatives, room .partCounts, room .letters)
       (simp (le-leb _ _ (holds .variants), le-leb _ _ (holds .parts), le-leb _ _ few))
 
-  reading-is : readingOf (readJob input) t ≡ Given (theJob .settings) (countsOfJob theJob)
+  reading-is : readingOf (readJob input) t ≡ Given (theJob .settings) (jobCounts theJob)
   unfolding readingOf
   reading-is = rw (holds .held, has-room)
 
@@ -237,26 +234,26 @@ module _ (input : List ℕ) (holds : Holds input) (t : Lent) (room : Room t) whe
   -- the job is never refused for want of room
   pub never-refused : (read : Reading) → read ≡ readingOf (readJob input) t → (n : ℕ) → read ≡ Declined n → ⊥
   never-refused read e n f =
-      let q : Declined n ≡ Given (theJob .settings) (countsOfJob theJob) = sym f ∙ (e ∙ reading-is) in
+      let q : Declined n ≡ Given (theJob .settings) (jobCounts theJob) = sym f ∙ (e ∙ reading-is) in
       let z : _≡_ {A = ℕ} 0 1 = cc in
       omega arith
 
   module _ (read : Reading) (e : read ≡ readingOf (readJob input) t) (s : Settings) (c : Counts) (f : read ≡ Given s c) where
-    given-is : Given s c ≡ Given (theJob .settings) (countsOfJob theJob)
+    given-is : Given s c ≡ Given (theJob .settings) (jobCounts theJob)
     given-is = sym f ∙ (e ∙ reading-is)
 
     settings-are : s ≡ theJob .settings
     settings-are = let q = given-is in cc
 
-    counts-are : c ≡ countsOfJob theJob
+    counts-are : c ≡ jobCounts theJob
     counts-are = let q = given-is in cc
 
     variants-are : c .variants ≡ length (theJob .variants)
-    unfolding countsOfJob
+    unfolding jobCounts
     variants-are = ap (λ (x : Counts). x .variants) counts-are
 
     parts-are : c .parts ≡ length (theJob .parts)
-    unfolding countsOfJob
+    unfolding jobCounts
     parts-are = ap (λ (x : Counts). x .parts) counts-are
 
     variant-length : {A : Type 0} (f : Variant → A) → length (map f (theJob .variants)) ≡ c .variants

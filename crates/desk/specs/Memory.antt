@@ -1,15 +1,14 @@
 -- What the program's memory holds between reading a job and searching. No public promise cites this file.
 use Prim.Native.Nat.{ℕ, _+_, _≤_}
 use mathlib.Core.Path.{_≡_}
-use mathlib.Core.Bool.{Bool, cond}
+use mathlib.Core.Bool.{cond}
 use mathlib.Core.List.{List}
-use lib.IntN.{ℤ}
 use lib.Dec.{ltb}
 use lib.ListN.{length, take, drop}
 use Rattle.params.specs.declared.Settings.{Settings}
 use Rattle.kplib.specs.Numbers.{Table, Parts, tableOf, partsOf}
 use Rattle.kplib.specs.Answer.{answerOf, rowsOf}
-use Rattle.job.specs.Job.{Job, Read, Held, readJob}
+use Rattle.job.specs.Job.{Job, Held, readJob}
 use Rattle.job.specs.Reading.{Lent, lent}
 use Rattle.job.specs.Writing.{sum}
 use Rattle.desk.specs.Text.{refusedText}

@@ -1,21 +1,18 @@
 -- Reading back what was written, piece by piece: the settings, a variant's and a part's body, and the letters of a sequence. Assumes nothing.
-use Prim.Native.Nat.{ℕ, zero, suc, _+_, _-_, _*_, _/_, _%_, _≤_, _<_, _^_}
+use Prim.Native.Nat.{ℕ, zero, suc, _+_, _-_, _*_, _/_, _%_, _≤_, _<_}
 use native.Mathlib.Omega.{arith}
-use mathlib.Core.Path.{_≡_, refl, sym, ap, subst, _∙_}
-use mathlib.Core.Bool.{Bool, true, false}
+use mathlib.Core.Path.{_≡_, refl, sym, ap, _∙_}
+use mathlib.Core.Bool.{true, false}
 use mathlib.Core.List.{List, [], _∷_, _++_, append-assoc}
-use mathlib.Core.Logic.{_⊎_, inl, inr, ⊎-elim}
-use lib.Dec.{T, ltb, eqb}
-use lib.IntN.{ℤ}
-use lib.ListN.{length, getD, take, drop, replicate, length-append, length-drop}
-use lib.Seq.{getD-append-add, getD-drop, drop-at}
-use lib.Ieee.{Float, binary32, fits, ofBits, toBits}
+use mathlib.Core.Logic.{_⊎_, ⊎-elim}
+use lib.Dec.{T, ltb}
+use lib.ListN.{length, getD, drop, length-drop}
+use lib.Seq.{getD-append-add, getD-drop}
+use lib.Ieee.{Float, binary32, fits, toBits}
 use lib.Ieee.Bits.{ofBits-toBits, toBits-lt}
 use borrow.Author.Tests.{ltb-true, ltb-false}
-use mir.Val.{SFits}
-use mir.Syntax.{w32}
 use Rattle.params.specs.declared.Settings.{Settings}
-use Rattle.job.specs.Fields.{le2, le4, le8, signedOf, bitsOf, bytes2, bytes4, bytes8, flag}
+use Rattle.job.specs.Fields.{le2, le4, le8, bitsOf, bytes2, bytes4, bytes8}
 use Rattle.job.specs.Settings40.{settingsOf, settingsBytes, numberBytes, floatBytes}
 use Rattle.job.specs.Form.{bodyLen, countOf}
 use Rattle.job.specs.Job.{Variant, Part, lettersIn, lettersAfter, variantOf, partOf, padded, lettersRecords, recordsFor, sequenceBytes, partBody, variantBody}

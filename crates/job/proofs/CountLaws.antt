@@ -6,17 +6,17 @@ use native.Mathlib.Nat.{add-zero}
 use mathlib.Core.Path.{_≡_, refl, sym, ap, subst, _∙_}
 use mathlib.Core.Bool.{Bool, true, false, not, cond, _&&_}
 use mathlib.Core.List.{List, [], _∷_, _++_, append-assoc, append-nil}
-use mathlib.Core.Logic.{_⊎_, inl, inr, ⊎-elim}
+use mathlib.Core.Logic.{_⊎_, ⊎-elim}
 use lib.Dec.{ltb, leb, eqb}
-use lib.ListN.{length, drop, length-append}
-use borrow.Author.Tests.{lt-ltb, le-ltb, eq-eqb, ne-eqb, le-leb, lt-leb, leb-true, leb-false, ltb-true, ltb-false, eqb-true, eqb-false}
+use lib.ListN.{length, length-append}
+use borrow.Author.Tests.{le-ltb, eq-eqb, ne-eqb, leb-false, ltb-false, eqb-true, eqb-false}
 use Rattle.job.specs.declared.form.State.{State}
 use Rattle.job.specs.declared.form.Counts.{Counts}
 use Rattle.job.specs.declared.form.Scan.{Scan}
 use Rattle.job.specs.declared.form.Scan.the-variants.{Good, Refused}
-use Rattle.job.specs.Form.{bodyLen, inPlace, flagsOk, countOf, padOk, faultOf, after, run, judge, start, counted}
-use Rattle.job.specs.Job.{Variant, Part, Job, Read, Faulty, Held, lettersAfter, variantOf, partOf, variantHere, partHere, gather, jobOf, readOf, readJob}
-use Rattle.job.specs.Reading.{variantLetters, partLetters, lettersOf, countsOf, scanOf}
+use Rattle.job.specs.Form.{bodyLen, inPlace, flagsOk, countOf, padOk, faultOf, after, run, start, counted}
+use Rattle.job.specs.Job.{Variant, Part, lettersAfter, variantOf, partOf, variantHere, partHere, gather, jobOf, readOf, readJob}
+use Rattle.job.specs.Reading.{variantLetters, partLetters, jobCounts, scanOf}
 use Rattle.job.specs.Steps.{lettersHere}
 use Rattle.job.proofs.FormLaws.{split}
 use Rattle.job.proofs.FillLaws.{long-letters}
@@ -222,8 +222,8 @@ letters-of-parts [] n = refl
 letters-of-parts (k ∷ b) (suc n) = letters-of-parts b n
 letters-of-parts (k ∷ b) zero = part-letters-append (partHere k b) _ ∙ rw (part-letters-here k b, letters-of-parts b (bodyLen k))
 
-pub counts-are : (s : List ℕ) (c : Counts) → run s 0 start ≡ Good c → c ≡ countsOf (jobOf s)
-unfolding countsOf jobOf
+pub counts-are : (s : List ℕ) (c : Counts) → run s 0 start ≡ Good c → c ≡ jobCounts (jobOf s)
+unfolding jobCounts jobOf
 counts-are s c e =
     let t = tally s 0 start c e in
     let p : c .variants ≡ length (gather variantHere s 0) = t .variants ∙ omega arith in

@@ -1,16 +1,16 @@
 -- Fields stored one behind the other, and read back: a number is put together from halves, so each law is about two of them. Assumes nothing.
-use Prim.Native.Nat.{ℕ, zero, suc, _+_, _-_, _*_, _/_, _%_, _≤_, _<_, _^_}
+use Prim.Native.Nat.{ℕ, suc, _+_, _-_, _*_, _/_, _%_, _≤_, _<_}
 use native.Mathlib.Omega.{arith}
 use native.Mathlib.Numerals.{add-one}
 use native.Mathlib.Nat.{add-zero, add-suc, suc-add}
 use mathlib.Core.Path.{_≡_, refl, sym, ap, subst, _∙_}
 use mathlib.Core.List.{List, [], _∷_, _++_}
-use mathlib.Core.Bool.{Bool, true, false, cond}
+use mathlib.Core.Bool.{Bool, true, false}
 use lib.IntN.{ℤ, pos, negsuc, _-ℤ_, natAbs}
-use lib.Dec.{ltb, eqb}
-use lib.ListN.{length, getD, drop, set, length-set}
+use lib.Dec.{eqb}
+use lib.ListN.{length, set}
 use lib.Seq.{sets}
-use borrow.Author.Tests.{lt-ltb, le-ltb, eq-eqb, ne-eqb}
+use borrow.Author.Tests.{lt-ltb, le-ltb}
 use mir.Val.{SFits, Fits, toZ, ofZ}
 use mir.ValLaws.{toZ-ofZ}
 use lib.Signed.{ltZ, nonNeg}
@@ -18,7 +18,7 @@ use lib.Dec.{T}
 use borrow.Author.Tests.{ltb-true}
 use native.Mathlib.Nat.{not-suc-le-zero}
 use mir.Syntax.{w32}
-use Rattle.job.specs.Fields.{le2, le4, le8, signedOf, bytes2, bytes4, bytes8, bitsOf, flag}
+use Rattle.job.specs.Fields.{signedOf, bytes2, bytes4, bytes8, bitsOf, flag}
 
 pub sets-append : (l : List ℕ) (i : ℕ) (xs ys : List ℕ) → sets l i (xs ++ ys) ≡ sets (sets l i xs) (i + length xs) ys
 sets-append l i [] ys = rw (add-zero i)

@@ -3,17 +3,17 @@ use Prim.Native.Nat.{ℕ, zero, suc, _+_, _-_, _≤_, _<_, _/_}
 use native.Mathlib.Omega.{arith}
 use native.Mathlib.Numerals.{add-one}
 use native.Mathlib.Nat.{add-zero, add-suc, suc-add}
-use mathlib.Core.Path.{_≡_, refl, sym, ap, subst, _∙_}
+use mathlib.Core.Path.{_≡_, refl, sym, ap, _∙_}
 use mathlib.Core.List.{List, [], _∷_, _++_}
 use mathlib.Core.Bool.{Bool, true, false, cond}
 use lib.IntN.{ℤ}
-use lib.Dec.{ltb, eqb}
-use lib.ListN.{length, getD, take, drop, set, length-drop, length-set, length-append, drop-of-length-le}
+use lib.Dec.{eqb}
+use lib.ListN.{length, getD, take, drop, set, length-drop, length-append, drop-of-length-le}
 use lib.Seq.{drop-cons, drop-nil, take-all, drop-drop, sets}
 use borrow.Author.Tests.{lt-ltb, le-ltb, eq-eqb, ne-eqb}
 use Rattle.job.specs.Fields.{le4, le8, signedOf}
 use Rattle.job.specs.Form.{bodyLen, countOf}
-use Rattle.job.specs.Job.{Variant, Part, lettersIn, lettersAfter, variantOf, partOf, variantHere, partHere, gather}
+use Rattle.job.specs.Job.{lettersIn, lettersAfter, variantOf, partOf, variantHere, partHere, gather}
 use Rattle.job.specs.Steps.{Rows, rows, putRow, PartRows, partRows, putPart, stores, Stored, lettersHere}
 
 pub short-body : (k : ℕ) → bodyLen k ≤ 40

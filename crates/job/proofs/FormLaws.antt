@@ -4,7 +4,7 @@ use Prim.Native.Nat.{ℕ, zero, suc, _+_, _-_, _≤_, _<_}
 use native.Mathlib.Omega.{arith}
 use native.Mathlib.Numerals.{add-one}
 use mathlib.Core.Path.{_≡_, refl, sym, ap, subst, _∙_}
-use mathlib.Core.Bool.{Bool, true, false, not, cond, _&&_, _||_}
+use mathlib.Core.Bool.{Bool, true, false, _&&_}
 use mathlib.Core.List.{List, [], _∷_}
 use lib.Dec.{ltb, eqb}
 use lib.ListN.{length, getD, take, drop, length-take, length-drop}
@@ -12,7 +12,7 @@ use lib.Seq.{drop-cons, getD-take, drop-nil}
 use borrow.Author.Tests.{lt-ltb, le-ltb, eq-eqb, ne-eqb}
 use borrow.Author.Tests.{le-leb, lt-leb, ltb-false}
 use mathlib.Core.Logic.{_⊎_, inl, inr, ⊎-elim}
-use lib.Seq.{take-all, drop-drop, length-take-le}
+use lib.Seq.{take-all, drop-drop}
 use lib.ListN.{drop-of-length-le}
 use Rattle.job.specs.declared.form.Scan.{Scan}
 use Rattle.job.specs.declared.form.Scan.the-variants.{Good, Refused}

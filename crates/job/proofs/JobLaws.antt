@@ -1,31 +1,28 @@
 -- What writing a job answers: its length is what the checks took away, and settings, variants, parts and end are stored one behind the other. Assumes nothing.
-use Prim.Native.Nat.{ℕ, zero, suc, _+_, _-_, _*_, _≤_, _<_}
+use Prim.Native.Nat.{ℕ, zero, suc, _+_, _*_, _≤_, _<_}
 use native.Mathlib.Omega.{arith}
 use mathlib.Core.Path.{_≡_, refl, sym, ap, subst, _∙_}
-use mathlib.Core.Bool.{Bool, true, false, not, cond, _&&_, _||_}
+use mathlib.Core.Bool.{Bool, true, false}
 use mathlib.Core.List.{List, [], _∷_, _++_}
-use mathlib.Core.Logic.{_⊎_, inl, inr, ⊎-elim}
 use lib.IntN.{ℤ, pos}
-use lib.Dec.{ltb, leb, eqb}
+use lib.Dec.{eqb}
 use lib.ListN.{length, getD, drop, length-append, drop-of-length-le}
-use lib.Seq.{sets, slice, drop-cons, length-slice, sets-eq}
+use lib.Seq.{sets, slice, drop-cons, sets-eq}
 use borrow.Author.Tests.{lt-ltb, le-ltb, eqb-true}
 use Rattle.params.specs.declared.Settings.{Settings}
-use Rattle.job.specs.declared.writer.Left.{Left}
 use Rattle.job.specs.declared.writer.Left.the-variants.{Short, Enough}
-use Rattle.job.specs.declared.writer.Writing.{Writing}
 use Rattle.job.specs.declared.writer.Writing.the-variants.{Refused, Wrote}
 use Rattle.job.specs.Fields.{bytes2, bytes4, bytes8}
 use Rattle.job.specs.Settings40.{settingsBytes, numberBytes, floatBytes}
 use Rattle.job.specs.Form.{bodyLen}
 use Rattle.job.specs.Job.{recordsFor, sequenceBytes, partBody, variantBody, variantBytes, partBytes, variantsBytes, partsBytes, jobBytes}
-use Rattle.job.specs.Reading.{Lent, placed}
+use Rattle.job.specs.Reading.{Lent}
 use Rattle.job.specs.Writing.{sum, anyOver, four, two, agree, variantsFrom, partsFrom, jobFrom, writingOf, outAfter}
 use Rattle.job.specs.Steps.{costOf, total, leftOf, VariantsFit, PartsFit, Put, JobFits}
 use Rattle.job.proofs.FieldLaws.{join}
 use Rattle.job.proofs.ReadLaws.{both}
 use Rattle.job.proofs.WriteLaws.{enough-had, short-had}
-use Rattle.job.proofs.RowLaws.{sum-next, long-sequence}
+use Rattle.job.proofs.RowLaws.{long-sequence}
 
 -- ---- slices that agree
 pub record Agreed (t : Lent) : Type 0 where

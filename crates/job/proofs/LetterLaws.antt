@@ -1,9 +1,8 @@
 -- A job has fewer letters than bytes: each letters record announces at most the sixteen bytes that it has.
-use Prim.Native.Nat.{ℕ, zero, suc, _+_, _-_, _≤_}
+use Prim.Native.Nat.{ℕ, zero, suc, _+_, _≤_}
 use native.Mathlib.Omega.{arith}
-use mathlib.Core.Path.{_≡_, refl, sym, ap, _∙_}
+use mathlib.Core.Path.{_≡_, refl, ap, _∙_}
 use mathlib.Core.Bool.{Bool, true, false, cond}
-use mathlib.Core.Logic.{⊎-elim}
 use mathlib.Core.List.{List, [], _∷_}
 use lib.Dec.{leb, eqb}
 use lib.ListN.{length}
@@ -13,8 +12,8 @@ use Rattle.job.specs.declared.form.Counts.{Counts}
 use Rattle.job.specs.declared.form.Scan.{Scan}
 use Rattle.job.specs.declared.form.Scan.the-variants.{Good, Refused}
 use Rattle.job.specs.Form.{bodyLen, faultOf, after, counted, judge, run, start}
-use Rattle.job.specs.Job.{Job, Read, Held, readJob}
-use Rattle.job.specs.Reading.{lettersOf, countsOf, scanOf}
+use Rattle.job.specs.Job.{Job, Held, readJob}
+use Rattle.job.specs.Reading.{lettersOf, jobCounts, scanOf}
 use Rattle.job.proofs.CountLaws.{scan-is}
 
 -- the letters that a record adds
@@ -56,7 +55,7 @@ few-letters : (s : List ℕ) (c : Counts) → run s 0 start ≡ Good c → c .le
 few-letters s c e = let h = run-letters s 0 start c e in omega arith
 
 pub letters-within : (s : List ℕ) (job : Job) → readJob s ≡ Held job → length (lettersOf job) ≤ length s
-unfolding scanOf countsOf
+unfolding scanOf jobCounts
 letters-within s job e =
-    let good : run s 0 start ≡ Good (countsOf job) = scan-is s ∙ ap scanOf e in
-    few-letters s (countsOf job) good
+    let good : run s 0 start ≡ Good (jobCounts job) = scan-is s ∙ ap scanOf e in
+    few-letters s (jobCounts job) good

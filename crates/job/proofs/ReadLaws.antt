@@ -1,27 +1,24 @@
 -- What reading answers: a fault changes nothing, and where there is room each column of the rows that were stored is the job's, at the front of its slice.
 -- Assumes nothing.
-use Prim.Native.Nat.{ℕ, zero, suc, _+_, _-_, _≤_, _<_}
+use Prim.Native.Nat.{ℕ, suc, _+_, _-_, _≤_, _<_}
 use native.Mathlib.Omega.{arith}
 use mathlib.Core.Path.{_≡_, refl, sym, ap, subst, _∙_}
-use mathlib.Core.Bool.{Bool, true, false, not, cond, _&&_}
+use mathlib.Core.Bool.{Bool, true, false, cond, _&&_}
 use mathlib.Core.List.{List, [], _∷_, _++_, map}
-use mathlib.Core.Logic.{_⊎_, inl, inr, ⊎-elim}
-use lib.IntN.{ℤ}
-use lib.Dec.{ltb, leb, eqb}
-use lib.ListN.{length, take, drop, set, length-drop, length-map, length-append}
+use mathlib.Core.Logic.{_⊎_, ⊎-elim}
+use lib.Dec.{eqb}
+use lib.ListN.{length, take, drop, set, length-drop, length-map}
 use lib.Seq.{take-all, sets-eq}
 use borrow.Author.Tests.{le-leb, lt-leb, leb-true, eqb-true}
 use Rattle.params.specs.declared.Settings.{Settings}
-use Rattle.job.specs.declared.form.State.{State}
 use Rattle.job.specs.declared.form.Counts.{Counts}
 use Rattle.job.specs.declared.form.Scan.{Scan}
 use Rattle.job.specs.declared.form.Scan.the-variants.{Good, Refused}
-use Rattle.job.specs.declared.reader.Reading.{Reading}
 use Rattle.job.specs.declared.reader.Reading.the-variants.{Refused as Declined, Job as Given}
 use Rattle.job.specs.Settings40.{settingsOf}
 use Rattle.job.specs.Form.{bodyLen, inPlace, faultOf, run, judge, start}
-use Rattle.job.specs.Job.{Variant, Part, Job, Read, Faulty, Held, variantHere, partHere, gather, jobOf, readOf, readJob}
-use Rattle.job.specs.Reading.{Lent, lent, five, three, hasRoom, placed, variantLetters, partLetters, lettersOf, countsOf, lentWith, readingOf, lentAfter}
+use Rattle.job.specs.Job.{Variant, Part, variantHere, partHere, gather, jobOf, readOf, readJob}
+use Rattle.job.specs.Reading.{Lent, five, three, hasRoom, placed, lettersOf, jobCounts, lentWith, readingOf, lentAfter}
 use Rattle.job.specs.Steps.{Rows, rows, putRow, PartRows, partRows, putPart, stores, lettersHere}
 use Rattle.job.proofs.FormLaws.{split, long}
 use Rattle.job.proofs.FillLaws.{stores-sets}
@@ -104,7 +101,7 @@ module _ (s : List ℕ) (t : Lent) (v : Scan) (is : v ≡ run s 0 start) where
     pub settings-there : 41 ≤ length s
     settings-there = good-long s c at
 
-    are : c ≡ countsOf (jobOf s)
+    are : c ≡ jobCounts (jobOf s)
     are = counts-are s c at
 
     reading-at : readingOf (readJob s) t ≡ cond (hasRoom c t) (Given (settingsOf (drop 1 s)) c) (Declined 30)
@@ -142,7 +139,7 @@ module _ (s : List ℕ) (t : Lent) (v : Scan) (is : v ≡ run s 0 start) where
             kinds-are = rw (letters-of-variants s 0, letters-of-parts s 0)
 
             pub letters-fit : length (gather (lettersHere 2) s 0 ++ gather (lettersHere 3) s 0) ≤ length (t .letters)
-            unfolding countsOf kinds
+            unfolding jobCounts kinds
             letters-fit =
                 let h : c .letters ≡ length (lettersOf (jobOf s)) = ap (λ (d : Counts). d .letters) are in
                 let g : length (lettersOf (jobOf s)) ≡ length kinds = ap length kinds-are in
@@ -154,7 +151,7 @@ module _ (s : List ℕ) (t : Lent) (v : Scan) (is : v ≡ run s 0 start) where
                 ≡ stores putPart (partRows (t .partSizes) (t .partNegatives) (t .partCounts)) 0 (gather partHere s 0))
                 (ls : u .letters ≡ stores set (t .letters) 0 (gather (lettersHere 2) s 0 ++ gather (lettersHere 3) s 0)) where
               laid-job : u ≡ lentWith (jobOf s) t
-              unfolding lentWith jobOf countsOf kinds
+              unfolding lentWith jobOf jobCounts kinds
               laid-job =
                   let xs : List Variant = gather variantHere s 0 in
                   let ys : List Part = gather partHere s 0 in

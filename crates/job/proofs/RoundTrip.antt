@@ -1,17 +1,14 @@
 -- The round trip: the bytes of a job are in good form, record by record, and what they hold is the job. Assumes nothing.
-use Prim.Native.Nat.{ℕ, zero, suc, _+_, _-_, _*_, _/_, _≤_, _<_, _^_}
+use Prim.Native.Nat.{ℕ, zero, suc, _+_, _-_, _*_, _/_, _≤_, _<_}
 use native.Mathlib.Omega.{arith}
-use native.Mathlib.Nat.{add-zero}
 use mathlib.Core.Path.{_≡_, refl, sym, ap, subst, _∙_}
-use mathlib.Core.Bool.{Bool, true, false, not, cond, _&&_, _||_}
+use mathlib.Core.Bool.{Bool, true, false, not, cond, _||_}
 use mathlib.Core.List.{List, [], _∷_, _++_, append-assoc}
-use mathlib.Core.Logic.{_⊎_, inl, inr, ⊎-elim}
-use lib.Dec.{ltb, leb, eqb}
-use lib.IntN.{ℤ, pos}
+use mathlib.Core.Logic.{_⊎_, ⊎-elim}
+use lib.Dec.{ltb, leb}
 use lib.ListN.{length, getD, take, drop, replicate, length-append, length-drop, length-take}
-use lib.Seq.{take-at, drop-at, slice, length-slice}
-use borrow.Author.Tests.{lt-ltb, le-ltb, eq-eqb, ne-eqb, le-leb, lt-leb, leb-true, leb-false, ltb-true, ltb-false}
-use mir.Val.{SFits}
+use lib.Seq.{take-at, drop-at, slice}
+use borrow.Author.Tests.{lt-ltb, le-ltb, ne-eqb, leb-true, ltb-false}
 use Rattle.params.specs.declared.Settings.{Settings}
 use Rattle.job.specs.declared.form.State.{State}
 use Rattle.job.specs.declared.form.Counts.{Counts}
@@ -19,13 +16,13 @@ use Rattle.job.specs.declared.form.Scan.{Scan}
 use Rattle.job.specs.declared.form.Scan.the-variants.{Good, Refused}
 use Rattle.job.specs.Fields.{le2, le4, bytes2, bytes4, bytes8, flag}
 use Rattle.job.specs.Settings40.{settingsOf, settingsBytes, numberBytes, floatBytes}
-use Rattle.job.specs.Form.{bodyLen, inPlace, flagsOk, countOf, padOk, allZero, faultOf, after, run, judge, start, counted}
-use Rattle.job.specs.Job.{Variant, Part, Job, Read, Faulty, Held, variantOf, partOf, variantHere, partHere, gather, jobOf, readOf, readJob, padded, lettersRecords, recordsFor, sequenceBytes, partBody, variantBody, variantBytes, partBytes, variantsBytes, partsBytes, jobBytes}
-use Rattle.job.specs.declared.writer.Writing.{Writing}
+use Rattle.job.specs.Form.{bodyLen, inPlace, flagsOk, countOf, padOk, allZero, faultOf, after, run, start, counted}
+use Rattle.job.specs.Job.{Variant, Part, Job, Held, variantHere, partHere, gather, jobOf, readOf, readJob, padded, lettersRecords, recordsFor, sequenceBytes, partBody, variantBody, variantBytes, partBytes, variantsBytes, partsBytes, jobBytes}
 use Rattle.job.specs.declared.writer.Writing.the-variants.{Refused as Declined, Wrote}
 use Rattle.job.specs.Reading.{Lent}
 use Rattle.job.specs.Writing.{sum, anyOver, agree, variantsFrom, partsFrom, jobFrom, writingOf}
 use Rattle.job.specs.Holds.{SettingsHold, VariantHolds, PartHolds, VariantsHold, PartsHold, JobHolds, LentHolds}
+use Rattle.job.specs.RoundTrip.{RoundTrip}
 use Rattle.job.proofs.FieldLaws.{four-back}
 use Rattle.job.proofs.FormLaws.{split, skip, judge-done, judge-more, fault-none, fault-none-end, pad-rest}
 use Rattle.job.proofs.FillLaws.{gather-skip}
@@ -418,10 +415,9 @@ module _ (job : Job) (h : JobHolds job) where
   unfolding jobBytes
   settings-are = settings-back (job .settings) (h .settings) tail
 
-  -- reading the bytes of a job gives the job
-  pub round-trip : readJob (jobBytes job) ≡ Held job
+  job-back : readJob (jobBytes job) ≡ Held job
   unfolding readJob jobOf IsGood
-  round-trip =
+  job-back =
       let p = settings-are in let q = variants-are in let r = parts-are in
       ap (λ (v : Scan). readOf v (jobOf (jobBytes job))) (job-good .1)
       ∙ (λ i. Held (record { settings = p i; variants = q i; parts = r i }))
@@ -461,13 +457,15 @@ module _ (t : Lent) (h : LentHolds t) where
       let k = few r in let l = short-slice p (getD (t .partCounts) r 0) (t .letters) in
       (record { size = h .partSizes r; letters = omega (arith, k, l) }, parts-hold few n (suc r) (p + getD (t .partCounts) r 0))
 
-  -- reading what the writer wrote gives the job that the slices held
-  pub written-back : (s : Settings) → SettingsHold s → (room n : ℕ) → writingOf s t room ≡ Wrote n → readJob (jobBytes (jobFrom s t)) ≡ Held (jobFrom s t)
+  written-back : (s : Settings) → SettingsHold s → (room n : ℕ) → writingOf s t room ≡ Wrote n → readJob (jobBytes (jobFrom s t)) ≡ Held (jobFrom s t)
   unfolding writingOf jobFrom
   written-back s g room n e =
       let few = none-over (length (jobBytes (jobFrom s t))) n (agree t) (anyOver (t .counts)) (anyOver (t .partCounts)) (ltb room (length (jobBytes (jobFrom s t)))) e in
-      round-trip (jobFrom s t) (record {
+      job-back (jobFrom s t) (record {
         settings = g;
         variants = variants-hold (few-each (t .counts) (few .0)) (length (t .starts)) 0 0;
         parts = parts-hold (few-each (t .partCounts) (few .1)) (length (t .partSizes)) 0 (sum (t .counts));
       })
+
+pub round-trip : RoundTrip
+round-trip = record { job-back = job-back; written-back = λ s g t h. written-back t h s g }

@@ -9,7 +9,7 @@ use lib.Ieee.{binary32, toBits}
 use Rattle.params.specs.declared.Settings.{Settings}
 use Rattle.job.specs.Fields.{bytes4, bytes2, flag}
 use Rattle.job.specs.Settings40.{numberBytes, floatBytes, settingsBytes}
-use Rattle.job.proofs.FieldLaws.{join, join4, long4}
+use Rattle.job.proofs.FieldLaws.{join, join4}
 
 module _ (i : ℕ) (s : Settings) where
   pub numbers-stored : (l a b c d e : List ℕ) → a ≡ sets l i (bytes4 (s .maxpaths)) → b ≡ sets a (i + 4) (bytes4 (s .maxnodes)) → c ≡ sets b (i + 8) (bytes4 (s .fnmax))

@@ -1,7 +1,7 @@
 -- Document 01, "Job form": records of one byte of kind and a body, and the first fault, front to back.
-use Prim.Native.Nat.{ℕ, zero, suc, _+_, _-_, _*_, _/_}
+use Prim.Native.Nat.{ℕ, zero, suc, _+_, _-_}
 use mathlib.Core.List.{List, [], _∷_}
-use mathlib.Core.Bool.{Bool, true, false, cond, not, _&&_, _||_}
+use mathlib.Core.Bool.{Bool, true, cond, not, _&&_, _||_}
 use lib.ListN.{getD, length, take, drop}
 use lib.Dec.{ltb, leb, eqb}
 use Rattle.job.specs.Fields.{le4}

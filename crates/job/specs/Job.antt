@@ -1,7 +1,7 @@
 -- Document 01, "Job form": a job is its settings, its variants with their letters, and its parts with their letters.
 -- What bytes in good form hold, and the bytes of a job.
-use Prim.Native.Nat.{ℕ, zero, suc, _+_, _-_, _*_, _/_}
-use mathlib.Core.List.{List, [], _∷_, _++_, map}
+use Prim.Native.Nat.{ℕ, zero, suc, _+_, _/_}
+use mathlib.Core.List.{List, [], _∷_, _++_}
 use mathlib.Core.Bool.{Bool, cond}
 use lib.IntN.{ℤ}
 use lib.ListN.{getD, length, take, drop, replicate}

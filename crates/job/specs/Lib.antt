@@ -6,3 +6,4 @@ pub mod Reading
 pub mod Writing
 pub mod Steps
 pub mod Holds
+pub mod RoundTrip

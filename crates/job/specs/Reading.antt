@@ -1,7 +1,7 @@
 -- Document 01, "Job form": what reading a job into lent slices answers, and what the slices hold then.
 use Prim.Native.Nat.{ℕ, _+_}
 use mathlib.Core.List.{List, [], _∷_, _++_, map}
-use mathlib.Core.Bool.{Bool, true, false, _&&_, cond}
+use mathlib.Core.Bool.{Bool, _&&_, cond}
 use lib.IntN.{ℤ}
 use lib.ListN.{length, drop}
 use lib.Dec.{leb}
@@ -49,13 +49,13 @@ partLetters (x ∷ xs) = x .letters ++ partLetters xs
 abbrev pub lettersOf : Job → List ℕ
 lettersOf job = variantLetters (job .variants) ++ partLetters (job .parts)
 
-unfoldable pub countsOf : Job → Counts
-countsOf job = record { variants = length (job .variants); parts = length (job .parts); letters = length (lettersOf job) }
+unfoldable pub jobCounts : Job → Counts
+jobCounts job = record { variants = length (job .variants); parts = length (job .parts); letters = length (lettersOf job) }
 
 -- the first pass: the first fault, or the counts
 unfoldable pub scanOf : Read → Scan
 scanOf (Faulty n) = Refused n
-scanOf (Held job) = Good (countsOf job)
+scanOf (Held job) = Good (jobCounts job)
 
 -- a row in each slice for each of n
 unfoldable pub five : ℕ → ℕ → ℕ → ℕ → ℕ → ℕ → Bool
@@ -89,8 +89,8 @@ lentWith job t = record {
 -- the second pass: the first fault, 30 where a slice is too small, or the settings and the counts; a refusal changes nothing
 unfoldable pub readingOf : Read → Lent → Reading
 readingOf (Faulty n) t = Declined n
-readingOf (Held job) t = cond (hasRoom (countsOf job) t) (Given (job .settings) (countsOf job)) (Declined 30)
+readingOf (Held job) t = cond (hasRoom (jobCounts job) t) (Given (job .settings) (jobCounts job)) (Declined 30)
 
 unfoldable pub lentAfter : Read → Lent → Lent
 lentAfter (Faulty n) t = t
-lentAfter (Held job) t = cond (hasRoom (countsOf job) t) (lentWith job t) t
+lentAfter (Held job) t = cond (hasRoom (jobCounts job) t) (lentWith job t) t

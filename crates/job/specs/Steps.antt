@@ -1,7 +1,7 @@
 -- Private: what single records and single rows do. No public promise cites this file.
-use Prim.Native.Nat.{ℕ, zero, suc, _+_, _-_, _*_, _≤_}
+use Prim.Native.Nat.{ℕ, suc, _+_, _-_, _*_, _≤_}
 use mathlib.Core.Path.{_≡_}
-use mathlib.Core.List.{List, [], _∷_, _++_}
+use mathlib.Core.List.{List, [], _∷_}
 use mathlib.Core.Bool.{Bool, true, cond}
 use lib.IntN.{ℤ}
 use lib.ListN.{length, set}
@@ -9,14 +9,13 @@ use lib.Seq.{sets}
 use lib.Dec.{ltb, leb, eqb}
 use Rattle.job.specs.Form.{bodyLen, after}
 use Rattle.job.specs.Job.{Variant, Part, lettersAfter}
-use Rattle.job.specs.Job.{recordsFor, sequenceBytes, variantBody, variantsBytes, partBody, partsBytes, jobBytes}
+use Rattle.job.specs.Job.{recordsFor, variantsBytes, partsBytes, jobBytes}
 use Rattle.job.specs.Writing.{variantsFrom, partsFrom, sum, agree, jobFrom}
 use Rattle.job.specs.Reading.{Lent}
 use Rattle.params.specs.declared.Settings.{Settings}
 use Rattle.job.specs.declared.form.State.{State}
 use Rattle.job.specs.declared.writer.Left.{Left}
 use Rattle.job.specs.declared.writer.Left.the-variants.{Short, Enough}
-use Rattle.job.specs.declared.writer.Reached.{Reached}
 
 -- a state that a record with no fault leads to, with bounds that keep the counts within the input's length
 pub record Next (st : State) (k : ℕ) (b : List ℕ) (r : State) : Type 0 where

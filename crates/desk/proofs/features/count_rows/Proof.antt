@@ -1,9 +1,8 @@
 -- The rows in the table and the rows of the sequences that are left make the rows of all.
 use native.Mathlib.Omega.{arith}
-use borrow.Author.Needs.{needs}
 use denote.Ref.{now}
-use Prim.Native.Nat.{_+_, _-_, _*_}
-use lib.ListN.{length, getD}
+use Prim.Native.Nat.{_-_}
+use lib.ListN.{length}
 use Rattle.desk.proofs.FeatureLaws.{Running, rows-start, row-fits, rows-next, rows-done}
 use Rattle.desk.proofs.features.count_rows.Statement.{statement}
 use Rattle.desk.proofs.features.count_rows.Tie as tie

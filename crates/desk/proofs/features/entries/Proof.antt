@@ -1,7 +1,7 @@
 -- Each k has its own case; the last is what the others leave.
 use borrow.Author.Needs.{needs}
 use native.Mathlib.Omega.{arith}
-use Prim.Native.Nat.{ℕ, _≤_, _^_}
+use Prim.Native.Nat.{ℕ, _≤_}
 use mathlib.Core.Path.{_≡_}
 use Rattle.desk.proofs.features.entries.Statement.{statement}
 use Rattle.desk.proofs.features.entries.Tie as tie

@@ -1,5 +1,5 @@
 -- Each target gives the answer of its own case.
-use mathlib.Core.Path.{refl, sym, ap, _∙_}
+use mathlib.Core.Path.{sym, ap}
 use Rattle.desk.specs.Text.{isWhole}
 use borrow.Author.Needs.{needs}
 use Rattle.desk.proofs.text.is_whole.Statement.{statement}

@@ -1,6 +1,5 @@
 -- The word, and then one of two endings.
 use native.Mathlib.Omega.{arith}
-use mathlib.Core.Path.{sym}
 use Rattle.desk.specs.Text.{bytesOf, flagLine}
 use Rattle.desk.proofs.PieceLaws.{put-then, put-wide}
 use borrow.Author.Needs.{needs}

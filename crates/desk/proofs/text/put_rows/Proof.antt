@@ -1,9 +1,8 @@
 -- After i turns the first i rows are a piece.
 use native.Mathlib.Omega.{arith}
 use denote.Ref.{now}
-use borrow.Author.Needs.{needs}
 use Prim.Native.Nat.{_*_, _-_, _≤_}
-use mathlib.Core.Path.{_≡_, refl, sym}
+use mathlib.Core.Path.{sym}
 use lib.ListN.{length, take}
 use lib.Seq.{take-all}
 use Rattle.desk.specs.Text.{rowsText}

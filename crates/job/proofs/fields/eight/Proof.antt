@@ -1,6 +1,6 @@
 -- Two halves of four bytes.
 use borrow.Author.Needs.{needs}
-use Rattle.job.specs.Fields.{le4, le8}
+use Rattle.job.specs.Fields.{le8}
 use Rattle.job.proofs.fields.eight.Statement.{statement}
 use Rattle.job.proofs.fields.eight.Tie as tie
 

@@ -1,10 +1,9 @@
 -- `fields::float_of`: a pattern above an infinity's, its sign dropped, is a NaN's.
 use borrow.Author.Needs.{needs}
-use Prim.Native.Nat.{ℕ, _%_}
 use mathlib.Core.Path.{_≡_, refl, sym, subst, _∙_}
-use mathlib.Core.Bool.{Bool, true, false, not}
-use lib.Dec.{T, ltb}
-use lib.Ieee.{Float, nan, inf, fin, binary32, ofBits, isNan, nanBits, div}
+use mathlib.Core.Bool.{Bool, true, not}
+use lib.Dec.{T}
+use lib.Ieee.{Float, nan, inf, fin, binary32, ofBits, isNan, div}
 use lib.Ieee.Bits.{nanBits-is, nanBits-above}
 use borrow.Author.Tests.{lt-ltb, le-ltb}
 use Rattle.job.proofs.fields.float_of.Statement.{statement}

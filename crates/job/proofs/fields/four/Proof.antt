@@ -1,6 +1,6 @@
 -- Two halves of two bytes.
 use borrow.Author.Needs.{needs}
-use Rattle.job.specs.Fields.{le2, le4}
+use Rattle.job.specs.Fields.{le4}
 use Rattle.job.proofs.fields.four.Statement.{statement}
 use Rattle.job.proofs.fields.four.Tie as tie
 

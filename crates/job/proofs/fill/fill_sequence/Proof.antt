@@ -2,9 +2,7 @@
 use native.Mathlib.Omega.{arith}
 use denote.Ref.{now}
 use mathlib.Core.Path.{_∙_, ap}
-use Rattle.job.specs.Steps.{lettersHere}
-use lib.ListN.{length, take, drop}
-use Prim.Native.Nat.{_-_}
+use lib.ListN.{length}
 use Rattle.job.proofs.FillLaws.{no-letters, cut-letters, some-letters, laid-none, laid-some, long-letters}
 use borrow.Author.Needs.{needs}
 use Rattle.job.proofs.fill.fill_sequence.Statement.{statement}

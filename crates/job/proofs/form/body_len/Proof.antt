@@ -1,7 +1,6 @@
 -- Each arm is one kind.
 use Rattle.job.proofs.FormLaws.{body-rest}
 use Rattle.job.specs.Form.{bodyLen}
-use borrow.Author.Tests.{eq-eqb, ne-eqb}
 use Rattle.job.proofs.form.body_len.Statement.{statement}
 use Rattle.job.proofs.form.body_len.Tie as tie
 

@@ -3,7 +3,7 @@ use Rattle.job.proofs.FormLaws.{long, count-rest}
 use Rattle.job.specs.Form.{bodyLen, countOf}
 use native.Mathlib.Omega.{arith}
 use mathlib.Core.Path.{_∙_, sym}
-use borrow.Author.Tests.{eq-eqb, ne-eqb, lt-ltb, le-ltb}
+use borrow.Author.Tests.{eq-eqb, ne-eqb}
 use Rattle.job.proofs.form.count_of.Statement.{statement}
 use Rattle.job.proofs.form.count_of.Tie as tie
 

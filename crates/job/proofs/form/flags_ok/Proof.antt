@@ -2,7 +2,7 @@
 use denote.Ref.{now}
 use Rattle.job.specs.Form.{bodyLen, flagsOk}
 use native.Mathlib.Omega.{arith}
-use mathlib.Core.Path.{_∙_, sym}
+use mathlib.Core.Path.{_∙_}
 use Rattle.job.proofs.FormLaws.{long, flags-kind, flags-rest}
 use Rattle.job.proofs.form.flags_ok.Statement.{statement}
 use Rattle.job.proofs.form.flags_ok.Tie as tie

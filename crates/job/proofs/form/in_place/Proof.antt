@@ -1,5 +1,4 @@
 -- Each branch is the law of its own case.
-use borrow.Author.Tests.{eq-eqb, ne-eqb, lt-ltb, le-ltb}
 use Rattle.job.proofs.FormLaws.{place-letters, place-first, place-variant, place-part, place-end}
 use Rattle.job.proofs.form.in_place.Statement.{statement}
 use Rattle.job.proofs.form.in_place.Tie as tie

@@ -1,8 +1,6 @@
 -- The three flags are tested in turn.
 use borrow.Author.Needs.{needs}
 use Rattle.job.proofs.FormLaws.{flags-settings-1, flags-settings-2, flags-settings-3}
-use Rattle.job.specs.Form.{flagsOk}
-use borrow.Author.Tests.{eq-eqb, ne-eqb, lt-ltb, le-ltb}
 use Rattle.job.proofs.form.settings_flags.Statement.{statement}
 use Rattle.job.proofs.form.settings_flags.Tie as tie
 

@@ -1,8 +1,8 @@
 -- No count so far is over the limit, so the rest decides.
 use native.Mathlib.Omega.{arith}
 use denote.Ref.{now}
-use mathlib.Core.Path.{_≡_, refl, sym, ap, _∙_}
-use Prim.Native.Nat.{_+_, _-_, _*_, _≤_, _<_, zero-le}
+use mathlib.Core.Path.{_≡_, refl, _∙_}
+use Prim.Native.Nat.{_-_, _≤_, zero-le}
 use lib.ListN.{length, drop}
 use Rattle.job.proofs.WriteLaws.{over-done, over-here, over-more}
 use Rattle.job.specs.Writing.{anyOver}

@@ -2,9 +2,9 @@
 use native.Mathlib.Omega.{arith}
 use denote.Ref.{now}
 use borrow.Author.Needs.{needs}
-use mathlib.Core.Path.{_≡_, refl, sym, ap, _∙_}
-use Prim.Native.Nat.{_+_, _-_, _*_, _≤_, _<_, zero-le}
-use lib.ListN.{length, drop, getD}
+use mathlib.Core.Path.{_≡_, refl, _∙_}
+use Prim.Native.Nat.{_-_, _≤_, zero-le}
+use lib.ListN.{length, drop}
 use Rattle.job.proofs.WriteLaws.{left-short, left-more, left-done}
 use Rattle.job.specs.Steps.{leftOf, total}
 use Rattle.job.proofs.writer.left_after.Statement.{statement}

@@ -1,5 +1,4 @@
 -- The checks are those of the answer, in its order; what is left over of the room is never negative, so the job fits.
-use native.Mathlib.Omega.{arith}
 use denote.Ref.{now}
 use mathlib.Core.Path.{sym, _∙_}
 use borrow.Author.Tests.{not-true, not-false}

@@ -1,8 +1,5 @@
 -- The kind and the fields are stored one behind the other.
-use native.Mathlib.Omega.{arith}
 use denote.Ref.{now}
-use mathlib.Core.Path.{refl, ap, _∙_}
-use mathlib.Core.List.{_∷_, []}
 use mir.Syntax.{w32}
 use mir.ValLaws.{toZ-ofZ}
 use Rattle.job.proofs.HeadLaws.{part-stored}

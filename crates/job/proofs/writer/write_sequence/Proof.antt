@@ -1,9 +1,8 @@
 -- The records written and those still to write are the sequence's.
 use native.Mathlib.Omega.{arith}
 use denote.Ref.{now}
-use borrow.Author.Needs.{needs}
 use mathlib.Core.Path.{_≡_, refl, sym, ap, _∙_}
-use Prim.Native.Nat.{_+_, _-_, _*_, _≤_, _<_, zero-le}
+use Prim.Native.Nat.{_+_, _-_, _*_}
 use lib.ListN.{length}
 use lib.Seq.{sets}
 use Rattle.job.specs.Job.{recordsFor}

@@ -1,11 +1,11 @@
 -- A NaN, and nothing else, differs from itself; its one pattern is what the definition gives.
 use borrow.Author.Needs.{needs}
-use Prim.Native.Nat.{ℕ, _%_}
-use mathlib.Core.Path.{_≡_, refl, sym, subst, ap, _∙_}
+use Prim.Native.Nat.{ℕ}
+use mathlib.Core.Path.{_≡_, sym, subst, ap}
 use native.Mathlib.Omega.{arith}
 use lib.Ieee.Compare.{differs-from-itself}
-use mathlib.Core.Bool.{Bool, true, false, not}
-use lib.Dec.{T, ltb}
+use mathlib.Core.Bool.{false, not}
+use lib.Dec.{T}
 use lib.Ieee.{Float, nan, inf, fin, binary32, toBits, isNan, ne, eq}
 use Rattle.metrics.proofs.floats.bits_of.Statement.{statement}
 use Rattle.metrics.proofs.floats.bits_of.Tie as tie

@@ -1,0 +1,50 @@
+-- Document 01, "Job form and program": its worked job, and that the definitions give for it what document 01 prints.
+use mathlib.Core.Path.{_≡_}
+use mathlib.Core.Bool.{true, false}
+use mathlib.Core.List.{[], _∷_}
+use lib.IntN.{pos}
+use lib.Ieee.{Float, binary32, ofBits}
+use Rattle.metrics.specs.Similarity.{whole}
+use Rattle.kplib.specs.Numbers.{Table, Parts, tableOf, partsOf, firstFault}
+use Rattle.kplib.specs.Score.{chainScore}
+use Rattle.kplib.specs.Search.{scoredIn}
+use Rattle.kplib.specs.Answer.{answerOf, rowsOf}
+use Rattle.params.specs.declared.Settings.{Settings}
+use Rattle.kplib.specs.declared.pathscore.Target.the-variants.{Whole}
+
+abbrev pub half : Float
+half = ofBits binary32 1056964608
+
+abbrev pub settings : Settings
+settings = record {
+  k = 1;
+  squish = false;
+  «one_to_one» = false;
+  full = true;
+  maxpaths = 10;
+  maxnodes = 10;
+  fnmax = 1;
+  pileupmax = 5;
+  minkfreq = 1;
+  sizesim = half;
+  seqsim = half;
+  fpenalty = whole 0;
+  gpenalty = whole 0;
+}
+
+abbrev pub variants : Table
+variants = tableOf (10 ∷ (20 ∷ [])) (10 ∷ (20 ∷ [])) (pos 2 ∷ (pos 2 ∷ [])) (pos 1 ∷ (pos 1 ∷ (pos 0 ∷ (pos 0 ∷ (pos 0 ∷ (pos 0 ∷ (pos 1 ∷ (pos 1 ∷ []))))))))
+
+abbrev pub part : Parts
+part = partsOf (pos 2 ∷ []) (pos 1 ∷ (pos 1 ∷ (pos 0 ∷ (pos 0 ∷ []))))
+
+pub record Worked : Type 0 where
+  -- its checks all pass, with just the room that it needs: 1 + (maxpaths + 1) × V queue entries and V rows
+  pub accepted : firstFault settings variants part 23 2 ≡ 0
+  -- the empty chain, row 1, row 0, and both (last row first): sizes 0, 2, 2 and 4 against 2, the highest node first
+  pub order : scoredIn settings variants part ≡ [] ∷ ((1 ∷ []) ∷ ((0 ∷ []) ∷ ((1 ∷ (0 ∷ [])) ∷ [])))
+  -- row 0 alone is the haplotype itself
+  pub exact : chainScore settings (variants .sizes) (variants .features) (part .sizes) (part .features) (0 ∷ []) ≡ record { target = Whole; score = whole 1; sizesim = whole 1; seqsim = whole 1 }
+  -- the answer that document 01 prints
+  pub answer : answerOf settings variants part 23 2 ≡ record { refusal = 0; rows = 1; target = Whole; score = whole 1; sizesim = whole 1; seqsim = whole 1; scored = 4; complete = true }
+  pub rows : rowsOf settings variants part 23 2 ≡ 0 ∷ []
