@@ -13,7 +13,7 @@ use Rattle.paths.specs.Best.{Order}
 use Rattle.paths.specs.Search.{none}
 use Rattle.paths.specs.Demand.{Demand3 as Rule}
 use Rattle.paths.proofs.Demand.{demand3}
-use Rattle.kplib.specs.Numbers.{Table, Parts, firstFault, searchMode}
+use Rattle.params.specs.Numbers.{Table, Parts, firstFault, searchMode}
 use Rattle.kplib.specs.Score.{chainScore}
 use Rattle.kplib.specs.Search.{Result, noLower, startResult, followsIn, distanceIn, scoredIn, leftIn, resultOf, bestIn}
 use Rattle.kplib.specs.Answer.{searched, answerWith, foundAfter, answerOf, rowsOf, searches}

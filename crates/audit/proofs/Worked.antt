@@ -5,7 +5,7 @@ use Rattle.metrics.specs.Similarity.{sumBy, magnitudeSum, overlapsOf}
 use Rattle.paths.specs.Chains.{extends, extensions}
 use Rattle.paths.specs.Search.{pick, after, scored, left}
 use Rattle.paths.specs.Best.{best}
-use Rattle.kplib.specs.Numbers.{firstFault, badK, badFloat, badNumber, anyBelow, startAfterEnd, fallingStart, badSize, badRow, littleQueueRoom}
+use Rattle.params.specs.Numbers.{firstFault, badK, badFloat, badNumber, anyBelow, startAfterEnd, fallingStart, badSize, badRow, littleQueueRoom}
 use Rattle.kplib.specs.Graph.{edge}
 use Rattle.kplib.specs.Parts.{positionsFrom, choices, fallingLists, partLists}
 use Rattle.kplib.specs.Sums.{sizeFrom, sizeOf, rowPlus, zeros, featuresFrom, featuresOf}

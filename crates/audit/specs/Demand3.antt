@@ -9,7 +9,7 @@ use lib.Ieee.{le}
 use Rattle.paths.specs.Sums.{timesIn}
 use Rattle.paths.specs.Best.{Latest}
 use Rattle.paths.specs.Demand.{Lists}
-use Rattle.kplib.specs.Numbers.{Table, Parts}
+use Rattle.params.specs.Numbers.{Table, Parts}
 use Rattle.kplib.specs.Graph.{isChainIn, chainsOf}
 use Rattle.kplib.specs.Score.{chainScore}
 use Rattle.kplib.specs.Search.{Result, noLower, followsIn, scoredIn, resultOf}

@@ -5,15 +5,16 @@ use Prim.Native.Nat.{ℕ}
 use mathlib.Core.Path.{_≡_}
 use mathlib.Core.Bool.{Bool, false}
 use mathlib.Core.List.{List}
-use lib.IntN.{ℤ}
+use lib.Dec.{ltb}
+use lib.IntN.{ℤ, natAbs}
 use lib.ListN.{length}
 use lib.Ieee.{Float}
-use Rattle.metrics.specs.Letters.{countsOf, counterAnswer, countedNumber, rowAfter}
-use Rattle.metrics.specs.Similarity.{sizesimOf, seqsimOf, overlapsOf, number, value}
+use Rattle.metrics.specs.Letters.{countsOf, entryCount, counterAnswer, countedNumber, rowAfter}
+use Rattle.metrics.specs.Similarity.{sizesimOf, seqsimOf, overlapsOf, magnitudeSum, number, value}
 use Rattle.metrics.specs.declared.Sim.{Sim}
 use Rattle.metrics.specs.declared.kmer.Counted.{Counted}
 use Rattle.params.specs.declared.Settings.{Settings}
-use Rattle.kplib.specs.Numbers.{Table, Parts}
+use Rattle.params.specs.Numbers.{Table, Parts, searchMode, firstFault, chainCountFault}
 use Rattle.kplib.specs.Graph.{cappedCount, countNumber, countValue}
 use Rattle.kplib.specs.Answer.{answerOf, rowsOf, placed, searches}
 use Rattle.kplib.specs.declared.vargraph.ChainCount.{ChainCount}
@@ -45,6 +46,12 @@ pub record Unique : Type 0 where
   pub overlaps : (s1 e1 s2 e2 : ℕ) → One Bool (λ r. r ≡ overlapsOf s1 e1 s2 e2)
   pub seq-to-kmer : (k : ℕ) (negative : Bool) (letters : List ℕ) (row : List ℤ)
       → Pair Counted (List ℤ) (λ r out. (r ≡ counterAnswer k letters row) × (out ≡ rowAfter r (countsOf k negative letters) row))
+  pub entries : (k : ℕ) → One ℕ (λ r. r ≡ entryCount k)
+  pub magnitude : (x : ℤ) → One ℕ (λ r. r ≡ natAbs x)
+  pub row-over : (a : List ℤ) (limit : ℕ) → One Bool (λ r. r ≡ ltb limit (magnitudeSum a))
+  pub search-mode : (s : Settings) (v : ℕ) → One Bool (λ r. r ≡ searchMode s v)
+  pub call-fault : (s : Settings) (t : Table) (p : Parts) (queueRoom answerRoom : ℕ) → One ℕ (λ r. r ≡ firstFault s t p queueRoom answerRoom)
+  pub count-fault : (starts ends : List ℕ) (cap : ℕ) → One ℕ (λ r. r ≡ chainCountFault cap starts ends)
   pub count-chains : (starts ends : List ℕ) (full : Bool) (cap : ℕ) → One ChainCount (λ r. r ≡ cappedCount starts ends full cap)
   pub apply-haplotype : (s : Settings) (t : Table) (p : Parts) (room : ℕ) (rows : List ℕ)
       → Pair Answer (List ℕ) (λ r out. (r ≡ answerOf s t p room (length rows)) × (out ≡ placed rows (rowsOf s t p room (length rows))))

@@ -11,7 +11,7 @@ use lib.Dec.{eqb}
 use lib.Ieee.{Float, lt}
 use Rattle.metrics.specs.Similarity.{whole}
 use Rattle.paths.specs.Best.{best}
-use Rattle.kplib.specs.Numbers.{Table, Parts, firstFault, searchMode}
+use Rattle.params.specs.Numbers.{Table, Parts, firstFault, searchMode}
 use Rattle.kplib.specs.Parts.{partLists, wholeOf}
 use Rattle.kplib.specs.Sums.{Total, totalOf}
 use Rattle.kplib.specs.Score.{sign, gapOf, scoreValue, sizesimOfTotals, seqsimOfTotals, start, targetOf, afterList, afterLists, chainScore}
@@ -20,7 +20,7 @@ use Rattle.kplib.specs.Search.{Result, noLower, startResult, resultOf, scoredIn
 use Rattle.kplib.specs.Answer.{Found, searched, matchedAlone, foundAfter, answerOf}
 use Rattle.params.specs.declared.Settings.{Settings}
 use Rattle.kplib.specs.declared.pathscore.Scored.{Scored}
-use Rattle.kplib.proofs.CheckedLaws.{accepted}
+use Rattle.params.proofs.CheckedLaws.{accepted}
 use Rattle.capi.specs.Report.{targetNumber}
 
 -- a result whose target leaves out at most n parts

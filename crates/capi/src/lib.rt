@@ -5,7 +5,7 @@ ghost use lib.ListN.{length};
 ghost use Rattle.metrics.specs.Similarity.{sizesimOf, seqsimOf, number, value};
 ghost use Rattle.metrics.specs.Letters.{countsOf, counterAnswer, countedNumber, rowAfter};
 ghost use Rattle.kplib.specs.Graph.{cappedCount, countNumber, countValue};
-ghost use Rattle.kplib.specs.Numbers.{tableOf, partsOf};
+ghost use Rattle.params.specs.Numbers.{tableOf, partsOf};
 ghost use Rattle.kplib.specs.Answer.{answerOf, rowsOf, placed, queueRoom, searches};
 ghost use Rattle.capi.specs.Report.{settingsOf, reportOf};
 use crate::report::put_report;

@@ -7,7 +7,7 @@ use lib.ListN.{length, take, drop, length-append, length-drop}
 use lib.Seq.{take-at}
 use Rattle.params.specs.declared.Settings.{Settings}
 use Rattle.kplib.specs.declared.traverse.Answer.{Answer}
-use Rattle.kplib.specs.Numbers.{Table, Parts, badK, firstFault}
+use Rattle.params.specs.Numbers.{Table, Parts, badK, firstFault}
 use Rattle.kplib.specs.Answer.{answerOf, rowsOf, placed, queueRoom}
 use Rattle.desk.specs.Desk.{answerText}
 use Rattle.desk.specs.Memory.{searchText}

@@ -1,17 +1,19 @@
 -- A job that fits is read whole: the fronts of the program's arrays are its lists, the rows counted from its letters are its features.
 use Prim.Native.Nat.{ℕ, _+_, _*_, _^_, _≤_, _<_}
 use native.Mathlib.Omega.{arith}
-use native.Mathlib.Nat.{mul-le-mul-right, zero-add}
-use mathlib.Core.Path.{_≡_, refl, sym, ap, _∙_}
-use mathlib.Core.Bool.{Bool, true, false, cond, _||_}
+use native.Mathlib.Nat.{mul-le-mul-right, pow-le-pow-right, zero-add}
+use mathlib.Core.Path.{_≡_, refl, sym, ap, subst, _∙_}
+use mathlib.Core.Bool.{Bool, true, false, cond, _||_, _&&_}
 use mathlib.Core.List.{List, [], _∷_, _++_, map, append-assoc}
 use lib.Dec.{ltb}
 use lib.IntN.{ℤ, pos}
 use lib.ListN.{length, take, drop, replicate, length-append, length-map, length-drop}
 use lib.Seq.{take-at, drop-at}
 use borrow.Author.Tests.{ltb-true, lt-ltb, le-ltb, le-leb}
+use Rattle.metrics.specs.Letters.{countsOf, entryCount}
+use Rattle.metrics.proofs.Entries.{power}
 use Rattle.params.specs.declared.Settings.{Settings}
-use Rattle.kplib.specs.Numbers.{tableOf, partsOf}
+use Rattle.params.specs.Numbers.{Table, Parts, tableOf, partsOf}
 use Rattle.job.specs.declared.form.Counts.{Counts}
 use Rattle.job.specs.declared.reader.Reading.{Reading}
 use Rattle.job.specs.declared.reader.Reading.the-variants.{Refused as Declined, Job as Given}
@@ -34,7 +36,13 @@ variant-room n width h w = let a : n * width ≤ 16 * width = mul-le-mul-right w
 part-room : (n width : ℕ) → n ≤ 8 → width ≤ 256 → n * width ≤ 2048
 part-room n width h w = let a : n * width ≤ 8 * width = mul-le-mul-right width h in omega arith
 
-module _ (k width : ℕ) (t : Lent) (fits : Fits k t) (is : width ≡ 4 ^ k) (small : width ≤ 256) where
+module _ (k width : ℕ) (t : Lent) (fits : Fits k t) (is : width ≡ entryCount k) where
+  power-is : width ≡ 4 ^ k
+  power-is = is ∙ power k (omega (arith, fits .k-high))
+
+  small : width ≤ 256
+  small = rw power-is (pow-le-pow-right {n = 4} (omega arith) {j = 4} (fits .k-high))
+
   pub variants-end : length (t .counts) * width ≤ 4096
   variants-end = variant-room (length (t .counts)) width (fits .variants) small
 
@@ -45,13 +53,13 @@ module _ (k width : ℕ) (t : Lent) (fits : Fits k t) (is : width ≡ 4 ^ k) (sm
   variants-fit table e =
       let a = variants-end in
       let b = fits .letters-end in
-      record { k-low = fits .k-low; k-high = fits .k-high; width-is = is; alike = fits .alike; letters-end = omega arith; few = fits .few; table-end = omega arith }
+      record { k-low = fits .k-low; k-high = fits .k-high; width-is = power-is; alike = fits .alike; letters-end = omega arith; few = fits .few; table-end = omega arith }
 
   pub parts-fit : (table : List ℤ) → 2048 ≡ length table → (next : ℕ) → next ≡ 0 + sum (t .counts) → RowsFit k width (t .partNegatives) (t .partCounts) (t .letters) next table
   parts-fit table e next n =
       let a = parts-end in
       let b = fits .letters-end in
-      record { k-low = fits .k-low; k-high = fits .k-high; width-is = is; alike = fits .part-alike; letters-end = omega arith; few = fits .few; table-end = omega arith }
+      record { k-low = fits .k-low; k-high = fits .k-high; width-is = power-is; alike = fits .part-alike; letters-end = omega arith; few = fits .few; table-end = omega arith }
 
 -- the text of a search over the counted rows
 pub counted-text : (s : Settings) (t : Lent) (width next end : ℕ) (old new part-old part-new : List ℤ) →

@@ -7,7 +7,7 @@ use lib.IntN.{ℤ}
 use lib.ListN.{length}
 use Rattle.metrics.specs.Letters.{countsOf}
 use Rattle.kplib.specs.declared.traverse.Answer.{Answer}
-use Rattle.kplib.specs.Numbers.{Table, Parts, tableOf, partsOf}
+use Rattle.params.specs.Numbers.{Table, Parts, tableOf, partsOf}
 use Rattle.kplib.specs.Answer.{answerOf, rowsOf}
 use Rattle.job.specs.Job.{Variant, Part, Job, Read, Faulty, Held, readJob}
 use Rattle.desk.specs.Text.{sevenLines, refusedText}

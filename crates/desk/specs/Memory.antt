@@ -6,7 +6,7 @@ use mathlib.Core.List.{List}
 use lib.Dec.{ltb}
 use lib.ListN.{length, take, drop}
 use Rattle.params.specs.declared.Settings.{Settings}
-use Rattle.kplib.specs.Numbers.{Table, Parts, tableOf, partsOf}
+use Rattle.params.specs.Numbers.{Table, Parts, tableOf, partsOf}
 use Rattle.kplib.specs.Answer.{answerOf, rowsOf}
 use Rattle.job.specs.Job.{Job, Held, readJob}
 use Rattle.job.specs.Reading.{Lent, lent}

@@ -7,19 +7,6 @@ ghost use Rattle.metrics.specs.Letters.{countsOf};
 ghost use Rattle.job.specs.Writing.{sum};
 ghost use Rattle.desk.specs.Rows.{rowsFrom, RowFits, RowsFit, Counted, rowStored};
 
-// 4 to the k, for a k that the program takes.
-pub(crate) fn entries(k: u8) -> usize
-    requires { ⌜ (1 ≤ k) × (k ≤ 4) ⌝ }
-    ensures { λ r. ⌜ (r ≡ 4 ^ k) × (r ≤ 256) ⌝ }
-{
-    match k {
-        1 => 4,
-        2 => 16,
-        3 => 64,
-        _ => 256,
-    }
-}
-
 // One row, of the letters from `at` to `end`, into the entries from `from` to `to`.
 fn count_row(
     k: u8,

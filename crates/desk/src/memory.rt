@@ -1,6 +1,5 @@
 // The program's memory: a job read into fixed arrays, its features counted, and the search over them.
 use crate::features::count_rows;
-use crate::features::entries;
 use crate::room::key_room;
 use crate::room::letter_room;
 use crate::room::part_table;
@@ -12,13 +11,14 @@ use job::reader::Reading;
 use job::reader::read_job;
 use kplib::traverse::Answer;
 use kplib::traverse::apply_haplotype;
+use metrics::kmer::entries;
 use metrics::refusals::BAD_K;
 use metrics::refusals::TOO_LARGE;
 use params::Settings;
 ghost use mathlib.Core.Path.{_≡_};
 ghost use Prim.Native.Nat.{_≤_};
 ghost use lib.ListN.{length, take};
-ghost use Rattle.kplib.specs.Numbers.{tableOf, partsOf};
+ghost use Rattle.params.specs.Numbers.{tableOf, partsOf};
 ghost use Rattle.job.specs.Job.{readJob};
 ghost use Rattle.job.specs.Reading.{lent};
 ghost use Rattle.desk.specs.Desk.{answerText, readText};

@@ -12,12 +12,11 @@ use lib.ListN.{length}
 use lib.Ieee.{Float, lt, le, isNan, ofInt}
 use Rattle.metrics.specs.Similarity.{whole}
 use Rattle.metrics.proofs.FloatOrder.{lt-le, le-lt-trans, le-number}
-use Rattle.kplib.specs.Checked.{Below}
 use Rattle.kplib.specs.Parts.{wholeOf, partLists}
 use Rattle.kplib.specs.Sums.{Total, totalOf}
 use Rattle.kplib.specs.Score.{start, targetOf, listScore, greaterOf, afterList, afterLists, chainScore}
 use Rattle.kplib.specs.OneToOne.{rowTotal, nodeTotal, aloneScore, latestOf, overNodes, noLone, oneToOne, loneRowsAt, loneRows}
-use Rattle.kplib.specs.Scoring.{Tables}
+use Rattle.kplib.specs.Scoring.{Below, Tables}
 use Rattle.params.specs.declared.Settings.{Settings}
 use Rattle.kplib.specs.declared.pathscore.Scored.{Scored}
 use Rattle.kplib.specs.declared.pathscore.Target.{Target}

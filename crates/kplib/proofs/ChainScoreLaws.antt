@@ -10,7 +10,7 @@ use lib.ListN.{length, getD, drop, drop-of-length-le}
 use lib.Seq.{drop-cons}
 use mir.Syntax.{w32}
 use mir.Val.{toZ, ofZ}
-use Rattle.kplib.specs.Checked.{Checked}
+use Rattle.params.specs.Checked.{Checked}
 use Rattle.kplib.specs.Parts.{partLists}
 use Rattle.kplib.specs.Sums.{featuresOf}
 use Rattle.kplib.specs.Score.{start, afterList, afterLists, chainScore}

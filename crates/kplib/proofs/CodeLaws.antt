@@ -10,9 +10,8 @@ use borrow.Author.Tests.{eq-eqb, ne-eqb, eqb-true, eqb-false}
 use lib.Dec.{eqb}
 use lib.ListN.{length, take, set}
 use lib.Seq.{take-suc-set, take-set-le}
-use Rattle.kplib.specs.Checked.{Below}
 use Rattle.kplib.specs.Parts.{positionsFrom, wholeOf}
-use Rattle.kplib.specs.Scoring.{keepIf, positionsOfBits, listOfCode}
+use Rattle.kplib.specs.Scoring.{Below, keepIf, positionsOfBits, listOfCode}
 
 pub bits-zero : (i k : ℕ) → positionsOfBits i k 0 ≡ []
 unfolding positionsOfBits

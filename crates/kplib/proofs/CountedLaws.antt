@@ -8,10 +8,10 @@ use lib.Dec.{eqb}
 use lib.ListN.{length}
 use borrow.Author.Tests.{ltb-false, eqb-true, ne-eqb, not-false}
 use Rattle.kplib.specs.declared.vargraph.ChainCount.the-variants.{Chains, Refused}
-use Rattle.kplib.specs.Numbers.{chainCountRules, chainCountFault}
+use Rattle.params.specs.Numbers.{chainCountRules, chainCountFault}
 use Rattle.kplib.specs.Graph.{countCase, countNumber, countValue}
 use Rattle.kplib.specs.GraphWalk.{Walk}
-use Rattle.kplib.proofs.CheckLaws.{none-given}
+use Rattle.params.proofs.CheckLaws.{none-given}
 
 -- the paper's number and value of each case
 pub number-is : (fault n : ℕ) → countNumber (countCase fault n) ≡ fault

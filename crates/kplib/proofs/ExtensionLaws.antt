@@ -15,7 +15,7 @@ use Rattle.paths.specs.Chains.{endNode}
 use Rattle.paths.specs.Queue.{chainAt, keyOf}
 use Rattle.paths.proofs.TableLaws.{chain-root, chain-link}
 use Rattle.paths.proofs.QueueLaws.{chain-end, chain-length, chain-longer}
-use Rattle.kplib.specs.Checked.{Below}
+use Rattle.kplib.specs.Scoring.{Below}
 use Rattle.kplib.specs.Sums.{sizeFrom, sizeOf}
 use Rattle.kplib.specs.Graph.{edge, mayFollowIn, extendsIn, isChainIn}
 use Rattle.kplib.specs.GraphWalk.{extendsAt}

@@ -7,7 +7,7 @@ use mathlib.Core.List.{List, _++_, reverse}
 use lib.Dec.{eqb}
 use lib.ListN.{length, drop}
 use Rattle.paths.specs.Queue.{chainAt}
-use Rattle.kplib.specs.Numbers.{Table, Parts, firstFault, searchMode}
+use Rattle.params.specs.Numbers.{Table, Parts, firstFault, searchMode}
 use Rattle.kplib.specs.Score.{start}
 use Rattle.kplib.specs.OneToOne.{oneToOne, loneRowsAt}
 use Rattle.kplib.specs.Search.{rowsFor}
@@ -20,7 +20,7 @@ use Rattle.kplib.specs.declared.pathscore.Target.the-variants.{Nothing, 
 use Rattle.kplib.specs.declared.onetoone.Lone.{Lone}
 use Rattle.kplib.specs.declared.traverse.Answer.{Answer}
 use Rattle.kplib.specs.declared.traverse.Progress.{Progress}
-use Rattle.kplib.proofs.CheckedLaws.{accepted, queue-suffices, answer-suffices}
+use Rattle.params.proofs.CheckedLaws.{accepted, queue-suffices, answer-suffices}
 use Rattle.kplib.proofs.ExtensionLaws.{reverse-length}
 
 pub rows-few : (t : Target) (l : List ℕ) → length (rowsFor t l) ≤ length l

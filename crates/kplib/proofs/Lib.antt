@@ -21,7 +21,4 @@ mod WeighLaws
 mod StepLaws
 mod PlaceLaws
 pub mod FoundLaws
-mod CheckLaws
-pub mod CheckedLaws
-mod CallLaws
 mod CountedLaws

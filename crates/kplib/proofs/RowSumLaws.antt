@@ -13,9 +13,9 @@ use mir.Syntax.{w32}
 use mir.Val.{toZ, ofZ, SFits}
 use Rattle.metrics.specs.Similarity.{magnitudeSum}
 use Rattle.metrics.proofs.Ints.{add-le}
-use Rattle.kplib.specs.Checked.{rowAt, Below, Flat}
+use Rattle.params.specs.Checked.{rowAt, Flat}
 use Rattle.kplib.specs.Sums.{rowPlus, featuresFrom, featuresOf, zeros}
-use Rattle.kplib.specs.Scoring.{Inside, Summable, Ready}
+use Rattle.kplib.specs.Scoring.{Below, Inside, Summable, Ready}
 use Rattle.kplib.proofs.WordLaws.{add-fits, add-back}
 
 -- a row with another added to its first i entries

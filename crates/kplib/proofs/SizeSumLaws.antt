@@ -9,7 +9,7 @@ use lib.ListN.{length, getD}
 use mir.Syntax.{w32}
 use mir.Val.{toZ, ofZ, SFits}
 use Rattle.metrics.proofs.Ints.{add-le}
-use Rattle.kplib.specs.Checked.{Sized}
+use Rattle.params.specs.Checked.{Sized}
 use Rattle.kplib.specs.Parts.{positionsFrom, wholeOf}
 use Rattle.kplib.specs.Sums.{sizeFrom, sizeOf}
 use Rattle.kplib.proofs.WordLaws.{fits, back}

@@ -18,12 +18,12 @@ use Rattle.paths.specs.Queue.{chainAt, keyOf, Walk, Taken, Queued, Ended}
 use Rattle.paths.proofs.TableLaws.{chain-link}
 use Rattle.paths.proofs.QueueLaws.{chain-parts, chain-end, chain-length}
 use Rattle.paths.proofs.RunLaws.{taken-in, taken-queue, begin, step-on, end-empty, end-steps}
-use Rattle.kplib.specs.Checked.{Below, Sized}
-use Rattle.kplib.specs.Numbers.{Table, Parts}
+use Rattle.params.specs.Checked.{Sized}
+use Rattle.params.specs.Numbers.{Table, Parts}
 use Rattle.kplib.specs.Parts.{positionsFrom, wholeOf}
 use Rattle.kplib.specs.Sums.{sizeFrom, sizeOf}
 use Rattle.kplib.specs.Score.{start}
-use Rattle.kplib.specs.Scoring.{LaidDown}
+use Rattle.kplib.specs.Scoring.{Below, LaidDown}
 use Rattle.kplib.specs.Graph.{isChainIn}
 use Rattle.kplib.specs.Search.{distanceTo, haplotypeSize, resultWith, startResult, noLower, followsIn, distanceIn, resultOf}
 use Rattle.kplib.specs.SearchSteps.{laterOf, advanced, endAt, Extending, Weighable, WeighedAs, Searchable, Startable, Going, Gone}

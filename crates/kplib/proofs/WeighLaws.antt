@@ -6,10 +6,10 @@ use mathlib.Core.List.{List}
 use lib.IntN.{ℤ}
 use lib.ListN.{length, take, drop, length-drop}
 use lib.Seq.{take-all}
-use Rattle.kplib.specs.Checked.{Below, Sized}
+use Rattle.params.specs.Checked.{Sized}
 use Rattle.kplib.specs.Sums.{sizeOf}
 use Rattle.kplib.specs.Score.{chainScore}
-use Rattle.kplib.specs.Scoring.{Tables, LaidDown, Scorable}
+use Rattle.kplib.specs.Scoring.{Below, Tables, LaidDown, Scorable}
 use Rattle.kplib.specs.Answer.{placed}
 use Rattle.kplib.specs.SearchSteps.{Rowed, WeighedAs}
 use Rattle.params.specs.declared.Settings.{Settings}

@@ -5,7 +5,7 @@ use mathlib.Core.List.{List, [], _++_}
 use lib.Dec.{eqb}
 use lib.ListN.{length, drop}
 use Rattle.paths.specs.Search.{none}
-use Rattle.kplib.specs.Numbers.{Table, Parts, firstFault, searchMode}
+use Rattle.params.specs.Numbers.{Table, Parts, firstFault, searchMode}
 use Rattle.kplib.specs.Score.{start}
 use Rattle.kplib.specs.OneToOne.{oneToOne, loneRows}
 use Rattle.kplib.specs.Search.{scoredIn, leftIn, bestIn}

@@ -6,7 +6,7 @@ use lib.ListN.{length, getD}
 use Rattle.metrics.specs.Similarity.{overlapsOf}
 use Rattle.paths.specs.Chains.{extends, extensions, isChain}
 use Rattle.paths.specs.Count.{mayFollow, chainCount}
-use Rattle.kplib.specs.Numbers.{chainCountFault}
+use Rattle.params.specs.Numbers.{chainCountFault}
 use Rattle.kplib.specs.declared.vargraph.ChainCount.{ChainCount}
 use Rattle.kplib.specs.declared.vargraph.ChainCount.the-variants.{Chains, Refused}
 

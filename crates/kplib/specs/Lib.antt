@@ -1,6 +1,3 @@
-pub mod Checked
-pub mod Numbers
-pub mod CheckSteps
 pub mod Graph
 pub mod GraphWalk
 pub mod Parts

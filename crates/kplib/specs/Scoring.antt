@@ -8,7 +8,7 @@ use lib.IntN.{ℤ, pos, natAbs}
 use lib.ListN.{length, getD, take}
 use lib.Ieee.{Float, lt, le}
 use Rattle.metrics.specs.Similarity.{whole, sizesimValue, magnitudeSum}
-use Rattle.kplib.specs.Checked.{rowAt, Below, Flat, Sized}
+use Rattle.params.specs.Checked.{rowAt, Flat, Sized}
 use Rattle.kplib.specs.Parts.{positionsFrom, wholeOf, choices, fallingLists, partLists}
 use Rattle.kplib.specs.Sums.{sizeOf, featuresOf, Total}
 use Rattle.kplib.specs.Score.{sign, gapOf, scoreValue, start, afterList}
@@ -23,6 +23,11 @@ pub record Tables (s : Settings) (sizes features partSizes partFeatures : List �
   pub rows : Flat (length sizes) (4 ^ s .k) features
   pub part-sized : Sized partSizes
   pub part-rows : Flat (length partSizes) (4 ^ s .k) partFeatures
+
+-- every row of the list is below n
+abbrev pub Below : ℕ → List ℕ → Type 0
+Below n [] = Unit {0}
+Below n (r ∷ rows) = (r < n) × Below n rows
 
 -- ---- part lists as codes
 

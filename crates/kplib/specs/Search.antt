@@ -7,7 +7,7 @@ use lib.ListN.{length}
 use lib.Ieee.{le}
 use Rattle.paths.specs.Demand.{scoredChains, leftChains}
 use Rattle.paths.specs.Best.{best}
-use Rattle.kplib.specs.Numbers.{Table, Parts}
+use Rattle.params.specs.Numbers.{Table, Parts}
 use Rattle.kplib.specs.Graph.{mayFollowIn}
 use Rattle.kplib.specs.Parts.{wholeOf}
 use Rattle.kplib.specs.Sums.{sizeOf}

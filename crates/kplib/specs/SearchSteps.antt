@@ -9,11 +9,11 @@ use lib.IntN.{ℤ, natAbs}
 use lib.ListN.{length, take}
 use Rattle.paths.specs.Chains.{endNode}
 use Rattle.paths.specs.Queue.{chainAt, Walk, Queue, Running, Ended}
-use Rattle.kplib.specs.Checked.{Below, Sized, Checked}
-use Rattle.kplib.specs.Numbers.{Table, Parts, searchMode}
+use Rattle.params.specs.Checked.{Sized, Checked}
+use Rattle.params.specs.Numbers.{Table, Parts, searchMode}
 use Rattle.kplib.specs.Sums.{sizeOf}
 use Rattle.kplib.specs.Score.{chainScore}
-use Rattle.kplib.specs.Scoring.{Tables, LaidDown}
+use Rattle.kplib.specs.Scoring.{Below, Tables, LaidDown}
 use Rattle.kplib.specs.Graph.{mayFollowIn}
 use Rattle.kplib.specs.Search.{distanceTo, haplotypeSize, resultWith, startResult, noLower, followsIn, distanceIn, resultOf}
 use Rattle.params.specs.declared.Settings.{Settings}

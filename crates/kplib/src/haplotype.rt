@@ -3,7 +3,7 @@ ghost use mathlib.Core.Path.{_≡_};
 ghost use Prim.Native.Nat.{ℕ, _+_, _-_, _/_, _≤_, _<_, max};
 ghost use lib.IntN.{ℤ, pos, natAbs, _+ℤ_};
 ghost use lib.ListN.{length, getD, take};
-ghost use Rattle.kplib.specs.Checked.{Sized};
+ghost use Rattle.params.specs.Checked.{Sized};
 ghost use Rattle.kplib.specs.Parts.{wholeOf, lengthsOf, fallingLists};
 ghost use Rattle.kplib.specs.Sums.{sizeOf};
 ghost use Rattle.kplib.specs.Scoring.{positionsOfBits, listOfCode, Choosing, Chosen, LayingLengths, LaidLengths, Layable, LaidDown};

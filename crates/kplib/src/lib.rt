@@ -1,6 +1,4 @@
-// The search core: settings and checks, part lists, graph, score, search.
-mod checks;
-pub mod graphparams;
+// The search core: part lists, graph, score, search.
 mod haplotype;
 mod onetoone;
 pub mod pathscore;

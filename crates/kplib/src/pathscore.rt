@@ -11,6 +11,7 @@ ghost use Rattle.kplib.specs.Score.{sign, seqsimOfRows, gapOf, scoreValu
 ghost use Rattle.kplib.specs.Scoring.{Summable, Ready, Comparable, mayWin, total, listOfCode, Attempt, Attempted, noneTried, Scorable};
 use crate::haplotype::positions;
 use metrics::Sim;
+use metrics::lanes::magnitude;
 use params::Settings;
 
 // Which part list matched; a partial one says how many parts it leaves out.
@@ -51,6 +52,14 @@ pub(crate) fn nothing() -> Scored
     }
 }
 
+// The entries of an accepted job's feature rows.
+pub(crate) fn entries(k: u8) -> usize
+    requires { ⌜ k ≤ 6 ⌝ }
+    ensures { λ r. ⌜ r ≡ 4 ^ k ⌝ }
+{
+    metrics::kmer::entries(k)
+}
+
 fn sign_of(x: i32) -> u32
     requires { ⌜ natAbs x ≤ 8388608 ⌝ }
     ensures { λ r. ⌜ r ≡ sign x ⌝ }
@@ -61,19 +70,12 @@ fn sign_of(x: i32) -> u32
     if 0 < x { 2 } else { 1 }
 }
 
-fn magnitude(x: i32) -> u64
-    requires { ⌜ natAbs x ≤ 8388608 ⌝ }
-    ensures { λ r. ⌜ r ≡ natAbs x ⌝ }
-{
-    if x < 0 { (0 - x) as u64 } else { x as u64 }
-}
-
 // sizesim of two sizes that the lower crate does not refuse.
 fn size_alike(a: i32, b: i32) -> f32
     requires { ⌜ (natAbs a ≤ 8388608) × (natAbs b ≤ 8388608) ⌝ }
     ensures { λ r. ⌜ r ≡ sizesimValue (natAbs a) (natAbs b) ⌝ }
 {
-    match metrics::sizesim(magnitude(a), magnitude(b)) {
+    match metrics::sizesim(magnitude(a) as u64, magnitude(b) as u64) {
         Sim::Value(x) => x,
         Sim::Refused(n) => 0.0,
     }

@@ -5,22 +5,20 @@ ghost use mathlib.Core.List.{reverse};
 ghost use Prim.Native.Nat.{_+_, _<_, _≤_, min};
 ghost use lib.ListN.{length};
 ghost use Rattle.paths.specs.Queue.{chainAt, Walk};
-ghost use Rattle.kplib.specs.Checked.{Checked};
-ghost use Rattle.kplib.specs.Numbers.{tableOf, partsOf, searchMode};
+ghost use Rattle.params.specs.Checked.{Checked};
+ghost use Rattle.params.specs.Numbers.{tableOf, partsOf, searchMode};
 ghost use Rattle.kplib.specs.OneToOne.{oneToOne, loneRowsAt};
 ghost use Rattle.kplib.specs.Scoring.{Tables};
 ghost use Rattle.kplib.specs.Search.{rowsFor};
 ghost use Rattle.kplib.specs.Answer.{searched, matchedAlone, foundAfter, answerWith, queueRoom, answerOf, rowsOf, placed, searches};
 ghost use Rattle.kplib.specs.SearchSteps.{answerParts, laterOf, advanced, matchedBy, Weighable, WeighedAs, Searchable, Going, Gone, Startable, Scratch, Acceptable};
-use crate::checks::call_fault;
-use crate::graphparams::entries;
-use crate::graphparams::search_mode;
 use crate::haplotype::lay_lists;
 use crate::haplotype::whole_size;
 use crate::onetoone::Lone;
 use crate::onetoone::one_to_one;
 use crate::pathscore::Scored;
 use crate::pathscore::Target;
+use crate::pathscore::entries;
 use crate::pathscore::nothing;
 use crate::pathscore::score_chain;
 use crate::queue::end_node;
@@ -30,6 +28,8 @@ use crate::queue::read_chain;
 use crate::queue::rows_size;
 use crate::queue::take_next;
 use params::Settings;
+use params::checks::call_fault;
+use params::graphparams::search_mode;
 
 // `rows` is how many row numbers stand at the front of the answer buffer; `refusal` is 0 where the job was accepted.
 pub struct Answer {

@@ -1,18 +1,13 @@
 // The graph of a table of variants (vargraph.rs): an edge is a test of two rows, and no edge is stored.
-use crate::checks::bound_fault;
 use metrics::overlaps;
 use metrics::refusals::ACCEPTED;
-use metrics::refusals::BAD_LENGTHS;
-use metrics::refusals::BAD_NUMBER;
-use metrics::refusals::NO_VARIANTS;
-use metrics::refusals::TOO_MANY;
+use params::checks::count_fault;
 ghost use mathlib.Core.Path.{_≡_};
 ghost use mathlib.Core.Bool.{true};
 ghost use Prim.Native.Nat.{_-_, _<_, min};
 ghost use lib.ListN.{length};
 ghost use Rattle.paths.specs.Count.{sumRowsFrom, rowCount};
 ghost use Rattle.kplib.specs.Graph.{nodeOf, rowOf, edge, chainsOf, cappedCount};
-ghost use Rattle.kplib.specs.Numbers.{chainCountFault};
 ghost use Rattle.kplib.specs.GraphWalk.{extendsAt, Rows, Walk};
 
 // A variant's row in the table, from 0.
@@ -87,25 +82,6 @@ fn count_capped(starts: &[u64], ends: &[u64], full: bool, cap: u32) -> u32
         return 1;
     }
     count_rows(starts, ends, Node(0), Row(0), cap - 1) + 1
-}
-
-// The first refusal of a chain count.
-fn count_fault(starts: &[u64], ends: &[u64], cap: u32) -> u32
-    ensures { λ r. ⌜ r ≡ chainCountFault cap (now (starts .entry)) (now (ends .entry)) ⌝ }
-{
-    if cap > 4096 {
-        return BAD_NUMBER;
-    }
-    if starts.len() == 0 {
-        return NO_VARIANTS;
-    }
-    if starts.len() > 64 {
-        return TOO_MANY;
-    }
-    if ends.len() != starts.len() {
-        return BAD_LENGTHS;
-    }
-    bound_fault(starts, ends)
 }
 
 // The number of chains up to a cap, or the number of a refusal.

@@ -41,6 +41,10 @@ unfoldable pub tableFrom : (ℕ → ℤ) → ℕ → ℕ → List ℤ
 tableFrom f i zero = []
 tableFrom f i (suc n) = f i ∷ tableFrom f (suc i) n
 
+-- the entries of a feature row: 4^k, for a k of the table; no row has a larger k
+unfoldable pub entryCount : ℕ → ℕ
+entryCount k = cond (leb k 6) (4 ^ k) 0
+
 -- each window adds 1 to its own entry, or subtracts 1 for a negative sequence
 unfoldable pub countsOf : ℕ → Bool → List ℕ → List ℤ
 countsOf k negative letters = tableFrom (λ i. signed negative (timesIn i (windowsOf k letters))) 0 (4 ^ k)

@@ -4,7 +4,7 @@ ghost use mathlib.Core.Bool.{cond};
 ghost use Prim.Native.Nat.{_+_, _*_, _%_, _≤_, _<_, _^_};
 ghost use lib.IntN.{pos, natAbs, sucℤ, predℤ};
 ghost use lib.ListN.{length, replicate};
-ghost use Rattle.metrics.specs.Letters.{codeOf, countsOf, counterAnswer, rowAfter};
+ghost use Rattle.metrics.specs.Letters.{codeOf, countsOf, counterAnswer, rowAfter, entryCount};
 ghost use Rattle.metrics.specs.Lanes.{Coded};
 use crate::refusals::BAD_K;
 use crate::refusals::BAD_LENGTHS;
@@ -64,18 +64,19 @@ fn next_window(window: usize, code: usize, k: u8, size: usize) -> usize
     (window * 4 + code) & (size - 1)
 }
 
-// 4^k.
-fn entries_of(k: u8) -> usize
-    requires { ⌜ (1 ≤ k) × (k ≤ 6) ⌝ }
-    ensures { λ r. ⌜ r ≡ 4 ^ k ⌝ }
+// The entries of a feature row: 4^k. A k over 6 has none.
+pub fn entries(k: u8) -> usize
+    ensures { λ r. ⌜ r ≡ entryCount k ⌝ }
 {
     match k {
+        0 => 1,
         1 => 4,
         2 => 16,
         3 => 64,
         4 => 256,
         5 => 1024,
-        _ => 4096,
+        6 => 4096,
+        _ => 0,
     }
 }
 
@@ -126,7 +127,7 @@ pub fn seq_to_kmer(seq: &[u8], k: u8, negative: bool, out: &mut [i32]) -> Counte
     if 6 < k {
         return Counted::Refused(BAD_K);
     }
-    let size = entries_of(k);
+    let size = entries(k);
     if out.len() != size {
         return Counted::Refused(BAD_LENGTHS);
     }

@@ -30,7 +30,8 @@ fn magnitude_of_bits(u: u32) -> u32
     }
 }
 
-fn magnitude(x: i32) -> u32
+// The magnitude of any signed number, the least one too.
+pub fn magnitude(x: i32) -> u32
     ensures { λ r. ⌜ r ≡ natAbs x ⌝ }
 {
     magnitude_of_bits(bits(x))
@@ -123,15 +124,16 @@ pub(crate) fn surely_within(s: Sums, count: usize, minkfreq: u32) -> bool
     (s.d as usize) + (minkfreq as usize) * count <= 8388608
 }
 
-// Whether the magnitudes of a row sum to more than its limit.
-pub(crate) fn row_over(a: &[i32]) -> bool
-    ensures { λ r. ⌜ r ≡ ltb 8388608 (magnitudeSum (now (a .entry))) ⌝ }
+// Whether the magnitudes of a row sum to more than a limit. The sum stops there, so that it fits whatever the entries are.
+pub fn row_over(a: &[i32], limit: u32) -> bool
+    ensures { λ r. ⌜ r ≡ ltb limit (magnitudeSum (now (a .entry))) ⌝ }
 {
+    let most = limit as u64;
     let mut sum: u64 = 0;
     let mut i = 0;
     while i < a.len() {
         sum += magnitude(a[i]) as u64;
-        if sum > 8388608 {
+        if sum > most {
             return true;
         }
         i += 1;

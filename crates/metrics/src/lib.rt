@@ -9,7 +9,7 @@ use crate::refusals::BAD_SIZE;
 
 pub mod floats;
 pub mod kmer;
-mod lanes;
+pub mod lanes;
 pub mod refusals;
 
 // A similarity, or the number of a refusal.
@@ -45,10 +45,10 @@ pub fn seqsim(a: &[i32], b: &[i32], minkfreq: u32) -> Sim
     if lanes::surely_within(s, a.len(), minkfreq) {
         return Sim::Value(rounded_similarity(s.d, s.n));
     }
-    if lanes::row_over(a) {
+    if lanes::row_over(a, 8388608) {
         return Sim::Refused(BAD_ROW);
     }
-    if lanes::row_over(b) {
+    if lanes::row_over(b, 8388608) {
         return Sim::Refused(BAD_ROW);
     }
     Sim::Value(rounded_similarity(s.d, s.n))

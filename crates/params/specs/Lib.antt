@@ -1,1 +1,3 @@
--- The settings are a struct of src/; their rules stand where they are checked and read.
+pub mod Checked
+pub mod Numbers
+pub mod CheckSteps

@@ -2,6 +2,7 @@
 // anything, so every length is held to its slice.
 use job::reader::Reading;
 use job::reader::read_job;
+use metrics::kmer::entries;
 use metrics::kmer::seq_to_kmer;
 use params::Settings;
 ghost use Prim.Native.Nat.{_≤_, _<_};
@@ -68,20 +69,6 @@ pub(crate) fn read_i32s(into: &mut [i32], count: u32) {
     while i < n {
         into[i] = signed(word());
         i += 1;
-    }
-}
-
-fn entries(k: u8) -> usize
-    ensures { λ r. ⌜ r ≤ 4096 ⌝ }
-{
-    match k {
-        1 => 4,
-        2 => 16,
-        3 => 64,
-        4 => 256,
-        5 => 1024,
-        6 => 4096,
-        _ => 0,
     }
 }
 

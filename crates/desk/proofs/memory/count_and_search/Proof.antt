@@ -12,7 +12,6 @@ use Rattle.desk.proofs.memory.count_and_search.Tie as tie
 use Rattle.desk.proofs.memory.count_and_search.Reads as reads
 use Rattle.desk.proofs.memory.count_and_search.Lts as lts
 use Rattle.desk.proofs.features.count_rows.Reads as count-rows-reads
-use Rattle.desk.proofs.features.entries.Reads as entries-reads
 use Rattle.desk.proofs.memory.search.Reads as search-reads
 use Rattle.desk.proofs.room.part_table.Reads as part-table-reads
 use Rattle.desk.proofs.room.variant_table.Reads as variant-table-reads
@@ -34,7 +33,7 @@ count-rows-requires c κs =
     let s = c .before .before .before .before .before .before .before .before .before .before .before .before in
     let t = (lent (now (s .args .starts)) (now (s .args .ends)) (now (s .args .sizes)) (now (s .args .negatives)) (now (s .args .counts)) (now (s .args .part-sizes)) (now (s .args .part-negatives)) (now (s .args .part-counts)) (now (s .args .letters))) in
     let e = c .before .before .before .entries in
-    variants-fit (s .args .s .k) (e .result) t (s .pre .0) (e .ensures .0) (e .ensures .1) (c .before .before .variant-table .result) (c .before .before .variant-table .ensures)
+    variants-fit (s .args .s .k) (e .result) t (s .pre .0) (e .ensures) (c .before .before .variant-table .result) (c .before .before .variant-table .ensures)
 
 slice-aggregate-count-rows-2 : tie.Need-slice-aggregate-count-rows-2
 slice-aggregate-count-rows-2 c = search needs
@@ -44,14 +43,14 @@ count-rows-requires-2 c κs =
     let s = c .before .before .before .before .before .before .before .before .before .before .before .before .before .before .before in
     let t = (lent (now (s .args .starts)) (now (s .args .ends)) (now (s .args .sizes)) (now (s .args .negatives)) (now (s .args .counts)) (now (s .args .part-sizes)) (now (s .args .part-negatives)) (now (s .args .part-counts)) (now (s .args .letters))) in
     let e = c .before .before .before .before .before .before .entries in
-    parts-fit (s .args .s .k) (e .result) t (s .pre .0) (e .ensures .0) (e .ensures .1) (c .before .before .before .before .part-table .result) (c .before .before .before .before .part-table .ensures) (c .before .before .count-rows .result) (c .before .before .count-rows .ensures .next)
+    parts-fit (s .args .s .k) (e .result) t (s .pre .0) (e .ensures) (c .before .before .before .before .part-table .result) (c .before .before .before .before .part-table .ensures) (c .before .before .count-rows .result) (c .before .before .count-rows .ensures .next)
 
 mul-v : tie.Need-mul-v
 mul-v c =
     let s = c .before .before .before .before .before .before .before .before .before .before .before .before .before .before .before .before .before in
     let t = (lent (now (s .args .starts)) (now (s .args .ends)) (now (s .args .sizes)) (now (s .args .negatives)) (now (s .args .counts)) (now (s .args .part-sizes)) (now (s .args .part-negatives)) (now (s .args .part-counts)) (now (s .args .letters))) in
     let e = c .before .before .before .before .before .before .before .before .entries in
-    let h = variants-end (s .args .s .k) (e .result) t (s .pre .0) (e .ensures .0) (e .ensures .1) in
+    let h = variants-end (s .args .s .k) (e .result) t (s .pre .0) (e .ensures) in
     omega arith
 
 mul-m : tie.Need-mul-m
@@ -59,7 +58,7 @@ mul-m c =
     let s = c .before .before .before .before .before .before .before .before .before .before .before .before .before .before .before .before .before in
     let t = (lent (now (s .args .starts)) (now (s .args .ends)) (now (s .args .sizes)) (now (s .args .negatives)) (now (s .args .counts)) (now (s .args .part-sizes)) (now (s .args .part-negatives)) (now (s .args .part-counts)) (now (s .args .letters))) in
     let e = c .before .before .before .before .before .before .before .before .entries in
-    let h = parts-end (s .args .s .k) (e .result) t (s .pre .0) (e .ensures .0) (e .ensures .1) in
+    let h = parts-end (s .args .s .k) (e .result) t (s .pre .0) (e .ensures) in
     omega arith
 
 array-share-prefix-features : tie.Need-array-share-prefix-features
@@ -67,7 +66,7 @@ array-share-prefix-features c =
     let s = c .before .before .before .before .before .before .before .before .before .before .before .before .before .before .before .before .before in
     let t = (lent (now (s .args .starts)) (now (s .args .ends)) (now (s .args .sizes)) (now (s .args .negatives)) (now (s .args .counts)) (now (s .args .part-sizes)) (now (s .args .part-negatives)) (now (s .args .part-counts)) (now (s .args .letters))) in
     let e = c .before .before .before .before .before .before .before .before .entries in
-    let h = variants-end (s .args .s .k) (e .result) t (s .pre .0) (e .ensures .0) (e .ensures .1) in
+    let h = variants-end (s .args .s .k) (e .result) t (s .pre .0) (e .ensures) in
     let k = c .before .before .before .before .count-rows .ensures .kept in
     let l = c .before .before .before .before .before .before .before .variant-table .ensures in
     omega arith
@@ -77,7 +76,7 @@ slice-aggregate-search c =
     let s = c .before .before .before .before .before .before .before .before .before .before .before .before .before .before .before .before .before .before in
     let t = (lent (now (s .args .starts)) (now (s .args .ends)) (now (s .args .sizes)) (now (s .args .negatives)) (now (s .args .counts)) (now (s .args .part-sizes)) (now (s .args .part-negatives)) (now (s .args .part-counts)) (now (s .args .letters))) in
     let e = c .before .before .before .before .before .before .before .before .before .entries in
-    let h = variants-end (s .args .s .k) (e .result) t (s .pre .0) (e .ensures .0) (e .ensures .1) in
+    let h = variants-end (s .args .s .k) (e .result) t (s .pre .0) (e .ensures) in
     let k = c .before .before .before .before .before .count-rows .ensures .kept in
     let l = c .before .before .before .before .before .before .before .before .variant-table .ensures in
     sym (length-take-le _ _ (omega arith))
@@ -87,7 +86,7 @@ array-share-prefix-part-features c =
     let s = c .before .before .before .before .before .before .before .before .before .before .before .before .before .before .before .before .before .before in
     let t = (lent (now (s .args .starts)) (now (s .args .ends)) (now (s .args .sizes)) (now (s .args .negatives)) (now (s .args .counts)) (now (s .args .part-sizes)) (now (s .args .part-negatives)) (now (s .args .part-counts)) (now (s .args .letters))) in
     let e = c .before .before .before .before .before .before .before .before .before .entries in
-    let h = parts-end (s .args .s .k) (e .result) t (s .pre .0) (e .ensures .0) (e .ensures .1) in
+    let h = parts-end (s .args .s .k) (e .result) t (s .pre .0) (e .ensures) in
     let k = c .before .before .count-rows2 .ensures .kept in
     let l = c .before .before .before .before .before .before .before .part-table .ensures in
     omega arith
@@ -97,7 +96,7 @@ slice-aggregate-search-2 c =
     let s = c .before .before .before .before .before .before .before .before .before .before .before .before .before .before .before .before .before .before .before in
     let t = (lent (now (s .args .starts)) (now (s .args .ends)) (now (s .args .sizes)) (now (s .args .negatives)) (now (s .args .counts)) (now (s .args .part-sizes)) (now (s .args .part-negatives)) (now (s .args .part-counts)) (now (s .args .letters))) in
     let e = c .before .before .before .before .before .before .before .before .before .before .entries in
-    let h = parts-end (s .args .s .k) (e .result) t (s .pre .0) (e .ensures .0) (e .ensures .1) in
+    let h = parts-end (s .args .s .k) (e .result) t (s .pre .0) (e .ensures) in
     let k = c .before .before .before .count-rows2 .ensures .kept in
     let l = c .before .before .before .before .before .before .before .before .part-table .ensures in
     sym (length-take-le _ _ (omega arith))

@@ -3,7 +3,7 @@ use native.Mathlib.Omega.{arith}
 use denote.Ref.{now}
 use mathlib.Core.Path.{_≡_, refl}
 use lib.ListN.{length, replicate}
-use Rattle.kplib.specs.Numbers.{tableOf, partsOf}
+use Rattle.params.specs.Numbers.{tableOf, partsOf}
 use Rattle.desk.proofs.PieceLaws.{put-as}
 use Rattle.desk.proofs.AnswerLaws.{answer-few, answer-text}
 use borrow.Author.Needs.{needs}

@@ -2,18 +2,20 @@
 use mathlib.Core.Path.{_≡_}
 use borrow.Author.Needs.{needs}
 use Rattle.kplib.proofs.SimilarityLaws.{size-value, the-value, no-refusal}
-use Rattle.metrics.proofs.sizesim.Reads as sizesim-reads
-use Rattle.kplib.proofs.pathscore.magnitude.Reads as magnitude-reads
 use Rattle.kplib.proofs.pathscore.size_alike.Statement.{statement}
 use Rattle.kplib.proofs.pathscore.size_alike.Tie as tie
-use Rattle.kplib.proofs.pathscore.size_alike.Reads as reads
-use Rattle.kplib.proofs.pathscore.size_alike.Lts as lts
 
 magnitude-requires : tie.Need-magnitude-requires
 magnitude-requires c κs = search needs
 
+cast-sizesim : tie.Need-cast-sizesim
+cast-sizesim c = search needs
+
 magnitude-requires-2 : tie.Need-magnitude-requires-2
 magnitude-requires-2 c κs = search needs
+
+cast-sizesim-2 : tie.Need-cast-sizesim-2
+cast-sizesim-2 c = search needs
 
 sizesim-requires : tie.Need-sizesim-requires
 sizesim-requires c κs = search needs
@@ -43,7 +45,9 @@ size-alike-spec =
     tie.close
     (tie.spec
     magnitude-requires
+    cast-sizesim
     magnitude-requires-2
+    cast-sizesim-2
     sizesim-requires
     enum-known-x
     enum-known-n

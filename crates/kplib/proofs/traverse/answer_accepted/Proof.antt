@@ -1,7 +1,7 @@
 -- By the job's mode.
 use mathlib.Core.Path.{refl, sym, _∙_}
 use denote.Ref.{now}
-use Rattle.kplib.specs.Numbers.{tableOf, partsOf}
+use Rattle.params.specs.Numbers.{tableOf, partsOf}
 use Rattle.kplib.proofs.FoundLaws.{searched-found, alone-found}
 use borrow.Author.Needs.{needs}
 use Rattle.kplib.proofs.traverse.answer_accepted.Statement.{statement}

@@ -3,7 +3,7 @@ use mathlib.Core.Path.{refl, sym, ap, _∙_}
 use Prim.Native.Nat.{ℕ}
 use lib.ListN.{length}
 use denote.Ref.{now}
-use Rattle.kplib.specs.Numbers.{tableOf, partsOf, firstFault}
+use Rattle.params.specs.Numbers.{tableOf, partsOf, firstFault}
 use Rattle.kplib.proofs.FoundLaws.{refused-answers, accepted-answers, not-searched, acceptable, room-is}
 use borrow.Author.Needs.{needs}
 use Rattle.kplib.proofs.traverse.apply_haplotype.Statement.{statement}

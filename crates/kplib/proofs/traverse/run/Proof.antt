@@ -3,7 +3,7 @@ use mathlib.Core.Path.{_≡_, refl, sym, _∙_}
 use Prim.Native.Nat.{_+_, _-_}
 use native.Mathlib.Omega.{arith}
 use lib.ListN.{length}
-use Rattle.kplib.specs.Numbers.{tableOf, partsOf}
+use Rattle.params.specs.Numbers.{tableOf, partsOf}
 use Rattle.kplib.specs.SearchSteps.{Going}
 use Rattle.kplib.proofs.StepLaws.{searchable-keep, searchable-pass, gone-empty, gone-steps, pos-of, lt-of-ne, less-left}
 use Rattle.kplib.proofs.traverse.run.Statement.{statement}

@@ -1,15 +1,19 @@
 -- Each return is one case of the definition, tried in the table's order; only the last has touched the row.
 use Rattle.metrics.specs.Letters.{counterAnswer}
 use borrow.Author.Needs.{needs}
-use mathlib.Core.Path.{refl, ap, _∙_}
+use mathlib.Core.Path.{_≡_, refl, ap, _∙_}
 use Prim.Native.Nat.{ℕ, _^_, _≤_}
 use native.Mathlib.Omega.{arith}
-use native.Mathlib.Nat.{pow-le-pow-right}
 use lib.IntN.{pos}
 use lib.ListN.{replicate}
 use borrow.Author.Tests.{lt-leb, le-leb, lt-ltb, le-ltb, eq-eqb, ne-eqb}
+use Rattle.metrics.proofs.Entries.{power, few-entries}
 use Rattle.metrics.proofs.kmer.seq_to_kmer.Statement.{statement}
 use Rattle.metrics.proofs.kmer.seq_to_kmer.Tie as tie
+
+-- the row's entries are 4 to the k once k is known to be at most 6
+size-is : (c : tie.After-entries) → c .entries .result ≡ 4 ^ c .before .before .before .before .args .k
+size-is c = c .entries .ensures ∙ power _ (c .before .if2 .left)
 
 returns : tie.Need-returns
 unfolding counterAnswer
@@ -19,21 +23,21 @@ returns-2 : tie.Need-returns-2
 unfolding counterAnswer
 returns-2 c = (rw (le-leb _ _ (c .before .if1 .left), lt-leb _ _ (c .if2 .taken)), refl)
 
-entries-of-requires : tie.Need-entries-of-requires
-entries-of-requires c κs = search needs
+entries-requires : tie.Need-entries-requires
+entries-requires c κs = search needs
 
 returns-3 : tie.Need-returns-3
 unfolding counterAnswer
 returns-3 c =
     let d = c .before in
-    let e = d .entries-of .ensures in
+    let e = size-is d in
     (rw (le-leb _ _ (d .before .before .if1 .left), le-leb _ _ (d .before .if2 .left), ← e, ne-eqb _ _ (c .if3 .taken)), refl)
 
 returns-4 : tie.Need-returns-4
 unfolding counterAnswer
 returns-4 c =
     let d = c .before .before in
-    let e = d .entries-of .ensures in
+    let e = size-is d in
     (rw (le-leb _ _ (d .before .before .if1 .left), le-leb _ _ (d .before .if2 .left), ← e, eq-eqb _ _ (c .before .if3 .left), lt-ltb _ _ (c .if4 .taken)), refl)
 
 clear-row-requires : tie.Need-clear-row-requires
@@ -44,9 +48,9 @@ count-windows-requires c κs =
     let d = c .before .before .before .before .before .before in
     let s = d .before .before .before .before in
     let k = s .args .k in
-    let e = d .entries-of .ensures in
+    let e = size-is d in
     let six : k ≤ 6 = omega arith in
-    let most : 4 ^ k ≤ 4 ^ 6 = pow-le-pow-right (omega arith) six in (
+    let most = few-entries k six in (
       e,
       omega arith,
       omega arith,
@@ -61,7 +65,7 @@ returns-5 : tie.Need-returns-5
 unfolding counterAnswer
 returns-5 c =
     let d = c .before .before .before .before .before .before .before .before in
-    let e = d .entries-of .ensures in
+    let e = size-is d in
     let f = c .before .before .before .before .before .before .before in (
       rw (le-leb _ _ (d .before .before .if1 .left), le-leb _ _ (d .before .if2 .left), ← e, eq-eqb _ _ (f .if3 .left), le-ltb _ _ (c .before .before .before .before .before .before .if4 .left)),
       c .before .count-windows .ensures,
@@ -73,7 +77,7 @@ seq-to-kmer-spec =
     (tie.spec
     returns
     returns-2
-    entries-of-requires
+    entries-requires
     returns-3
     returns-4
     clear-row-requires

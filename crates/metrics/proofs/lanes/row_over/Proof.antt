@@ -14,10 +14,10 @@ use Rattle.metrics.proofs.lanes.row_over.Statement.{statement}
 use Rattle.metrics.proofs.lanes.row_over.Tie as tie
 
 abbrev Inv-loop : tie.InvT-loop
-Inv-loop a sum₀ i₀ sum i = (i ≤ length a) × (sum ≤ 8388608) × (sum + magnitudeSum (drop i a) ≡ magnitudeSum a)
+Inv-loop a limit most sum₀ i₀ sum i = (i ≤ length a) × (most ≡ limit) × (sum ≤ limit) × (sum + magnitudeSum (drop i a) ≡ magnitudeSum a)
 
 abbrev μ-loop : tie.MeasureT-loop
-μ-loop a sum₀ i₀ sum i = length a - i
+μ-loop a limit most sum₀ i₀ sum i = length a - i
 
 loop-holds : tie.Need-loop-holds Inv-loop μ-loop
 loop-holds c = omega arith
@@ -52,7 +52,8 @@ add-sum c = let e = step c in omega arith
 returns : tie.Need-returns Inv-loop μ-loop
 returns c =
     let e = step (c .before) in
-    let h : 8388608 < magnitudeSum (c .before .before .before .before .before .args .a .now) = omega arith in
+    let s = c .before .before .before .before .before in
+    let h : s .args .limit < magnitudeSum (s .args .a .now) = omega arith in
     sym (lt-ltb _ _ h)
 
 add-i : tie.Need-add-i Inv-loop μ-loop
@@ -66,8 +67,9 @@ loop-again c = let e = step (c .before) in omega arith
 
 returns-2 : tie.Need-returns-2 Inv-loop μ-loop
 returns-2 c =
-    let e = row-none (c .before .before .args .a .now) (c .before .loop .i) (c .loop-test .left) in
-    let h : magnitudeSum (c .before .before .args .a .now) ≤ 8388608 = omega arith in
+    let s = c .before .before in
+    let e = row-none (s .args .a .now) (c .before .loop .i) (c .loop-test .left) in
+    let h : magnitudeSum (s .args .a .now) ≤ s .args .limit = omega arith in
     sym (le-ltb _ _ h)
 
 pub row-over-spec : {M : Type 1} → statement M

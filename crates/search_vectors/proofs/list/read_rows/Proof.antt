@@ -3,12 +3,12 @@ use native.Mathlib.Omega.{arith}
 use Prim.Native.Nat.{_-_, _*_, _≤_}
 use mathlib.Core.Path.{_≡_}
 use lib.ListN.{length}
+use Rattle.metrics.proofs.Entries.{never-more}
 use Rattle.search_vectors.proofs.list.read_rows.Statement.{statement}
 use Rattle.search_vectors.proofs.list.read_rows.Tie as tie
 use Rattle.search_vectors.proofs.list.read_rows.Reads as reads
 use Rattle.search_vectors.proofs.list.read_rows.Lts as lts
 use Rattle.search_vectors.proofs.list.at_most.Reads as at-most-reads
-use Rattle.search_vectors.proofs.list.entries.Reads as entries-reads
 use Rattle.search_vectors.proofs.list.read_row.Reads as read-row-reads
 use Rattle.search_vectors.proofs.list.word.Reads as word-reads
 
@@ -33,7 +33,7 @@ entries-requires : tie.Need-entries-requires Inv-loop μ-loop
 entries-requires c κs = tt
 
 loop-holds : tie.Need-loop-holds Inv-loop μ-loop
-loop-holds c = (omega arith, omega arith, omega arith, omega arith, omega arith)
+loop-holds c = (omega arith, omega arith, omega arith, rw (c .entries .ensures) (never-more _), omega arith)
 
 read-row-requires : tie.Need-read-row-requires Inv-loop μ-loop
 read-row-requires c κs = tt

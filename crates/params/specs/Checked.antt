@@ -1,0 +1,38 @@
+-- What an accepted job is known to be: the limits of document 01, "Numbers a job may hold", as the functions behind the checks ask them.
+use Prim.Native.Nat.{ℕ, _*_, _^_, _≤_}
+use mathlib.Core.Path.{_≡_}
+use mathlib.Core.List.{List}
+use lib.IntN.{ℤ, pos, natAbs}
+use lib.ListN.{length, getD, take, drop}
+use Rattle.metrics.specs.Similarity.{magnitudeSum}
+use Rattle.params.specs.declared.Settings.{Settings}
+
+-- row r of a table that holds rows of e entries one behind the other
+abbrev pub rowAt : ℕ → List ℤ → ℕ → List ℤ
+rowAt e table r = take e (drop (r * e) table)
+
+-- n feature rows of e entries, each within its limit
+pub record Flat (n e : ℕ) (table : List ℤ) : Type 0 where
+  pub few : n ≤ 64
+  pub short : e ≤ 4096
+  pub flat : length table ≡ n * e
+  pub rowed : (r : ℕ) → magnitudeSum (rowAt e table r) ≤ 131072
+
+-- sizes within their limit
+pub record Sized (sizes : List ℤ) : Type 0 where
+  pub few : length sizes ≤ 64
+  pub sized : (r : ℕ) → natAbs (getD sizes r (pos 0)) ≤ 131072
+
+pub record Checked (s : Settings) (starts ends : List ℕ) (sizes features partSizes partFeatures : List ℤ) : Type 0 where
+  pub k-low : 1 ≤ s .k
+  pub k-high : s .k ≤ 6
+  pub maxpaths : s .maxpaths ≤ 4095
+  pub pileupmax : s .pileupmax ≤ 12
+  pub minkfreq : s .minkfreq ≤ 16777216
+  pub some : 1 ≤ length starts
+  pub ends-are : length ends ≡ length starts
+  pub sizes-are : length sizes ≡ length starts
+  pub sized : Sized sizes
+  pub rows : Flat (length sizes) (4 ^ s .k) features
+  pub part-sized : Sized partSizes
+  pub part-rows : Flat (length partSizes) (4 ^ s .k) partFeatures

@@ -1,0 +1,178 @@
+-- Document 01, "Numbers a job may hold": the table of refusals, and which of its rows a call is refused by.
+use Prim.Native.Nat.{ℕ, zero, suc, _+_, _-_, _*_, _^_}
+use mathlib.Core.Bool.{Bool, false, not, cond, _&&_, _||_}
+use mathlib.Core.List.{List, [], _∷_, _++_}
+use lib.Dec.{leb, ltb, eqb}
+use lib.IntN.{ℤ, pos, natAbs}
+use lib.ListN.{length, getD}
+use lib.Ieee.{Float, le}
+use Rattle.metrics.specs.Similarity.{whole, magnitudeSum}
+use Rattle.params.specs.Checked.{rowAt}
+use Rattle.params.specs.declared.Settings.{Settings}
+
+-- what the caller lends of the variants; V is the number of starts
+pub record Table : Type 0 where
+  pub starts : List ℕ
+  pub ends : List ℕ
+  pub sizes : List ℤ
+  pub features : List ℤ
+
+abbrev pub tableOf : List ℕ → List ℕ → List ℤ → List ℤ → Table
+tableOf a b c d = record { starts = a; ends = b; sizes = c; features = d }
+
+-- what the caller lends of the haplotype's parts; m is the number of part sizes
+pub record Parts : Type 0 where
+  pub sizes : List ℤ
+  pub features : List ℤ
+
+abbrev pub partsOf : List ℤ → List ℤ → Parts
+partsOf a b = record { sizes = a; features = b }
+
+-- whom a row of the table of refusals concerns
+pub data Concern : Type 0 where
+  settings : Concern
+  table : Concern
+  parts : Concern
+  room : Concern
+
+-- a row of the table of refusals: its number, whom it concerns, and whether it is to be given
+pub record Rule : Type 0 where
+  pub number : ℕ
+  pub concern : Concern
+  pub given : Bool
+
+abbrev pub rule : ℕ → Concern → Bool → Rule
+rule n c t = record { number = n; concern = c; given = t }
+
+-- the rows are tried in order; 0 is an accepted call
+abbrev pub firstOf : List Rule → ℕ
+firstOf [] = 0
+firstOf (r ∷ rules) = cond (r .given) (r .number) (firstOf rules)
+
+-- some number below n passes the test
+unfoldable pub anyBelow : ℕ → (ℕ → Bool) → Bool
+anyBelow zero test = false
+anyBelow (suc n) test = anyBelow n test || test n
+
+-- 1: k not 1 to 6
+unfoldable pub badK : Settings → Bool
+badK s = not (leb 1 (s .k) && leb (s .k) 6)
+
+-- not in 0 to `most`. `le` is false at a NaN, and takes minus zero for zero
+abbrev pub outside : Float → Float → Bool
+outside most x = not (le (whole 0) x && le x most)
+
+-- 2: a float setting is NaN or outside its range
+unfoldable pub badFloat : Settings → Bool
+badFloat s =
+    outside (whole 1) (s .sizesim)
+    || (outside (whole 1) (s .seqsim) || (outside (whole 1000) (s .fpenalty) || outside (whole 1000) (s .gpenalty)))
+
+-- 3: a whole-number setting over its limit
+unfoldable pub badNumber : Settings → Bool
+badNumber s =
+    ltb 4095 (s .maxpaths) || (ltb 65535 (s .maxnodes) || (ltb 65535 (s .fnmax) || (ltb 12 (s .pileupmax) || ltb 16777216 (s .minkfreq))))
+
+-- 4: no variants
+abbrev pub noVariants : List ℕ → Bool
+noVariants starts = eqb (length starts) 0
+
+-- 5: over 64 variants or over 64 parts
+abbrev pub tooMany : ℕ → Bool
+tooMany n = ltb 64 n
+
+-- 6: lent lengths disagree with V, m or 4^k
+abbrev pub disagrees : ℕ → ℕ → Bool
+disagrees given wanted = not (eqb given wanted)
+
+abbrev pub tableDisagrees : ℕ → Table → Bool
+tableDisagrees e t =
+    disagrees (length (t .ends)) (length (t .starts))
+    || (disagrees (length (t .sizes)) (length (t .starts)) || disagrees (length (t .features)) (length (t .starts) * e))
+
+abbrev pub partsDisagree : ℕ → Parts → Bool
+partsDisagree e p = disagrees (length (p .features)) (length (p .sizes) * e)
+
+-- 7: a start is greater than its end
+unfoldable pub startAfterEnd : List ℕ → List ℕ → Bool
+startAfterEnd starts ends = anyBelow (length starts) (λ r. ltb (getD ends r 0) (getD starts r 0))
+
+-- 8: a start is less than the row before's
+unfoldable pub fallingStart : List ℕ → Bool
+fallingStart starts = anyBelow (length starts - 1) (λ r. ltb (getD starts (r + 1) 0) (getD starts r 0))
+
+-- 9: a size over its limit
+unfoldable pub badSize : List ℤ → Bool
+badSize sizes = anyBelow (length sizes) (λ r. ltb 131072 (natAbs (getD sizes r (pos 0))))
+
+-- 10: one of n feature rows, of e entries each, over its limit
+unfoldable pub badRow : ℕ → ℕ → List ℤ → Bool
+badRow e n features = anyBelow n (λ r. ltb 131072 (magnitudeSum (rowAt e features r)))
+
+-- one-to-one runs when asked or when V exceeds maxnodes; any other job is in search mode
+abbrev pub searchMode : Settings → ℕ → Bool
+searchMode s v = not (s .«one_to_one» || ltb (s .maxnodes) v)
+
+-- the entries that a search may have to queue
+abbrev pub queueNeeds : Settings → ℕ → ℕ
+queueNeeds s v = 1 + (s .maxpaths + 1) * v
+
+-- 11: search mode, and queue room under 1 + (maxpaths + 1) × V entries
+unfoldable pub littleQueueRoom : Settings → ℕ → ℕ → Bool
+littleQueueRoom s v queueRoom = searchMode s v && ltb queueRoom (queueNeeds s v)
+
+-- 12: answer room under V rows
+abbrev pub littleAnswerRoom : ℕ → ℕ → Bool
+littleAnswerRoom v answerRoom = ltb answerRoom v
+
+-- the rows of the table, each over all variants and then all parts; e is 4^k
+abbrev pub settingsRules : Settings → List Rule
+settingsRules s = rule 1 settings (badK s) ∷ (rule 2 settings (badFloat s) ∷ (rule 3 settings (badNumber s) ∷ []))
+
+abbrev pub lengthRules : ℕ → Table → Parts → List Rule
+lengthRules e t p =
+    rule 4 table (noVariants (t .starts))
+    ∷ (rule 5 table (tooMany (length (t .starts)))
+    ∷ (rule 5 parts (tooMany (length (p .sizes)))
+    ∷ (rule 6 table (tableDisagrees e t)
+    ∷ (rule 6 parts (partsDisagree e p)
+    ∷ []))))
+
+abbrev pub boundRules : List ℕ → List ℕ → List Rule
+boundRules starts ends = rule 7 table (startAfterEnd starts ends) ∷ (rule 8 table (fallingStart starts) ∷ [])
+
+abbrev pub limitRules : ℕ → Table → Parts → List Rule
+limitRules e t p =
+    rule 9 table (badSize (t .sizes))
+    ∷ (rule 9 parts (badSize (p .sizes))
+    ∷ (rule 10 table (badRow e (length (t .starts)) (t .features))
+    ∷ (rule 10 parts (badRow e (length (p .sizes)) (p .features))
+    ∷ [])))
+
+abbrev pub roomRules : Settings → ℕ → ℕ → ℕ → List Rule
+roomRules s v queueRoom answerRoom =
+    rule 11 room (littleQueueRoom s v queueRoom) ∷ (rule 12 room (littleAnswerRoom v answerRoom) ∷ [])
+
+-- checked in this order
+abbrev pub callRules : Settings → Table → Parts → ℕ → ℕ → List Rule
+callRules s t p queueRoom answerRoom =
+    settingsRules s
+    ++ (lengthRules (4 ^ s .k) t p
+    ++ (boundRules (t .starts) (t .ends)
+    ++ (limitRules (4 ^ s .k) t p
+    ++ roomRules s (length (t .starts)) queueRoom answerRoom)))
+
+unfoldable pub firstFault : Settings → Table → Parts → ℕ → ℕ → ℕ
+firstFault s t p queueRoom answerRoom = firstOf (callRules s t p queueRoom answerRoom)
+
+-- the chain count asked for by itself: cap at most 4,096, else 3; also 4 to 8
+abbrev pub chainCountRules : ℕ → List ℕ → List ℕ → List Rule
+chainCountRules cap starts ends =
+    rule 3 settings (ltb 4096 cap)
+    ∷ (rule 4 table (noVariants starts)
+    ∷ (rule 5 table (tooMany (length starts))
+    ∷ (rule 6 table (disagrees (length ends) (length starts))
+    ∷ boundRules starts ends)))
+
+unfoldable pub chainCountFault : ℕ → List ℕ → List ℕ → ℕ
+chainCountFault cap starts ends = firstOf (chainCountRules cap starts ends)
