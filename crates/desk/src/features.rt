@@ -1,7 +1,7 @@
 // The feature rows of a job's sequences, counted one behind the other into one table.
 use metrics::kmer::seq_to_kmer;
 ghost use mathlib.Core.Path.{_≡_};
-ghost use Prim.Native.Nat.{_+_, _*_, _≤_, _<_, _^_, _-_};
+ghost use Prim.Native.Nat.{_-_};
 ghost use lib.ListN.{length, take, drop};
 ghost use Rattle.metrics.specs.Letters.{countsOf};
 ghost use Rattle.job.specs.Writing.{sum};
