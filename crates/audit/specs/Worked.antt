@@ -5,7 +5,7 @@ use mathlib.Core.List.{[], _∷_}
 use lib.IntN.{pos}
 use lib.Ieee.{Float, binary32, ofBits}
 use Rattle.metrics.specs.Similarity.{whole}
-use Rattle.kplib.specs.Numbers.{Table, Parts, tableOf, partsOf, firstFault}
+use Rattle.params.specs.Numbers.{Table, Parts, tableOf, partsOf, firstFault}
 use Rattle.kplib.specs.Score.{chainScore}
 use Rattle.kplib.specs.Search.{scoredIn}
 use Rattle.kplib.specs.Answer.{answerOf, rowsOf}

@@ -1,6 +1,6 @@
 -- The number of an answer's target is at most 65: each scoring begins with no part list and takes up none that leaves out more than all
 -- parts, whichever result is kept; and an accepted call has at most 64 parts. Assumes nothing.
-use mathlib.Core.Path.{_≡_, refl, subst}
+use mathlib.Core.Path.{_≡_, refl}
 use mathlib.Core.Bool.{Bool, true, false, cond, not, _&&_}
 use mathlib.Core.List.{List, [], _∷_, map}
 use Prim.Native.Nat.{ℕ, zero, suc, _+_, _-_, _^_, _≤_}

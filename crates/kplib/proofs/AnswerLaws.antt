@@ -84,39 +84,6 @@ module _ (s : Settings) (sizes features partSizes partFeatures : List ℤ) (chai
   pub score-number : T (not (isNan (chainScore s sizes features partSizes partFeatures chain .score)))
   score-number = le-number (whole 0) (chainScore s sizes features partSizes partFeatures chain .score) (holds _ at-least-zero) .1
 
--- ---- the same of one-to-one
-latest-kept : (best : Lone) (node : ℕ) (x : Scored) → StartOrAbove (best .scored) → StartOrAbove x → StartOrAbove (latestOf best node x .scored)
-unfolding latestOf
-latest-kept best node x b h = go (lt (whole 0) (x .seqsim)) (lt (x .score) (best .scored .score))
-  where
-    go : (t u : Bool) → StartOrAbove ((cond t (cond u best (record { row = node - 1; scored = x })) best) .scored)
-    go true true = b
-    go true false = h
-    go false u = b
-
-nodes-kept : (f : Lone → ℕ → Lone) → ((best : Lone) (node : ℕ) → StartOrAbove (best .scored) → StartOrAbove (f best node .scored))
-    → (best : Lone) (node n : ℕ) → StartOrAbove (best .scored) → StartOrAbove (overNodes f best node n .scored)
-unfolding overNodes
-nodes-kept f h best node zero b = b
-nodes-kept f h best node (suc n) b = nodes-kept f h (f best node) (suc node) n (h best node b)
-
-alone-kept : (s : Settings) (partSizes partFeatures : List ℤ) (node : Total) → StartOrAbove (aloneScore s partSizes partFeatures node)
-unfolding aloneScore afterList
-alone-kept s partSizes partFeatures node =
-    let partial = length partSizes - length (wholeOf (length partSizes)) in
-    greater-kept start partial (listScore s node (totalOf (4 ^ s .k) partSizes partFeatures (wholeOf (length partSizes))) partial) (inl refl)
-
-module _ (s : Settings) (sizes features partSizes partFeatures : List ℤ) where
-  pub lone-start-or-above : StartOrAbove (oneToOne s sizes features partSizes partFeatures .scored)
-  unfolding oneToOne
-  lone-start-or-above =
-      nodes-kept (λ best node. latestOf best node (aloneScore s partSizes partFeatures (nodeTotal (4 ^ s .k) sizes features node)))
-      (λ best node b. latest-kept best node (aloneScore s partSizes partFeatures (nodeTotal (4 ^ s .k) sizes features node)) b (alone-kept s partSizes partFeatures (nodeTotal (4 ^ s .k) sizes features node)))
-      noLone 0 (length sizes + 2) (inl refl)
-
-  pub lone-at-least-zero : le (whole 0) (oneToOne s sizes features partSizes partFeatures .scored .score) ≡ true
-  lone-at-least-zero = zero-or-above (oneToOne s sizes features partSizes partFeatures .scored) lone-start-or-above
-
 -- ---- no anchor is ever chosen
 nodes-last : (f : Lone → ℕ → Lone) (best : Lone) (node n : ℕ) → overNodes f best node (suc n) ≡ f (overNodes f best node n) (node + n)
 unfolding overNodes

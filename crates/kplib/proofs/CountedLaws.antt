@@ -13,15 +13,6 @@ use Rattle.kplib.specs.Graph.{countCase, countNumber, countValue}
 use Rattle.kplib.specs.GraphWalk.{Walk}
 use Rattle.params.proofs.CheckLaws.{none-given}
 
--- the paper's number and value of each case
-pub number-is : (fault n : ℕ) → countNumber (countCase fault n) ≡ fault
-number-is zero n = refl
-number-is (suc f) n = refl
-
-pub value-is : (fault n : ℕ) → countValue (countCase fault n) ≡ cond (eqb fault 0) n 0
-value-is zero n = refl
-value-is (suc f) n = rw (ne-eqb (suc f) 0 (λ e. omega arith))
-
 pub refused-case : (found fault n : ℕ) → found ≡ fault → (found ≡ 0 → ⊥) → Refused found ≡ countCase fault n
 refused-case found zero n e h = absurd (h e)
 refused-case found (suc f) n e h = rw e

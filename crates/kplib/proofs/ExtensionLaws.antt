@@ -11,7 +11,7 @@ use lib.Seq.{drop-cons, drop-nil}
 use mir.Syntax.{w32}
 use mir.Val.{toZ, ofZ, SFits}
 use Rattle.metrics.proofs.Ints.{add-le}
-use Rattle.paths.specs.Chains.{endNode}
+use Rattle.paths.specs.Chains.{firstAfter}
 use Rattle.paths.specs.Queue.{chainAt, keyOf}
 use Rattle.paths.proofs.TableLaws.{chain-root, chain-link}
 use Rattle.paths.proofs.QueueLaws.{chain-end, chain-length, chain-longer}
@@ -30,9 +30,9 @@ reverse-length [] = refl
 reverse-length (x ∷ l) = rw (reverse-cons x l) (omega (arith, length-append (reverse l) (x ∷ []), reverse-length l))
 
 -- the node at which an entry's chain ends, by its last row
-pub end-at : (parents lasts : List ℕ) (e : ℕ) → ((i : ℕ) → 0 < i → i ≡ e → getD parents i 0 < i) → endAt e (getD lasts e 0) ≡ endNode (chainAt parents lasts e)
-end-at parents lasts zero h = sym (ap endNode (chain-root parents lasts))
-end-at parents lasts (suc e) h = add-one (getD lasts (suc e) 0) ∙ sym (ap endNode (chain-link parents lasts (suc e) (omega arith) (h (suc e) (omega arith) refl)))
+pub end-at : (parents lasts : List ℕ) (e : ℕ) → ((i : ℕ) → 0 < i → i ≡ e → getD parents i 0 < i) → endAt e (getD lasts e 0) ≡ firstAfter (chainAt parents lasts e)
+end-at parents lasts zero h = sym (ap firstAfter (chain-root parents lasts))
+end-at parents lasts (suc e) h = add-one (getD lasts (suc e) 0) ∙ sym (ap firstAfter (chain-link parents lasts (suc e) (omega arith) (h (suc e) (omega arith) refl)))
 
 module _ {starts ends : List ℕ} {sizes : List ℤ} {full : Bool} {target : ℤ} {parents lasts keys : List ℕ} {used queued entry end : ℕ} {size : ℤ}
     (h : Extending starts ends sizes full target parents lasts keys used queued entry end size) where

@@ -8,7 +8,7 @@ use mathlib.Core.List.{List, [], _∷_}
 use lib.Dec.{leb}
 use lib.ListN.{length}
 use borrow.Author.Tests.{le-leb, lt-leb}
-use Rattle.paths.specs.Chains.{endNode, extends, isChain, chainsFrom}
+use Rattle.paths.specs.Chains.{firstAfter, extends, isChain, chainsFrom}
 use Rattle.metrics.specs.Similarity.{overlapsOf}
 use Rattle.paths.specs.Count.{mayFollow, chainCount, rowCountWithin, sumRows}
 use Rattle.paths.proofs.CountLaws.{doc-full, doc-bare}
@@ -20,7 +20,7 @@ and-false true = refl
 and-false false = refl
 
 module _ (joins : ℕ → ℕ → Bool) where
-  end-is : (full : Bool) (c : List ℕ) (s : ℕ) → extends (mayFollow joins full) c s ≡ extendsAt joins full (endNode c) s
+  end-is : (full : Bool) (c : List ℕ) (s : ℕ) → extends (mayFollow joins full) c s ≡ extendsAt joins full (firstAfter c) s
   unfolding extends extendsAt
   end-is full [] s = refl
   end-is full (r ∷ c) s = refl
@@ -47,21 +47,12 @@ module _ (joins : ℕ → ℕ → Bool) where
 
 module _ (starts ends : List ℕ) where
   -- what a walk's test found of chain c, which ends at the node that it asked
-  pub extends-end : (full : Bool) (c : List ℕ) (s : ℕ) → extendsIn starts ends full c s ≡ extendsAt (edge starts ends) full (endNode c) s
+  pub extends-end : (full : Bool) (c : List ℕ) (s : ℕ) → extendsIn starts ends full c s ≡ extendsAt (edge starts ends) full (firstAfter c) s
   extends-end full c s = end-is (edge starts ends) full c s
 
-  pub extends-found : (full : Bool) (s : ℕ) {found : Bool} {end : ℕ} (c : List ℕ) → end ≡ endNode c → found ≡ extendsAt (edge starts ends) full end s → extendsIn starts ends full c s ≡ found
+  pub extends-found : (full : Bool) (s : ℕ) {found : Bool} {end : ℕ} (c : List ℕ) → end ≡ firstAfter c → found ≡ extendsAt (edge starts ends) full end s → extendsIn starts ends full c s ≡ found
   extends-found full s c e h = extends-end full c s ∙ sym (h ∙ ap (λ (node : ℕ). extendsAt (edge starts ends) full node s) e)
 
   pub counts-chains : (full : Bool) → chainsFrom (mayFollowIn starts ends full) (length starts) [] ≡ chainsOf starts ends full
   counts-chains true = doc-full (edge starts ends) (length starts)
   counts-chains false = doc-bare (edge starts ends) (length starts)
-
--- document 01's example, 0-10, 5-5, 6-8: seven chains, one of them of all three rows though its ends overlap
-pub example-count : chainsOf (0 ∷ (5 ∷ (6 ∷ []))) (10 ∷ (5 ∷ (8 ∷ []))) true ≡ 7
-unfolding chainCount rowCountWithin sumRows edge overlapsOf
-example-count = refl
-
-pub example-chain : isChainIn (0 ∷ (5 ∷ (6 ∷ []))) (10 ∷ (5 ∷ (8 ∷ []))) true (2 ∷ (1 ∷ (0 ∷ []))) ≡ true
-unfolding isChain extends edge overlapsOf
-example-chain = refl

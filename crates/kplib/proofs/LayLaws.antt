@@ -259,9 +259,6 @@ module _ (s : Settings) (sizes : List ℤ) (codes : List ℕ) (listSizes : List 
       go size x (suc i) k = absurd (not-suc-le-zero (le-of-suc-le-suc k))
 
   module _ (lengths : ℕ) (e : lengths ≡ lengthsOf (length sizes) (s .fnmax)) (f : lengths ≤ length sizes) (h : length sizes < s .pileupmax) where
-    pub laying-lengths : LayingLengths sizes lengths codes listSizes
-    laying-lengths = record { few = omega (arith, y .pileupmax); lengths-few = f; sized = y .sized; room = y .room; beside = y .beside }
-
     pub lengths-laid : (codes' : List ℕ) (listSizes' : List ℤ) (r : ℕ) → length codes' ≡ length codes → length listSizes' ≡ length listSizes
         → LaidLengths sizes lengths codes' listSizes' r → LaidDown s sizes codes' listSizes' r
     lengths-laid codes' listSizes' r lc ll w =

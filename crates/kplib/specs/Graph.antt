@@ -25,12 +25,9 @@ edge starts ends r s = not (overlapsOf (getD starts r 0) (getD ends r 0) (getD s
 abbrev pub mayFollowIn : List ℕ → List ℕ → Bool → List ℕ → ℕ → Bool
 mayFollowIn starts ends full c s = mayFollow (edge starts ends) full c s
 
--- a later row that extends c, c's extensions (highest row first), and whether c is a chain of the table
+-- a later row that extends c, and whether c is a chain of the table
 abbrev pub extendsIn : List ℕ → List ℕ → Bool → List ℕ → ℕ → Bool
 extendsIn starts ends full = extends (mayFollowIn starts ends full)
-
-abbrev pub extensionsIn : List ℕ → List ℕ → Bool → List ℕ → List (List ℕ)
-extensionsIn starts ends full = extensions (mayFollowIn starts ends full) (length starts)
 
 abbrev pub isChainIn : List ℕ → List ℕ → Bool → List ℕ → Bool
 isChainIn starts ends full = isChain (mayFollowIn starts ends full) (length starts)

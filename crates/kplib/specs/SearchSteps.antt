@@ -7,7 +7,7 @@ use lib.Dec.{eqb}
 use lib.Ieee.{le}
 use lib.IntN.{ℤ, natAbs}
 use lib.ListN.{length, take}
-use Rattle.paths.specs.Chains.{endNode}
+use Rattle.paths.specs.Chains.{firstAfter}
 use Rattle.paths.specs.Queue.{chainAt, Walk, Queue, Running, Ended}
 use Rattle.params.specs.Checked.{Sized, Checked}
 use Rattle.params.specs.Numbers.{Table, Parts, searchMode}
@@ -80,7 +80,7 @@ pub record Extending (starts ends : List ℕ) (sizes : List ℤ) (full : Bool) (
   pub sized : Sized sizes
   pub target-small : natAbs target ≤ 8388608
   pub entry-in : entry < used
-  pub end-is : end ≡ endNode (chainAt parents lasts entry)
+  pub end-is : end ≡ firstAfter (chainAt parents lasts entry)
   pub size-is : size ≡ sizeOf sizes (reverse (chainAt parents lasts entry))
   pub queue : Queue (mayFollowIn starts ends full) (length starts) (distanceTo sizes target) parents lasts (take queued keys) used
 

@@ -7,7 +7,7 @@ use mathlib.Core.List.{List, [], _∷_}
 use lib.Dec.{leb, ltb, eqb}
 use borrow.Author.Tests.{leb-true, ltb-true, ltb-false, eqb-true, eqb-false, lt-ltb, le-ltb}
 use Rattle.paths.specs.Sums.{sumBy, bit, sameRows}
-use Rattle.paths.specs.Chains.{endNode, extends, extensions, isChain, chainsWithin, chainsFrom}
+use Rattle.paths.specs.Chains.{firstAfter, extends, extensions, isChain, chainsWithin, chainsFrom}
 use Rattle.paths.proofs.SumLaws.{bit-and, sameRows-eq}
 
 and-left : (a b : Bool) → (a && b) ≡ true → a ≡ true
@@ -16,9 +16,9 @@ and-left false b h = h
 
 module _ (follows : List ℕ → ℕ → Bool) where
   -- an extending row is later
-  pub extends-endNode : (c : List ℕ) (s : ℕ) → extends follows c s ≡ true → endNode c ≤ s
+  pub extends-firstAfter : (c : List ℕ) (s : ℕ) → extends follows c s ≡ true → firstAfter c ≤ s
   unfolding extends
-  extends-endNode c s h = leb-true (endNode c) s (and-left (leb (endNode c) s) (follows c s) h)
+  extends-firstAfter c s h = leb-true (firstAfter c) s (and-left (leb (firstAfter c) s) (follows c s) h)
 
   -- two weights that agree on c's extensions have one sum there
   pub sum-extensions : (w w′ : List ℕ → ℕ) (c : List ℕ) (k : ℕ) → ((s : ℕ) → s < k → extends follows c s ≡ true → w (s ∷ c) ≡ w′ (s ∷ c))
@@ -33,8 +33,8 @@ module _ (follows : List ℕ → ℕ → Bool) where
       go false e ih = ih
 
   -- no room, no extension
-  pub no-extensions : (w : List ℕ → ℕ) (c : List ℕ) (k : ℕ) → k ≤ endNode c → sumBy w (extensions follows k c) ≡ 0
-  no-extensions w c k h = sum-extensions w (λ _. 0) c k (λ s l e. absurd (omega (arith, extends-endNode c s e))) ∙ zeros (extensions follows k c)
+  pub no-extensions : (w : List ℕ → ℕ) (c : List ℕ) (k : ℕ) → k ≤ firstAfter c → sumBy w (extensions follows k c) ≡ 0
+  no-extensions w c k h = sum-extensions w (λ _. 0) c k (λ s l e. absurd (omega (arith, extends-firstAfter c s e))) ∙ zeros (extensions follows k c)
     where
       zeros : (l : List (List ℕ)) → sumBy (λ _. 0) l ≡ 0
       zeros [] = refl
@@ -42,20 +42,20 @@ module _ (follows : List ℕ → ℕ → Bool) where
 
   module _ (n : ℕ) where
     -- any fuel that is enough counts alike
-    enough : (f g : ℕ) (c : List ℕ) → n - endNode c ≤ f → n - endNode c ≤ g → chainsWithin follows n f c ≡ chainsWithin follows n g c
+    enough : (f g : ℕ) (c : List ℕ) → n - firstAfter c ≤ f → n - firstAfter c ≤ g → chainsWithin follows n f c ≡ chainsWithin follows n g c
     unfolding chainsWithin
     enough zero zero c p q = refl
     enough zero (suc g) c p q = omega (arith, no-extensions (λ e. chainsWithin follows n g e) c n (omega arith))
     enough (suc f) zero c p q = omega (arith, no-extensions (λ e. chainsWithin follows n f e) c n (omega arith))
     enough (suc f) (suc g) c p q =
-        ap suc (sum-extensions (λ e. chainsWithin follows n f e) (λ e. chainsWithin follows n g e) c n (λ s l e. enough f g (s ∷ c) (omega (arith, extends-endNode c s e)) (omega (arith, extends-endNode c s e))))
+        ap suc (sum-extensions (λ e. chainsWithin follows n f e) (λ e. chainsWithin follows n g e) c n (λ s l e. enough f g (s ∷ c) (omega (arith, extends-firstAfter c s e)) (omega (arith, extends-firstAfter c s e))))
 
     -- document 01's recursion: c itself, and the counts of its extensions
     pub chainsFrom-step : (c : List ℕ) → chainsFrom follows n c ≡ 1 + sumBy (λ e. chainsFrom follows n e) (extensions follows n c)
     unfolding chainsFrom chainsWithin
     chainsFrom-step c =
-        let a : chainsWithin follows n (n - endNode c) c ≡ chainsWithin follows n (suc (n - endNode c)) c = enough (n - endNode c) (suc (n - endNode c)) c (omega arith) (omega arith) in
-        let b = sum-extensions (λ e. chainsWithin follows n (n - endNode c) e) (λ e. chainsFrom follows n e) c n (λ s l e. enough (n - endNode c) (n - suc s) (s ∷ c) (omega (arith, extends-endNode c s e)) (omega arith)) in
+        let a : chainsWithin follows n (n - firstAfter c) c ≡ chainsWithin follows n (suc (n - firstAfter c)) c = enough (n - firstAfter c) (suc (n - firstAfter c)) c (omega arith) (omega arith) in
+        let b = sum-extensions (λ e. chainsWithin follows n (n - firstAfter c) e) (λ e. chainsFrom follows n e) c n (λ s l e. enough (n - firstAfter c) (n - suc s) (s ∷ c) (omega (arith, extends-firstAfter c s e)) (omega arith)) in
         omega (arith, a, b)
 
     -- 1 if s is a row that extends c, 0 else

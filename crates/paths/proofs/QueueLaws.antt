@@ -9,11 +9,11 @@ use lib.Dec.{ltb, eqb}
 use lib.ListN.{length, getD, set, take}
 use lib.Seq.{take-suc-set, append-snoc, getD-set-same, getD-set-other, length-take-le}
 use borrow.Author.Tests.{eqb-true, eqb-false, lt-ltb, ltb-true}
-use Rattle.paths.specs.Chains.{endNode, extends, extensions, isChain}
+use Rattle.paths.specs.Chains.{firstAfter, extends, extensions, isChain}
 use Rattle.paths.specs.Best.{All}
 use Rattle.paths.specs.Queue.{chainAt, keyOf, entryOf, without, Rising, Key, chainsOf, Queue, Queued}
 use Rattle.paths.proofs.BestLaws.{all-map}
-use Rattle.paths.proofs.ChainLaws.{extends-endNode}
+use Rattle.paths.proofs.ChainLaws.{extends-firstAfter}
 use Rattle.paths.proofs.TableLaws.{chain-frame, chain-push, chain-root}
 use Rattle.paths.proofs.PickLaws.{all-without, rising-without}
 
@@ -39,23 +39,23 @@ and-both true b h = (refl, h)
 and-both false b h = let z : _≡_ {A = ℕ} 0 1 = cc in absurd (omega arith)
 
 module _ (follows : List ℕ → ℕ → Bool) (v : ℕ) where
-  pub chain-parts : (s : ℕ) (c : List ℕ) → isChain follows v (s ∷ c) ≡ true → (isChain follows v c ≡ true) × (s < v) × (endNode c ≤ s)
+  pub chain-parts : (s : ℕ) (c : List ℕ) → isChain follows v (s ∷ c) ≡ true → (isChain follows v c ≡ true) × (s < v) × (firstAfter c ≤ s)
   unfolding isChain
   chain-parts s c h =
       let p = and-both (isChain follows v c) (ltb s v && extends follows c s) h in
       let q = and-both (ltb s v) (extends follows c s) (p .1) in
-      (p .0, ltb-true s v (q .0), extends-endNode follows c s (q .1))
+      (p .0, ltb-true s v (q .0), extends-firstAfter follows c s (q .1))
 
   pub chain-longer : (s : ℕ) (c : List ℕ) → isChain follows v c ≡ true → s < v → extends follows c s ≡ true → isChain follows v (s ∷ c) ≡ true
   unfolding isChain
   chain-longer s c h l e = rw (h, lt-ltb s v l, e)
 
-  pub chain-end : (c : List ℕ) → isChain follows v c ≡ true → endNode c ≤ v
+  pub chain-end : (c : List ℕ) → isChain follows v c ≡ true → firstAfter c ≤ v
   chain-end [] h = omega arith
   chain-end (s ∷ c) h = chain-parts s c h .1
 
   -- a chain has no more rows than stand before its end
-  pub chain-length : (c : List ℕ) → isChain follows v c ≡ true → length c ≤ endNode c
+  pub chain-length : (c : List ℕ) → isChain follows v c ≡ true → length c ≤ firstAfter c
   chain-length [] h = omega arith
   chain-length (s ∷ c) h =
       let p = chain-parts s c h in

@@ -28,10 +28,6 @@ pub bit-le : (a : Bool) → bit a ≤ 1
 bit-le true = omega arith
 bit-le false = omega arith
 
-pub sameRows-refl : (x : List ℕ) → sameRows x x ≡ true
-sameRows-refl [] = refl
-sameRows-refl (a ∷ x) = rw (eq-eqb a a refl) (sameRows-refl x)
-
 pub sameRows-eq : (x y : List ℕ) → sameRows x y ≡ true → x ≡ y
 sameRows-eq [] [] h = refl
 sameRows-eq [] (b ∷ y) h = cc

@@ -6,15 +6,15 @@ use mathlib.Core.List.{List, [], _∷_}
 use lib.Dec.{leb, ltb}
 use Rattle.paths.specs.Sums.{sumBy}
 
--- the first row that may follow c
-abbrev pub endNode : List ℕ → ℕ
-endNode [] = 0
-endNode (r ∷ c) = suc r
+-- the first row after c's last one; its number is also that of the node at which c ends
+abbrev pub firstAfter : List ℕ → ℕ
+firstAfter [] = 0
+firstAfter (r ∷ c) = suc r
 
 module _ (follows : List ℕ → ℕ → Bool) where
   -- the row s extends c
   unfoldable pub extends : List ℕ → ℕ → Bool
-  extends c s = leb (endNode c) s && follows c s
+  extends c s = leb (firstAfter c) s && follows c s
 
   -- c's extensions by rows below k, highest row first
   unfoldable pub extensions : ℕ → List ℕ → List (List ℕ)
@@ -33,4 +33,4 @@ module _ (follows : List ℕ → ℕ → Bool) where
     chainsWithin (suc f) c = suc (sumBy (λ e. chainsWithin f e) (extensions n c))
 
     unfoldable pub chainsFrom : List ℕ → ℕ
-    chainsFrom c = chainsWithin (n - endNode c) c
+    chainsFrom c = chainsWithin (n - firstAfter c) c

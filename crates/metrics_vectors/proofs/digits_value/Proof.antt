@@ -1,8 +1,6 @@
 -- The place stays below the last one.
 use borrow.Author.Needs.{needs}
-use Prim.Native.Nat.{_+_, _-_, _≤_, _<_}
-use native.Mathlib.Omega.{arith}
-use lib.ListN.{length}
+use Prim.Native.Nat.{_-_, _≤_}
 use Rattle.metrics_vectors.proofs.digits_value.Statement.{statement}
 use Rattle.metrics_vectors.proofs.digits_value.Tie as tie
 use Rattle.metrics_vectors.proofs.digits_value.Reads as reads

@@ -1,7 +1,6 @@
 -- The place stays in the row.
 use borrow.Author.Needs.{needs}
-use Prim.Native.Nat.{_+_, _-_, _≤_, _<_}
-use native.Mathlib.Omega.{arith}
+use Prim.Native.Nat.{_-_, _≤_}
 use lib.ListN.{length}
 use Rattle.metrics_vectors.proofs.print_row.Statement.{statement}
 use Rattle.metrics_vectors.proofs.print_row.Tie as tie

@@ -5,7 +5,7 @@ use native.Mathlib.Omega.{arith}
 use mir.Syntax.{w32, w64}
 use mir.Val.{toZ, ofZ, SFits}
 use mir.ValLaws.{toZ-ofZ}
-use lib.IntN.{ℤ, pos, natAbs, _-ℤ_}
+use lib.IntN.{ℤ, pos, _-ℤ_}
 use Rattle.metrics.proofs.Ints.{small, back, entry-size, abs-minus, minus-nonneg, nonneg}
 use Rattle.metrics_vectors.proofs.print_signed.Statement.{statement}
 use Rattle.metrics_vectors.proofs.print_signed.Tie as tie

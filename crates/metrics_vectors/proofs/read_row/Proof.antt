@@ -1,8 +1,6 @@
 -- Each number read ends inside the list.
 use borrow.Author.Needs.{needs}
-use mathlib.Core.Path.{_≡_}
-use Prim.Native.Nat.{_+_, _-_, _%_, _≤_, _<_}
-use native.Mathlib.Omega.{arith}
+use Prim.Native.Nat.{_-_, _≤_, _<_}
 use lib.ListN.{length}
 use Rattle.metrics_vectors.proofs.read_row.Statement.{statement}
 use Rattle.metrics_vectors.proofs.read_row.Tie as tie

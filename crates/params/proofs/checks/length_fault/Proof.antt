@@ -4,7 +4,6 @@ use lib.ListN.{length}
 use native.Mathlib.Omega.{arith}
 use borrow.Author.Tests.{lt-ltb, le-ltb, eq-eqb, ne-eqb}
 use Rattle.params.proofs.CheckLaws.{given, passed, or-here, or-later, differ, agree, few-in-all}
-use borrow.Author.Needs.{needs}
 use Rattle.params.proofs.checks.length_fault.Statement.{statement}
 use Rattle.params.proofs.checks.length_fault.Tie as tie
 

@@ -2,7 +2,7 @@
 use native.Mathlib.Omega.{arith}
 use Prim.Native.Nat.{_-_}
 use mathlib.Core.Path.{_≡_}
-use lib.ListN.{length, length-set}
+use lib.ListN.{length}
 use Rattle.search_vectors.proofs.list.read_changes.Statement.{statement}
 use Rattle.search_vectors.proofs.list.read_changes.Tie as tie
 use Rattle.search_vectors.proofs.list.read_changes.Reads as reads

@@ -1,8 +1,7 @@
 -- The rows left fall.
 use native.Mathlib.Omega.{arith}
 use Prim.Native.Nat.{_-_}
-use mathlib.Core.Path.{_≡_}
-use lib.ListN.{length, length-set}
+use lib.ListN.{length}
 use Rattle.search_vectors.proofs.print.put_rows.Statement.{statement}
 use Rattle.search_vectors.proofs.print.put_rows.Tie as tie
 use Rattle.search_vectors.proofs.print.put_rows.Reads as reads
