@@ -15,7 +15,8 @@ use Rattle.metrics.proofs.FloatOrder.{lt-le, le-lt-trans, le-number}
 use Rattle.kplib.specs.Parts.{wholeOf, partLists}
 use Rattle.kplib.specs.Sums.{Total, totalOf}
 use Rattle.kplib.specs.Score.{start, targetOf, listScore, greaterOf, afterList, afterLists, chainScore}
-use Rattle.kplib.specs.OneToOne.{rowTotal, nodeTotal, aloneScore, latestOf, overNodes, noLone, oneToOne, loneRowsAt, loneRows}
+use Rattle.kplib.specs.Graph.{rowOf}
+use Rattle.kplib.specs.OneToOne.{rowTotal, nodeTotal, aloneScore, rowNumbered, latestOf, overNodes, noLone, oneToOne, loneRowsAt, loneRows}
 use Rattle.kplib.specs.Scoring.{Below, Tables}
 use Rattle.params.specs.declared.Settings.{Settings}
 use Rattle.kplib.specs.declared.pathscore.Scored.{Scored}
@@ -99,7 +100,7 @@ latest-below : (n : ℕ) (best : Lone) (r : ℕ) (x : Scored) → r < n → Belo
 unfolding latestOf
 latest-below n best r x h b = go (lt (whole 0) (x .seqsim)) (lt (x .score) (best .scored .score))
   where
-    go : (t u : Bool) → Below n (loneRows (cond t (cond u best (record { row = r + 1 - 1; scored = x })) best))
+    go : (t u : Bool) → Below n (loneRows (cond t (cond u best (record { row = rowNumbered (rowOf (r + 1)); scored = x })) best))
     go true true = b
     go true false = let z : r + 1 - 1 < n = omega arith in target-below n (r + 1 - 1) (x .target) z
     go false u = b

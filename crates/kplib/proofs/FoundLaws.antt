@@ -35,7 +35,7 @@ lone-few (Partial n) r = omega arith
 
 -- what the one-to-one match answers
 pub alone-answers : (s : Settings) (t : Table) (p : Parts) (lone : Lone) (n : ℕ) (r : Answer) (rows rows' : List ℕ) → lone ≡ oneToOne s (t .sizes) (t .features) (p .sizes) (p .features)
-    → (n ≡ length (loneRowsAt (lone .scored .target) (lone .row))) × (rows' ≡ placed rows (loneRowsAt (lone .scored .target) (lone .row)))
+    → (n ≡ length (loneRowsAt (lone .scored .target) (lone .row .0))) × (rows' ≡ placed rows (loneRowsAt (lone .scored .target) (lone .row .0)))
     → r ≡ answerParts 0 n (lone .scored) (length (t .starts) + 2) true
     → (r ≡ answerWith 0 (matchedAlone s t p)) × (rows' ≡ placed rows (matchedAlone s t p .rows))
 unfolding matchedAlone

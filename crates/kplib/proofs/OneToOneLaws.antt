@@ -19,12 +19,14 @@ use Rattle.params.specs.Checked.{rowAt}
 use Rattle.kplib.specs.Parts.{wholeOf}
 use Rattle.kplib.specs.Sums.{zeros, sizeOf, featuresOf, Total}
 use Rattle.kplib.specs.Score.{sign, gapOf, scoreValue, seqsimOfRows, listScore, greaterOf, afterList, start}
-use Rattle.kplib.specs.OneToOne.{anchorTotal, rowTotal, nodeTotal, aloneScore, latestOf, overNodes, noLone, oneToOne}
+use Rattle.kplib.specs.Graph.{nodeOf}
+use Rattle.kplib.specs.OneToOne.{anchorTotal, rowTotal, nodeTotal, aloneScore, rowNumbered, latestOf, overNodes, noLone, oneToOne}
 use Rattle.kplib.specs.Scoring.{Tables, Summable, Comparable, total, Matching, Matchable}
 use Rattle.params.specs.declared.Settings.{Settings}
 use Rattle.kplib.specs.declared.pathscore.Scored.{Scored}
 use Rattle.kplib.specs.declared.pathscore.Verdict.{Verdict}
 use Rattle.kplib.specs.declared.pathscore.Verdict.the-variants.{Skipped, Scores}
+use Rattle.kplib.specs.declared.vargraph.Row.{Row}
 use Rattle.kplib.specs.declared.onetoone.Lone.{Lone}
 use Rattle.kplib.proofs.WordLaws.{back}
 use Rattle.kplib.proofs.CodeLaws.{whole-below, whole-length}
@@ -33,14 +35,14 @@ use Rattle.kplib.proofs.RowSumLaws.{summable, features-length, features
 use Rattle.kplib.proofs.AnchorLaws.{anchor-seqsim}
 
 -- ---- which way `latestOf` goes
-pub latest-old : (best : Lone) (r : ℕ) (x : Scored) → lt (whole 0) (x .seqsim) ≡ true → lt (x .score) (best .scored .score) ≡ true → best ≡ latestOf best (r + 1) x
+pub latest-old : (best : Lone) (r : Row) (x : Scored) → lt (whole 0) (x .seqsim) ≡ true → lt (x .score) (best .scored .score) ≡ true → best ≡ latestOf best (nodeOf (r .0)) x
 unfolding latestOf
 latest-old best r x t u = rw (t, u)
 
-pub latest-new : (best : Lone) (r : ℕ) (x : Scored) → lt (whole 0) (x .seqsim) ≡ true → lt (x .score) (best .scored .score) ≡ false
-    → _≡_ {A = Lone} (record { row = r; scored = x }) (latestOf best (r + 1) x)
+pub latest-new : (best : Lone) (r : Row) (x : Scored) → lt (whole 0) (x .seqsim) ≡ true → lt (x .score) (best .scored .score) ≡ false
+    → _≡_ {A = Lone} (record { row = r; scored = x }) (latestOf best (nodeOf (r .0)) x)
 unfolding latestOf
-latest-new best r x t u = let z : r + 1 - 1 ≡ r = omega arith in rw (t, u, z)
+latest-new best r x t u = let z : r .0 + 1 - 1 ≡ r .0 = omega arith in rw (t, u, z)
 
 pub no-candidate : (best : Lone) (node : ℕ) (x : Scored) → lt (whole 0) (x .seqsim) ≡ false → best ≡ latestOf best node x
 unfolding latestOf
@@ -119,11 +121,11 @@ module _ (s : Settings) (sizes features partSizes partFeatures : List ℤ) (y : 
   abbrev pub Matched : Lone → ℕ → Type 0
   Matched best r = overNodes nodeStep best (r + 1) (length sizes + 1 - r) ≡ oneToOne s sizes features partSizes partFeatures
 
-  pub none-matched : (none : Scored) → none ≡ start → Matched (record { row = 0; scored = none }) 0
+  pub none-matched : (none : Scored) → none ≡ start → Matched (record { row = rowNumbered 0; scored = none }) 0
   unfolding oneToOne
   none-matched none k =
       let n : length sizes + 2 ≡ suc (length sizes + 1 - 0) = omega arith in
-      ap (λ (x : Scored). overNodes nodeStep (record { row = 0; scored = x }) (0 + 1) (length sizes + 1 - 0)) k
+      ap (λ (x : Scored). overNodes nodeStep (record { row = rowNumbered 0; scored = x }) (0 + 1) (length sizes + 1 - 0)) k
       ∙ ap (λ (b : Lone). overNodes nodeStep b (0 + 1) (length sizes + 1 - 0)) (sym (source-step noLone))
       ∙ sym (nodes-step noLone 0 (length sizes + 2) (length sizes + 1 - 0) n)
 

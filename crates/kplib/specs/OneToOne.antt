@@ -15,6 +15,8 @@ use Rattle.params.specs.declared.Settings.{Settings}
 use Rattle.kplib.specs.declared.pathscore.Scored.{Scored}
 use Rattle.kplib.specs.declared.pathscore.Target.{Target}
 use Rattle.kplib.specs.declared.pathscore.Target.the-variants.{Nothing, Whole, Partial}
+use Rattle.kplib.specs.Graph.{rowOf}
+use Rattle.kplib.specs.declared.vargraph.Row.{Row}
 use Rattle.kplib.specs.declared.onetoone.Lone.{Lone}
 
 -- source and sink have size 0 and zero features; a lone node's length is 1
@@ -25,7 +27,7 @@ anchorTotal e = record { size = pos 0; features = zeros e; count = 1 }
 abbrev pub rowTotal : ℕ → List ℤ → List ℤ → ℕ → Total
 rowTotal e sizes features r = record { size = getD sizes r (pos 0); features = rowAt e features r; count = 1 }
 
--- node 0 is the source, V + 1 the sink, variant row r is node r + 1
+-- a node past the rows is the sink
 unfoldable pub nodeTotal : ℕ → List ℤ → List ℤ → ℕ → Total
 unfolding zeros
 nodeTotal e sizes features zero = anchorTotal e
@@ -36,10 +38,13 @@ unfoldable pub aloneScore : Settings → List ℤ → List ℤ → Total → Sco
 unfolding afterList positionsFrom
 aloneScore s partSizes partFeatures node = afterList s (4 ^ s .k) partSizes partFeatures node start (wholeOf (length partSizes))
 
+abbrev pub rowNumbered : ℕ → Row
+rowNumbered r = record { 0 = r }
+
 -- a candidate has seqsim above 0 (what the scoring does not accept has 0.0); the highest score, the latest node among equals
 unfoldable pub latestOf : Lone → ℕ → Scored → Lone
 latestOf best node x =
-    cond (lt (whole 0) (x .seqsim)) (cond (lt (x .score) (best .scored .score)) best (record { row = node - 1; scored = x })) best
+    cond (lt (whole 0) (x .seqsim)) (cond (lt (x .score) (best .scored .score)) best (record { row = rowNumbered (rowOf node); scored = x })) best
 
 -- so many nodes, from one on
 unfoldable pub overNodes : (Lone → ℕ → Lone) → Lone → ℕ → ℕ → Lone
@@ -47,7 +52,7 @@ overNodes step best node zero = best
 overNodes step best node (suc more) = overNodes step (step best node) (suc node) more
 
 abbrev pub noLone : Lone
-noLone = record { row = 0; scored = start }
+noLone = record { row = rowNumbered 0; scored = start }
 
 unfoldable pub oneToOne : Settings → List ℤ → List ℤ → List ℤ → List ℤ → Lone
 unfolding latestOf overNodes nodeTotal aloneScore
@@ -62,4 +67,4 @@ loneRowsAt Whole r = r ∷ []
 loneRowsAt (Partial n) r = r ∷ []
 
 abbrev pub loneRows : Lone → List ℕ
-loneRows x = loneRowsAt (x .scored .target) (x .row)
+loneRows x = loneRowsAt (x .scored .target) (x .row .0)

@@ -1,6 +1,7 @@
 // The one-to-one match: each row alone against the whole haplotype (traverse.rs, one_to_one).
 ghost use mathlib.Core.Path.{_≡_};
 ghost use Prim.Native.Nat.{ℕ, _+_, _≤_};
+ghost use Rattle.kplib.specs.Graph.{nodeOf};
 ghost use Rattle.kplib.specs.OneToOne.{latestOf, oneToOne};
 ghost use Rattle.kplib.specs.Scoring.{Matchable, Matching};
 use crate::haplotype::all_positions;
@@ -10,18 +11,19 @@ use crate::pathscore::greater_of;
 use crate::pathscore::list_score;
 use crate::pathscore::nothing;
 use crate::pathscore::sum_rows;
+use crate::vargraph::Row;
 use params::Settings;
 
 // The best node's row. Where its target is `Nothing` no node matched, and the row means nothing.
 pub(crate) struct Lone {
-    pub row: u32,
+    pub row: Row,
     pub scored: Scored,
 }
 
 // The later of two where it is a candidate and scores no less.
-fn latest_of(best: Lone, row: u32, x: Scored) -> Lone
-    requires { ⌜ row ≤ 64 ⌝ }
-    ensures { λ r. ⌜ r ≡ latestOf best (row + 1) x ⌝ }
+fn latest_of(best: Lone, row: Row, x: Scored) -> Lone
+    requires { ⌜ row .0 ≤ 64 ⌝ }
+    ensures { λ r. ⌜ r ≡ latestOf best (nodeOf (row .0)) x ⌝ }
 {
     if 0.0 < x.seqsim {
         let old = best.scored;
@@ -48,7 +50,7 @@ fn match_rows(
 {
     let none = nothing();
     let mut best = Lone {
-        row: 0,
+        row: Row(0),
         scored: none,
     };
     let width = whole_row.len();
@@ -59,7 +61,8 @@ fn match_rows(
         let e = a + width;
         let verdict = list_score(s, sizes[r], &features[a..e], 1, whole_size, whole_row, m, 0);
         let x = greater_of(nothing(), 0, verdict);
-        best = latest_of(best, r as u32, x);
+        let row = Row(r as u32);
+        best = latest_of(best, row, x);
         r += 1;
     }
     best

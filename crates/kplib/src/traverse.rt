@@ -27,6 +27,7 @@ use crate::queue::queue_extensions;
 use crate::queue::read_chain;
 use crate::queue::rows_size;
 use crate::queue::take_next;
+use crate::vargraph::Row;
 use params::Settings;
 use params::checks::call_fault;
 use params::graphparams::search_mode;
@@ -295,12 +296,12 @@ fn place_chain(
 }
 
 // A single row, where the haplotype matched it.
-fn place_row(row: u32, target: Target, rows: &mut [u32]) -> usize
+fn place_row(row: Row, target: Target, rows: &mut [u32]) -> usize
     requires { ⌜ 1 ≤ length (now rows) ⌝ }
-    ensures { λ r. ⌜ (r ≡ length (loneRowsAt target row)) × (now (rows .exit) ≡ placed (now (rows .entry)) (loneRowsAt target row)) ⌝ }
+    ensures { λ r. ⌜ (r ≡ length (loneRowsAt target (row .0))) × (now (rows .exit) ≡ placed (now (rows .entry)) (loneRowsAt target (row .0))) ⌝ }
 {
     if matched(target) {
-        rows[0] = row;
+        rows[0] = row.0;
         return 1;
     }
     0

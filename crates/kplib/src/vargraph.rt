@@ -11,10 +11,10 @@ ghost use Rattle.kplib.specs.Graph.{nodeOf, rowOf, edge, chainsOf, cappe
 ghost use Rattle.kplib.specs.GraphWalk.{extendsAt, Rows, Walk};
 
 // A variant's row in the table, from 0.
-pub struct Row(pub u32);
+pub(crate) struct Row(pub u32);
 
 // A node of the graph: 0 is the source, then the rows, and the sink.
-pub struct Node(pub u32);
+pub(crate) struct Node(pub u32);
 
 pub(crate) fn node_of(row: Row) -> Node
     requires { ⌜ row .0 < 4294967295 ⌝ }

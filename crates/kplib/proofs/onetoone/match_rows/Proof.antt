@@ -74,8 +74,8 @@ nothing-requires-2 c κs = search needs
 greater-of-requires : tie.Need-greater-of-requires Inv-loop μ-loop
 greater-of-requires c κs = search needs
 
-cast-latest-of : tie.Need-cast-latest-of Inv-loop μ-loop
-cast-latest-of c = omega (arith, c .before .before .before .before .before .before .before .before .pre .tables .sized .few, c .before .before .before .before .before .loop-test .taken)
+cast-t29 : tie.Need-cast-t29 Inv-loop μ-loop
+cast-t29 c = omega (arith, c .before .before .before .before .before .before .before .before .pre .tables .sized .few, c .before .before .before .before .before .loop-test .taken)
 
 latest-of-requires : tie.Need-latest-of-requires Inv-loop μ-loop
 latest-of-requires c κs = omega (arith, c .before .before .before .before .before .before .before .before .pre .tables .sized .few, c .before .before .before .before .before .loop-test .taken)
@@ -116,7 +116,7 @@ match-rows-spec =
     list-score-requires
     nothing-requires-2
     greater-of-requires
-    cast-latest-of
+    cast-t29
     latest-of-requires
     add-r
     loop-less

@@ -18,7 +18,7 @@ add-answer-with c = search needs
 answer-with-requires : tie.Need-answer-with-requires
 answer-with-requires c κs =
     let h = c .before .before .before .before .before .before .before .before .before .pre .0 in
-    (omega (arith, c .before .before .place-row .ensures .0, lone-few (c .before .before .before .before .before .alone .result .scored .target) (c .before .before .before .before .before .alone .result .row)), omega (arith, h .sized .few, h .sizes-are))
+    (omega (arith, c .before .before .place-row .ensures .0, lone-few (c .before .before .before .before .before .alone .result .scored .target) (c .before .before .before .before .before .alone .result .row .0)), omega (arith, h .sized .few, h .sizes-are))
 
 same-length : tie.Need-same-length
 same-length c = search needs

@@ -17,10 +17,10 @@ same-length : tie.Need-same-length
 same-length c = search needs
 
 returns : tie.Need-returns
-returns c = placed-row (c .before .before .before .args .target) (c .before .before .before .args .row) (now (c .before .before .before .args .rows)) (sym (c .before .matched .ensures) ∙ c .if1 .taken) (omega arith)
+returns c = placed-row (c .before .before .before .args .target) (c .before .before .before .args .row .0) (now (c .before .before .before .args .rows)) (sym (c .before .matched .ensures) ∙ c .if1 .taken) (omega arith)
 
 returns-2 : tie.Need-returns-2
-returns-2 c = placed-no-row (c .before .before .before .args .target) (c .before .before .before .args .row) (now (c .before .before .before .args .rows)) (sym (c .before .matched .ensures) ∙ c .if1 .left)
+returns-2 c = placed-no-row (c .before .before .before .args .target) (c .before .before .before .args .row .0) (now (c .before .before .before .args .rows)) (sym (c .before .matched .ensures) ∙ c .if1 .left)
 
 pub place-row-spec : {M : Type 1} → statement M
 place-row-spec =
