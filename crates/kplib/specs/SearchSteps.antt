@@ -131,13 +131,6 @@ pub record Startable (s : Settings) (t : Table) (p : Parts) (parentRoom lastRoom
   pub last-room : 1 + (s .maxpaths + 1) * length (t .starts) ≤ lastRoom
   pub key-room : 1 + (s .maxpaths + 1) * length (t .starts) ≤ keyRoom
 
--- how long the scratch is
-pub record Scratch (codes listSizes chainRow listRow : ℕ) : Type 0 where
-  pub codes-are : codes ≡ 2047
-  pub sizes-are : listSizes ≡ 2047
-  pub chain-row : chainRow ≡ 4096
-  pub list-row : listRow ≡ 4096
-
 -- an accepted job with its rooms
 pub record Acceptable (s : Settings) (t : Table) (p : Parts) (parentRoom lastRoom keyRoom answerRoom : ℕ) : Type 0 where
   pub checked : Checked s (t .starts) (t .ends) (t .sizes) (t .features) (p .sizes) (p .features)

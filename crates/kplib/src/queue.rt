@@ -1,7 +1,8 @@
 // The queue of the search, in three lent slices. Entries are only ever added: an entry has a parent and the row that it adds to
 // the parent's chain. `keys` holds, for each entry still queued, its distance × 2^20 + its number, in the order of queueing.
 ghost use mathlib.Core.Path.{_≡_};
-ghost use Prim.Native.Nat.{_+_, _-_, _<_, _≤_};
+ghost use mathlib.Core.Bool.{false};
+ghost use Prim.Native.Nat.{ℕ, _+_, _-_, _<_, _≤_};
 ghost use lib.ListN.{length, getD, take, drop};
 ghost use lib.IntN.{natAbs, _-ℤ_};
 ghost use mathlib.Core.List.{reverse};
@@ -15,20 +16,51 @@ use crate::vargraph::Row;
 use crate::vargraph::extends;
 use crate::vargraph::node_of;
 
-// The place of the least of the first `queued` keys.
+// Says false only where no key from place `from` up to `to` is below `key`: the difference to a lower one wraps, and shows in the
+// highest bit. With no early exit this becomes vector instructions, which compare no such keys.
+fn may_hold_below(keys: &[u64], from: usize, to: usize, key: u64) -> bool
+    requires { do ⌜ to ≤ (← ⟦keys.len()⟧) ⌝ }
+    ensures { λ r. ⌜ (r ≡ false → (j : ℕ) → j < to → from ≤ j → key ≤ getD (now (keys .entry)) j 0) ⌝ }
+{
+    let mut seen = key;
+    let mut i = from;
+    while i < to {
+        seen = seen | std::num::wrapping_sub_u64(keys[i], key);
+        i += 1;
+    }
+    seen >= 9223372036854775808
+}
+
+// The place of the least of the first `to` keys, where `place` is that of the first `from`.
+fn least_through(keys: &[u64], place: usize, from: usize, to: usize) -> usize
+    requires { do ⌜ (from ≤ to) × (to ≤ (← ⟦keys.len()⟧)) × Least (now keys) from place ⌝ }
+    ensures { λ r. ⌜ Least (now (keys .entry)) to r ⌝ }
+{
+    let mut at = place;
+    let mut i = from;
+    while i < to {
+        if keys[i] < keys[at] {
+            at = i;
+        }
+        i += 1;
+    }
+    at
+}
+
+// The place of the least of the first `queued` keys. Most blocks of 64 hold none below the least so far, and are passed over.
 fn least(keys: &[u64], queued: usize) -> usize
     requires { do ⌜ (0 < queued) × (queued ≤ (← ⟦keys.len()⟧)) ⌝ }
     ensures { λ r. ⌜ Least (now (keys .entry)) queued r ⌝ }
 {
     let mut place: usize = 0;
-    let mut i: usize = 1;
-    while i < queued {
-        if keys[i] < keys[place] {
-            place = i;
+    let mut at: usize = 1;
+    while queued - at >= 64 {
+        if may_hold_below(keys, at, at + 64, keys[place]) {
+            place = least_through(keys, place, at, at + 64);
         }
-        i += 1;
+        at += 64;
     }
-    place
+    least_through(keys, place, at, queued)
 }
 
 // Takes out the key at `place`: the later ones move down over it.

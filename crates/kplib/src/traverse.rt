@@ -11,7 +11,7 @@ ghost use Rattle.kplib.specs.OneToOne.{oneToOne, loneRowsAt};
 ghost use Rattle.kplib.specs.Scoring.{Tables};
 ghost use Rattle.kplib.specs.Search.{rowsFor};
 ghost use Rattle.kplib.specs.Answer.{searched, matchedAlone, foundAfter, answerWith, queueRoom, answerOf, rowsOf, placed, searches};
-ghost use Rattle.kplib.specs.SearchSteps.{answerParts, laterOf, advanced, matchedBy, Weighable, WeighedAs, Searchable, Going, Gone, Startable, Scratch, Acceptable};
+ghost use Rattle.kplib.specs.SearchSteps.{answerParts, laterOf, advanced, matchedBy, Weighable, WeighedAs, Searchable, Going, Gone, Startable, Acceptable};
 use crate::haplotype::lay_lists;
 use crate::haplotype::whole_size;
 use crate::onetoone::Lone;
@@ -324,61 +324,7 @@ fn answer_with(refusal: u32, rows: usize, x: Scored, count: usize, complete: boo
     }
 }
 
-// The search with lent scratch: the part lists are laid down once, the empty chain is queued, and then it runs.
-fn search_with(
-    s: Settings,
-    starts: &[u64],
-    ends: &[u64],
-    sizes: &[i32],
-    features: &[i32],
-    part_sizes: &[i32],
-    part_features: &[i32],
-    parents: &mut [u32],
-    lasts: &mut [u32],
-    keys: &mut [u64],
-    codes: &mut [u32],
-    list_sizes: &mut [i32],
-    chain_row: &mut [i32],
-    list_row: &mut [i32],
-) -> Progress
-    requires { ⌜ Startable s (tableOf (now starts) (now ends) (now sizes) (now features)) (partsOf (now «part_sizes») (now «part_features»)) (length (now parents)) (length (now lasts)) (length (now keys)) ⌝ }
-    requires { ⌜ Scratch (length (now codes)) (length (now «list_sizes»)) (length (now «chain_row»)) (length (now «list_row»)) ⌝ }
-    ensures { λ r. ⌜ Gone s (tableOf (now (starts .entry)) (now (ends .entry)) (now (sizes .entry)) (now (features .entry))) (partsOf (now («part_sizes» .entry)) (now («part_features» .entry))) (now (parents .exit)) (now (lasts .exit)) r ⌝ }
-{
-    let width = entries(s.k);
-    let count = lay_lists(s, part_sizes, codes, list_sizes);
-    let target = whole_size(part_sizes);
-    keys[0] = key(0, target, 0);
-    let scored = nothing();
-    let best = Leader { entry: 0, scored };
-    let from = Progress {
-        used: 1,
-        queued: 1,
-        count: 0,
-        best,
-    };
-    run(
-        s,
-        starts,
-        ends,
-        sizes,
-        features,
-        part_sizes,
-        part_features,
-        codes,
-        list_sizes,
-        count,
-        target,
-        parents,
-        lasts,
-        keys,
-        &mut chain_row[..width],
-        &mut list_row[..width],
-        from,
-    )
-}
-
-// The search, with its scratch: codes and sizes of at most 2,047 part lists, and two feature rows.
+// The search, with its scratch: codes and sizes of at most 2,047 part lists, laid down once, and two feature rows.
 fn search(
     s: Settings,
     starts: &[u64],
@@ -398,7 +344,19 @@ fn search(
     let mut list_sizes = [0i32; 2047];
     let mut chain_row = [0i32; 4096];
     let mut list_row = [0i32; 4096];
-    search_with(
+    let width = entries(s.k);
+    let count = lay_lists(s, part_sizes, &mut codes, &mut list_sizes);
+    let target = whole_size(part_sizes);
+    keys[0] = key(0, target, 0);
+    let scored = nothing();
+    let best = Leader { entry: 0, scored };
+    let from = Progress {
+        used: 1,
+        queued: 1,
+        count: 0,
+        best,
+    };
+    run(
         s,
         starts,
         ends,
@@ -406,13 +364,16 @@ fn search(
         features,
         part_sizes,
         part_features,
+        &codes,
+        &list_sizes,
+        count,
+        target,
         parents,
         lasts,
         keys,
-        &mut codes,
-        &mut list_sizes,
-        &mut chain_row,
-        &mut list_row,
+        &mut chain_row[..width],
+        &mut list_row[..width],
+        from,
     )
 }
 
@@ -454,31 +415,6 @@ fn answer_search(
     answer_with(0, n, scored, end.count, end.queued == 0)
 }
 
-// The one-to-one match with lent scratch.
-fn alone_with(
-    s: Settings,
-    sizes: &[i32],
-    features: &[i32],
-    part_sizes: &[i32],
-    part_features: &[i32],
-    chosen: &mut [u32],
-    whole_row: &mut [i32],
-) -> Lone
-    requires { ⌜ (1 ≤ s .k) × (s .k ≤ 6) × (Tables s (now sizes) (now features) (now «part_sizes») (now «part_features»)) × (length (now chosen) ≡ 64) × (length (now «whole_row») ≡ 4096) ⌝ }
-    ensures { λ r. ⌜ r ≡ (oneToOne s (now (sizes .entry)) (now (features .entry)) (now («part_sizes» .entry)) (now («part_features» .entry))) ⌝ }
-{
-    let width = entries(s.k);
-    one_to_one(
-        s,
-        sizes,
-        features,
-        part_sizes,
-        part_features,
-        chosen,
-        &mut whole_row[..width],
-    )
-}
-
 // The one-to-one match, with its scratch.
 fn alone(
     s: Settings,
@@ -492,14 +428,15 @@ fn alone(
 {
     let mut chosen = [0u32; 64];
     let mut whole_row = [0i32; 4096];
-    alone_with(
+    let width = entries(s.k);
+    one_to_one(
         s,
         sizes,
         features,
         part_sizes,
         part_features,
         &mut chosen,
-        &mut whole_row,
+        &mut whole_row[..width],
     )
 }
 

@@ -1,37 +1,46 @@
--- The place is that of the least key so far, and each further key is compared with it.
-use mathlib.Core.Path.{_≡_}
+-- The place is that of the least key of all blocks so far; a block that holds none below it leaves it where it is.
 use Prim.Native.Nat.{_-_, _≤_}
 use native.Mathlib.Omega.{arith}
 use mathlib.Core.Logic.{⊎-elim}
 use denote.Ref.{now}
+use borrow.Author.Needs.{needs}
 use Rattle.paths.specs.Queue.{Least}
-use Rattle.kplib.proofs.ScanLaws.{one, nearer, farther}
+use Rattle.kplib.proofs.ScanLaws.{one, passed-over}
 use Rattle.kplib.proofs.queue.least.Statement.{statement}
 use Rattle.kplib.proofs.queue.least.Tie as tie
 
 abbrev Inv-loop : tie.InvT-loop
-Inv-loop keys queued place₀ i₀ place i = (i ≤ queued) × Least keys i place
+Inv-loop keys queued place₀ at₀ place at = (at ≤ queued) × Least keys at place
 
 abbrev μ-loop : tie.MeasureT-loop
-μ-loop keys queued place₀ i₀ place i = queued - i
+μ-loop keys queued place₀ at₀ place at = queued - at
 
 loop-holds : tie.Need-loop-holds Inv-loop μ-loop
-loop-holds c = (omega arith, one (now (c .args .keys)))
+loop-holds c = (omega arith, one (now (c .before .args .keys)))
 
-mul-if1 : tie.Need-mul-if1 Inv-loop μ-loop
-mul-if1 c = omega arith
+sub-loop : tie.Need-sub-loop Inv-loop μ-loop
+sub-loop c = omega arith
 
-shared-slice-read-if1 : tie.Need-shared-slice-read-if1 Inv-loop μ-loop
-shared-slice-read-if1 c = omega arith
+add-may-hold-below : tie.Need-add-may-hold-below Inv-loop μ-loop
+add-may-hold-below c = omega arith
 
-mul-if1-2 : tie.Need-mul-if1-2 Inv-loop μ-loop
-mul-if1-2 c = omega arith
+mul-may-hold-below : tie.Need-mul-may-hold-below Inv-loop μ-loop
+mul-may-hold-below c = omega arith
 
-shared-slice-read-if1-2 : tie.Need-shared-slice-read-if1-2 Inv-loop μ-loop
-shared-slice-read-if1-2 c = omega arith
+shared-slice-read-may-hold-below : tie.Need-shared-slice-read-may-hold-below Inv-loop μ-loop
+shared-slice-read-may-hold-below c = omega arith
 
-add-i : tie.Need-add-i Inv-loop μ-loop
-add-i c = omega arith
+may-hold-below-requires : tie.Need-may-hold-below-requires Inv-loop μ-loop
+may-hold-below-requires c κs = omega arith
+
+add-least-through : tie.Need-add-least-through Inv-loop μ-loop
+add-least-through c = omega arith
+
+least-through-requires : tie.Need-least-through-requires Inv-loop μ-loop
+least-through-requires c κs = (omega arith, omega arith, c .before .before .before .before .loop .inv .1)
+
+add-at : tie.Need-add-at Inv-loop μ-loop
+add-at c = omega arith
 
 loop-less : tie.Need-loop-less Inv-loop μ-loop
 loop-less c = omega arith
@@ -39,14 +48,15 @@ loop-less c = omega arith
 loop-again : tie.Need-loop-again Inv-loop μ-loop
 loop-again c =
     let l = c .before .before .before .before .loop in
-    let k = now (c .before .before .before .before .before .args .keys) in
-    ⊎-elim (λ w. (omega arith, rw (w .1) (nearer k (l .i) (l .place) (l .inv .1) (w .0 .taken))))
-    (λ w. (omega arith, rw (w .1) (farther k (l .i) (l .place) (l .inv .1) (w .0 .left)))) (c .if1 .came)
+    let k = now (c .before .before .before .before .before .before .args .keys) in
+    ⊎-elim (λ w. (omega arith, rw (w .2) (w .1 .ensures)))
+    (λ w. (omega arith, rw (w .1) (passed-over k (l .at) _ (l .place) (l .inv .1) (omega arith) (c .before .may-hold-below .ensures (w .0 .left))))) (c .if1 .came)
+
+least-through-requires-2 : tie.Need-least-through-requires-2 Inv-loop μ-loop
+least-through-requires-2 c κs = (omega arith, omega arith, c .before .loop .inv .1)
 
 returns : tie.Need-returns Inv-loop μ-loop
-returns c =
-    let e : c .before .loop .i ≡ c .before .before .args .queued = omega arith in
-    rw e at (c .before .loop .inv .1)
+returns c = search needs
 
 pub least-spec : {M : Type 1} → statement M
 least-spec =
@@ -55,11 +65,15 @@ least-spec =
     Inv-loop
     μ-loop
     loop-holds
-    mul-if1
-    shared-slice-read-if1
-    mul-if1-2
-    shared-slice-read-if1-2
-    add-i
+    sub-loop
+    add-may-hold-below
+    mul-may-hold-below
+    shared-slice-read-may-hold-below
+    may-hold-below-requires
+    add-least-through
+    least-through-requires
+    add-at
     loop-less
     loop-again
+    least-through-requires-2
     returns)
