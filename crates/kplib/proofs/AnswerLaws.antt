@@ -12,7 +12,7 @@ use lib.ListN.{length}
 use lib.Ieee.{Float, lt, le, isNan, ofInt}
 use Rattle.metrics.specs.Similarity.{whole}
 use Rattle.metrics.proofs.FloatOrder.{lt-le, le-lt-trans, le-number}
-use Rattle.kplib.specs.Parts.{wholeOf, partLists}
+use Rattle.kplib.specs.Parts.{partLists}
 use Rattle.kplib.specs.Sums.{Total, totalOf}
 use Rattle.kplib.specs.Score.{start, targetOf, listScore, greaterOf, afterList, afterLists, chainScore}
 use Rattle.kplib.specs.Graph.{rowOf}

@@ -2,14 +2,13 @@
 use mathlib.Core.Path.{_≡_, refl, sym, _∙_}
 use Prim.Native.Nat.{ℕ, zero, suc}
 use native.Mathlib.Omega.{arith}
-use mathlib.Core.Bool.{cond}
 use mathlib.Core.List.{List}
 use lib.Dec.{eqb}
 use lib.ListN.{length}
-use borrow.Author.Tests.{ltb-false, eqb-true, ne-eqb, not-false}
+use borrow.Author.Tests.{ltb-false, eqb-true, not-false}
 use Rattle.kplib.specs.declared.vargraph.ChainCount.the-variants.{Chains, Refused}
 use Rattle.params.specs.Numbers.{chainCountRules, chainCountFault}
-use Rattle.kplib.specs.Graph.{countCase, countNumber, countValue}
+use Rattle.kplib.specs.Graph.{countCase}
 use Rattle.kplib.specs.GraphWalk.{Walk}
 use Rattle.params.proofs.CheckLaws.{none-given}
 

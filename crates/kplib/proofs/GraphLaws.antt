@@ -8,11 +8,10 @@ use mathlib.Core.List.{List, [], _∷_}
 use lib.Dec.{leb}
 use lib.ListN.{length}
 use borrow.Author.Tests.{le-leb, lt-leb}
-use Rattle.paths.specs.Chains.{firstAfter, extends, isChain, chainsFrom}
-use Rattle.metrics.specs.Similarity.{overlapsOf}
-use Rattle.paths.specs.Count.{mayFollow, chainCount, rowCountWithin, sumRows}
+use Rattle.paths.specs.Chains.{firstAfter, extends, chainsFrom}
+use Rattle.paths.specs.Count.{mayFollow}
 use Rattle.paths.proofs.CountLaws.{doc-full, doc-bare}
-use Rattle.kplib.specs.Graph.{edge, mayFollowIn, extendsIn, isChainIn, chainsOf}
+use Rattle.kplib.specs.Graph.{edge, mayFollowIn, extendsIn, chainsOf}
 use Rattle.kplib.specs.GraphWalk.{extendsAt}
 
 and-false : (b : Bool) → (b && false) ≡ false

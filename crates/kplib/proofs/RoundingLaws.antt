@@ -1,6 +1,6 @@
 -- Rounded addition, subtraction and halving keep the order of floats, so a list scores no more than it would with seqsim 1.0, whatever the settings. Assumes nothing.
 use mathlib.Core.Path.{_≡_, refl, sym, ap, _∙_, subst}
-use mathlib.Core.Bool.{Bool, true, false, not, cond}
+use mathlib.Core.Bool.{Bool, true, false, cond}
 use Prim.Native.Nat.{ℕ, zero, suc, _+_, _-_, _*_, _/_, _%_, _^_, _≤_, _<_, compare}
 use native.Mathlib.Nat.{mul-assoc, mul-comm, mul-left-comm, add-mul, mul-pos, mul-le-mul-right}
 use native.Mathlib.Omega.{arith}

@@ -13,7 +13,6 @@ use Rattle.kplib.specs.Scoring.{Below, Tables, LaidDown, Scorable}
 use Rattle.kplib.specs.Answer.{placed}
 use Rattle.kplib.specs.SearchSteps.{Rowed, WeighedAs}
 use Rattle.params.specs.declared.Settings.{Settings}
-use Rattle.kplib.specs.declared.pathscore.Scored.{Scored}
 use Rattle.kplib.specs.declared.traverse.Weighed.{Weighed}
 
 pub cut : (x : List ℕ) (n r : ℕ) {c : List ℕ} → length x ≡ n → (r ≤ length x) × (drop r x ≡ c) → take (n - r) (drop r x) ≡ c

@@ -4,7 +4,7 @@ use mathlib.Core.Bool.{Bool, not}
 use mathlib.Core.List.{List}
 use lib.ListN.{length, getD}
 use Rattle.metrics.specs.Similarity.{overlapsOf}
-use Rattle.paths.specs.Chains.{extends, extensions, isChain}
+use Rattle.paths.specs.Chains.{extends, isChain}
 use Rattle.paths.specs.Count.{mayFollow, chainCount}
 use Rattle.params.specs.Numbers.{chainCountFault}
 use Rattle.kplib.specs.declared.vargraph.ChainCount.{ChainCount}

@@ -6,7 +6,7 @@ use mathlib.Core.Bool.{Bool, true, false, _&&_}
 use mathlib.Core.List.{List, [], _∷_, _++_}
 use lib.Dec.{eqb}
 use lib.ListN.{length}
-use borrow.Author.Tests.{eqb-true, eq-eqb}
+use borrow.Author.Tests.{eqb-true}
 use Rattle.paths.specs.Sums.{sumBy, bit, sameRows}
 
 pub sum-append : {A : Type 0} (w : A → ℕ) (a b : List A) → sumBy w (a ++ b) ≡ sumBy w a + sumBy w b

@@ -1,5 +1,4 @@
 -- The positions left fall. There is no list where too few are left, one where no more are asked for; else those that take p, then those that do not.
-use mathlib.Core.Path.{_≡_}
 use native.Mathlib.Omega.{arith}
 use Prim.Native.Nat.{ℕ, _-_, _<_}
 use lib.ListN.{length, length-set}

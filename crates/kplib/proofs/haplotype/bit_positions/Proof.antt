@@ -1,10 +1,10 @@
 -- The positions chosen so far, and those of the bits that are left, are the whole list.
-use mathlib.Core.Path.{_≡_, refl, sym, ap, _∙_}
+use mathlib.Core.Path.{_≡_, refl}
 use native.Mathlib.Omega.{arith}
 use borrow.Author.Needs.{needs}
-use Prim.Native.Nat.{ℕ, _+_, _-_, _*_, _≤_, _<_}
-use lib.ListN.{length, getD, take, drop, set, replicate, length-set, drop-of-length-le}
-use mathlib.Core.List.{List, _++_, append-nil}
+use Prim.Native.Nat.{_+_, _-_, _≤_, _<_}
+use lib.ListN.{length, take, length-set}
+use mathlib.Core.List.{_++_}
 use Rattle.kplib.specs.Scoring.{positionsOfBits}
 use Rattle.kplib.proofs.CodeLaws.{place-start, place-turn, place-done}
 use Rattle.kplib.proofs.haplotype.bit_positions.Statement.{statement}

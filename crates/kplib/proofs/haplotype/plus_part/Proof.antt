@@ -1,9 +1,8 @@
 -- Both sizes are within the limit, so the sum fits.
-use mathlib.Core.Path.{_≡_, refl, sym, ap, _∙_}
 use native.Mathlib.Omega.{arith}
 use borrow.Author.Needs.{needs}
-use lib.ListN.{length, getD, take, drop, set, replicate, length-set, drop-of-length-le}
-use lib.IntN.{ℤ, pos, natAbs, _+ℤ_, _-ℤ_}
+use lib.ListN.{getD}
+use lib.IntN.{pos}
 use Rattle.kplib.proofs.WordLaws.{add-fits, add-back}
 use Rattle.kplib.proofs.haplotype.plus_part.Statement.{statement}
 use Rattle.kplib.proofs.haplotype.plus_part.Tie as tie

@@ -1,6 +1,5 @@
 -- A code without bits is the whole haplotype.
 use mathlib.Core.Path.{sym, _∙_}
-use Prim.Native.Nat.{_-_}
 use Rattle.kplib.proofs.CodeLaws.{code-whole, code-bits}
 use borrow.Author.Needs.{needs}
 use Rattle.kplib.proofs.haplotype.positions.Statement.{statement}

@@ -1,5 +1,4 @@
 -- Squish decides, then the length.
-use mathlib.Core.Path.{_≡_}
 use borrow.Author.Needs.{needs}
 use Rattle.kplib.proofs.pathscore.accepts_none.Statement.{statement}
 use Rattle.kplib.proofs.pathscore.accepts_none.Tie as tie

@@ -1,9 +1,9 @@
 -- After i turns the first i entries are added.
-use mathlib.Core.Path.{_≡_, refl, sym, ap, _∙_}
+use mathlib.Core.Path.{_≡_, _∙_}
 use native.Mathlib.Omega.{arith}
 use borrow.Author.Needs.{needs}
-use Prim.Native.Nat.{ℕ, _+_, _-_, _*_, _≤_, _<_}
-use lib.ListN.{length, getD, take, drop, set, replicate, length-set, drop-of-length-le}
+use Prim.Native.Nat.{_-_, _≤_, _<_}
+use lib.ListN.{length, length-set}
 use Rattle.kplib.proofs.RowSumLaws.{mixed, mixed-all, added-fits, added}
 use Rattle.kplib.proofs.pathscore.add_row.Statement.{statement}
 use Rattle.kplib.proofs.pathscore.add_row.Tie as tie

@@ -1,9 +1,9 @@
 -- What is summed, with the rows that are left, is the whole sum.
-use mathlib.Core.Path.{_≡_, refl, sym, ap, _∙_}
+use mathlib.Core.Path.{sym, _∙_}
 use native.Mathlib.Omega.{arith}
 use borrow.Author.Needs.{needs}
-use Prim.Native.Nat.{ℕ, _+_, _-_, _*_, _≤_, _<_}
-use lib.ListN.{length, getD, take, drop, set, replicate, length-set, drop-of-length-le}
+use Prim.Native.Nat.{_-_}
+use lib.ListN.{length}
 use Rattle.kplib.proofs.RowSumLaws.{Adding, row-place, adding-ok, adding-turn, features-done}
 use Rattle.kplib.proofs.pathscore.add_row.Reads as add-row-reads
 use Rattle.kplib.proofs.pathscore.add_rows.Statement.{statement}

@@ -1,10 +1,10 @@
 -- After i turns the first i entries are 0.
-use mathlib.Core.Path.{_≡_, refl, sym, ap, _∙_}
+use mathlib.Core.Path.{_≡_, ap, _∙_}
 use native.Mathlib.Omega.{arith}
 use borrow.Author.Needs.{needs}
-use Prim.Native.Nat.{ℕ, _+_, _-_, _*_, _≤_, _<_}
+use Prim.Native.Nat.{_+_, _-_, _≤_, _<_}
 use lib.IntN.{ℤ, pos}
-use lib.ListN.{length, getD, take, drop, set, replicate, length-set, drop-of-length-le}
+use lib.ListN.{length, drop, set, replicate, length-set, drop-of-length-le}
 use mathlib.Core.List.{List, _++_, append-nil}
 use Rattle.metrics.proofs.Fills.{fill-more}
 use Rattle.kplib.specs.Sums.{zeros}

@@ -1,5 +1,4 @@
 -- With squish the length less one, else the larger less the smaller.
-use mathlib.Core.Path.{_≡_, refl, sym, ap, _∙_}
 use native.Mathlib.Omega.{arith}
 use borrow.Author.Needs.{needs}
 use Rattle.kplib.proofs.SimilarityLaws.{gap-squished, gap-apart}

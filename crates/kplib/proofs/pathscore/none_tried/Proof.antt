@@ -1,5 +1,4 @@
 -- The scoring's start, with nothing summed.
-use mathlib.Core.Path.{_≡_}
 use borrow.Author.Needs.{needs}
 use Rattle.kplib.proofs.pathscore.none_tried.Statement.{statement}
 use Rattle.kplib.proofs.pathscore.none_tried.Tie as tie

@@ -1,5 +1,4 @@
 -- The code's 0.0 is the definition's.
-use mathlib.Core.Path.{_≡_}
 use Rattle.metrics.proofs.Casts.{zero-is}
 use Rattle.kplib.proofs.pathscore.nothing.Statement.{statement}
 use Rattle.kplib.proofs.pathscore.nothing.Tie as tie

@@ -1,5 +1,4 @@
 -- A row that is summed is left alone; another is summed.
-use mathlib.Core.Path.{_≡_}
 use borrow.Author.Needs.{needs}
 use Rattle.kplib.proofs.RowSumLaws.{ready-true}
 use Rattle.kplib.proofs.pathscore.sum_rows.Reads as sum-rows-reads

@@ -1,5 +1,4 @@
 -- Each operation is the definition's, and both casts are exact.
-use mathlib.Core.Path.{_≡_}
 use native.Mathlib.Omega.{arith}
 use Rattle.metrics.proofs.Casts.{in-float}
 use Rattle.kplib.proofs.SimilarityLaws.{two-is}

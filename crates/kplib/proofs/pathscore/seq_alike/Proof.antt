@@ -1,5 +1,5 @@
 -- Rows within the limit are never refused, so the answer is the value.
-use mathlib.Core.Path.{_≡_, _∙_}
+use mathlib.Core.Path.{_∙_}
 use borrow.Author.Needs.{needs}
 use Rattle.kplib.proofs.SimilarityLaws.{seq-given, the-value, no-refusal}
 use Rattle.metrics.proofs.seqsim.Reads as seqsim-reads

@@ -1,5 +1,4 @@
 -- Each test of the number says its sign.
-use mathlib.Core.Path.{_≡_, refl, sym, ap, _∙_}
 use native.Mathlib.Omega.{arith}
 use Rattle.kplib.proofs.WordLaws.{back, negative, positive, nought}
 use Rattle.kplib.proofs.pathscore.sign_of.Statement.{statement}

@@ -1,5 +1,4 @@
 -- Sizes within the limit are never refused, so the answer is the value.
-use mathlib.Core.Path.{_≡_}
 use borrow.Author.Needs.{needs}
 use Rattle.kplib.proofs.SimilarityLaws.{size-value, the-value, no-refusal}
 use Rattle.kplib.proofs.pathscore.size_alike.Statement.{statement}

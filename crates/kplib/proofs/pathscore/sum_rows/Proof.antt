@@ -1,7 +1,6 @@
 -- A cleared row, and the rows added to it.
-use mathlib.Core.Path.{_≡_, refl, sym, ap, _∙_}
 use borrow.Author.Needs.{needs}
-use lib.ListN.{length, getD, take, drop, set, replicate, length-set, drop-of-length-le}
+use lib.ListN.{length}
 use Rattle.kplib.proofs.RowSumLaws.{summable-at, cleared-sum, summed-is}
 use Rattle.kplib.proofs.pathscore.clear.Reads as clear-reads
 use Rattle.kplib.proofs.pathscore.add_rows.Reads as add-rows-reads

@@ -1,5 +1,4 @@
 -- No part left out is the whole haplotype.
-use mathlib.Core.Path.{_≡_}
 use borrow.Author.Needs.{needs}
 use Rattle.kplib.proofs.SimilarityLaws.{partial-target}
 use Rattle.kplib.proofs.pathscore.target_of.Statement.{statement}

@@ -1,7 +1,6 @@
 -- A list that may not win leaves the best; another is summed and scored.
 use mathlib.Core.Path.{sym}
 use native.Mathlib.Omega.{arith}
-use Prim.Native.Nat.{_-_}
 use lib.Seq.{length-take-le}
 use borrow.Author.Tests.{not-true}
 use Rattle.kplib.proofs.AttemptLaws.{may-ok, attempt-lost, ready-ok, list-ok, compare-ok, attempt-scored}

@@ -1,6 +1,5 @@
 -- Each callee's asks follow from where the search stands, and what the callees promise is where it stands then.
 use mathlib.Core.Path.{refl, _∙_}
-use Prim.Native.Nat.{_-_}
 use native.Mathlib.Omega.{arith}
 use Rattle.kplib.proofs.StepLaws.{counts-small, weighable, end-asks, entry-in, extending, gone-on}
 use borrow.Author.Needs.{needs}
