@@ -12,7 +12,7 @@ use Rattle.kplib.specs.Score.{start}
 use Rattle.kplib.specs.OneToOne.{oneToOne, loneRowsAt}
 use Rattle.kplib.specs.Search.{rowsFor}
 use Rattle.kplib.specs.Answer.{searched, matchedAlone, foundAfter, answerWith, answerOf, rowsOf, placed, queueRoom, searches}
-use Rattle.kplib.specs.SearchSteps.{answerParts, Gone, Acceptable}
+use Rattle.kplib.specs.SearchSteps.{answerParts, Gone, Startable}
 use Rattle.params.specs.declared.Settings.{Settings}
 use Rattle.kplib.specs.declared.pathscore.Scored.{Scored}
 use Rattle.kplib.specs.declared.pathscore.Target.{Target}
@@ -20,7 +20,7 @@ use Rattle.kplib.specs.declared.pathscore.Target.the-variants.{Nothing, 
 use Rattle.kplib.specs.declared.onetoone.Lone.{Lone}
 use Rattle.kplib.specs.declared.traverse.Answer.{Answer}
 use Rattle.kplib.specs.declared.traverse.Progress.{Progress}
-use Rattle.params.proofs.CheckedLaws.{accepted, queue-suffices, answer-suffices}
+use Rattle.params.proofs.CheckedLaws.{accepted, queue-suffices}
 use Rattle.kplib.proofs.ExtensionLaws.{reverse-length}
 
 pub rows-few : (t : Target) (l : List ℕ) → length (rowsFor t l) ≤ length l
@@ -56,18 +56,6 @@ search-few s t p parents lasts at n g e =
     let c = chainAt parents lasts (at .best .entry) in
     (omega (arith, e, rows-few (at .best .scored .target) (reverse (chainAt parents lasts (at .best .entry))), reverse-length (chainAt parents lasts (at .best .entry)), g .walk .fits), g .few)
 
--- ---- by the mode of an accepted job
-
-pub searched-found : (s : Settings) (t : Table) (p : Parts) (r : Answer) (rows rows' : List ℕ) {X : Type 0} → searchMode s (length (t .starts)) ≡ true
-    → (r ≡ answerWith 0 (searched s t p)) × (rows' ≡ placed rows (searched s t p .rows))
-    → (r ≡ answerWith 0 (foundAfter 0 s t p)) × ((rows' ≡ placed rows (foundAfter 0 s t p .rows)) × (searchMode s (length (t .starts)) ≡ false → X))
-searched-found s t p r rows rows' m h = (rw m (h .0), (rw m (h .1), λ z. let y : _≡_ {A = ℕ} 0 1 = cc in absurd (omega arith)))
-
-pub alone-found : (s : Settings) (t : Table) (p : Parts) (r : Answer) (rows rows' : List ℕ) {X : Type 0} → searchMode s (length (t .starts)) ≡ false
-    → (r ≡ answerWith 0 (matchedAlone s t p)) × (rows' ≡ placed rows (matchedAlone s t p .rows)) → X
-    → (r ≡ answerWith 0 (foundAfter 0 s t p)) × ((rows' ≡ placed rows (foundAfter 0 s t p .rows)) × (searchMode s (length (t .starts)) ≡ false → X))
-alone-found s t p r rows rows' m h x = (rw m (h .0), (rw m (h .1), λ z. x))
-
 -- ---- by the checks
 
 module _ (s : Settings) (t : Table) (p : Parts) (q a : ℕ) where
@@ -87,28 +75,38 @@ module _ (s : Settings) (t : Table) (p : Parts) (q a : ℕ) where
       (hr ∙ ap (λ (y : Scored). answerParts (suc n) 0 y 0 false) hx ∙ answer-at (suc n) e, ap (λ (l : List ℕ). l ++ drop (length l) rows) (rows-at (suc n) e))
 
   module _ (e : firstFault s t p q a ≡ 0) where
-    pub accepted-answers : (r : Answer) (rows rows' : List ℕ) → r ≡ answerWith 0 (foundAfter 0 s t p) → rows' ≡ placed rows (foundAfter 0 s t p .rows)
+    with-rows : (r : Answer) (rows rows' : List ℕ) → (r ≡ answerWith 0 (foundAfter 0 s t p)) × (rows' ≡ placed rows (foundAfter 0 s t p .rows))
         → (r ≡ answerOf s t p q a) × (rows' ≡ placed rows (rowsOf s t p q a))
-    accepted-answers r rows rows' h k = (h ∙ answer-at 0 (sym e), k ∙ ap (λ (l : List ℕ). placed rows l) (rows-at 0 (sym e)))
+    with-rows r rows rows' h = (h .0 ∙ answer-at 0 (sym e), h .1 ∙ ap (λ (l : List ℕ). placed rows l) (rows-at 0 (sym e)))
 
-    pub not-searched : searches s t p q a ≡ false → searchMode s (length (t .starts)) ≡ false
+    pub searched-accepted : (r : Answer) (rows rows' : List ℕ) → searchMode s (length (t .starts)) ≡ true → (r ≡ answerWith 0 (searched s t p)) × (rows' ≡ placed rows (searched s t p .rows))
+        → (r ≡ answerOf s t p q a) × (rows' ≡ placed rows (rowsOf s t p q a))
+    searched-accepted r rows rows' m h = with-rows r rows rows' (rw m h)
+
+    pub alone-accepted : (r : Answer) (rows rows' : List ℕ) → searchMode s (length (t .starts)) ≡ false → (r ≡ answerWith 0 (matchedAlone s t p)) × (rows' ≡ placed rows (matchedAlone s t p .rows))
+        → (r ≡ answerOf s t p q a) × (rows' ≡ placed rows (rowsOf s t p q a))
+    alone-accepted r rows rows' m h = with-rows r rows rows' (rw m h)
+
+    -- a search is no job without one
+    pub did-search : {X : Type 0} → searchMode s (length (t .starts)) ≡ true → searches s t p q a ≡ false → X
     unfolding searches
-    not-searched h = rw e at h
+    did-search m h =
+        let n : searchMode s (length (t .starts)) ≡ false = rw e at h in
+        let z : _≡_ {A = ℕ} 0 1 = cc in
+        absurd (omega arith)
 
-pub acceptable : (s : Settings) (t : Table) (p : Parts) (parents lasts keys : List ℕ) (a : ℕ) → firstFault s t p (queueRoom parents lasts keys) a ≡ 0 → Acceptable s t p (length parents) (length lasts) (length keys) a
-acceptable s t p parents lasts keys a e = record {
-  checked = accepted s t p (queueRoom parents lasts keys) a e;
-  answer-room = answer-suffices s t p (queueRoom parents lasts keys) a e;
-  queue-room = λ m.
-      let h = queue-suffices s t p (queueRoom parents lasts keys) a e m in
-      record {
-        checked = accepted s t p (queueRoom parents lasts keys) a e;
-        parent-room = omega (arith, h);
-        last-room = omega (arith, h);
-        key-room = omega (arith, h);
-      };
-}
+pub startable : (s : Settings) (t : Table) (p : Parts) (parents lasts keys : List ℕ) (a : ℕ) → firstFault s t p (queueRoom parents lasts keys) a ≡ 0 → searchMode s (length (t .starts)) ≡ true
+    → Startable s t p (length parents) (length lasts) (length keys)
+startable s t p parents lasts keys a e m =
+    let h = queue-suffices s t p (queueRoom parents lasts keys) a e m in
+    record {
+      checked = accepted s t p (queueRoom parents lasts keys) a e;
+      parent-room = omega (arith, h);
+      last-room = omega (arith, h);
+      key-room = omega (arith, h);
+    }
 
--- the room that the code computes is the shortest of the three
-pub room-is : (parents lasts keys : List ℕ) {n m : ℕ} → n ≡ min (length lasts) (length keys) → m ≡ min (length parents) n → m ≡ queueRoom parents lasts keys
-room-is parents lasts keys e f = f ∙ ap (λ (k : ℕ). min (length parents) k) e
+-- the fault that the code finds, with the room that it computes: the shortest of the three
+pub fault-is : (s : Settings) (t : Table) (p : Parts) (parents lasts keys : List ℕ) (a : ℕ) {n m f : ℕ} → n ≡ min (length lasts) (length keys) → m ≡ min (length parents) n
+    → f ≡ firstFault s t p m a → f ≡ firstFault s t p (queueRoom parents lasts keys) a
+fault-is s t p parents lasts keys a e d h = h ∙ ap (λ (q : ℕ). firstFault s t p q a) (d ∙ ap (λ (k : ℕ). min (length parents) k) e)

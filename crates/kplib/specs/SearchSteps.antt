@@ -130,9 +130,3 @@ pub record Startable (s : Settings) (t : Table) (p : Parts) (parentRoom lastRoom
   pub parent-room : 1 + (s .maxpaths + 1) * length (t .starts) ≤ parentRoom
   pub last-room : 1 + (s .maxpaths + 1) * length (t .starts) ≤ lastRoom
   pub key-room : 1 + (s .maxpaths + 1) * length (t .starts) ≤ keyRoom
-
--- an accepted job with its rooms
-pub record Acceptable (s : Settings) (t : Table) (p : Parts) (parentRoom lastRoom keyRoom answerRoom : ℕ) : Type 0 where
-  pub checked : Checked s (t .starts) (t .ends) (t .sizes) (t .features) (p .sizes) (p .features)
-  pub answer-room : length (t .starts) ≤ answerRoom
-  pub queue-room : searchMode s (length (t .starts)) ≡ true → Startable s t p parentRoom lastRoom keyRoom

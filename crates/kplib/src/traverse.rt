@@ -10,8 +10,8 @@ ghost use Rattle.params.specs.Numbers.{tableOf, partsOf, searchMode};
 ghost use Rattle.kplib.specs.OneToOne.{oneToOne, loneRowsAt};
 ghost use Rattle.kplib.specs.Scoring.{Tables};
 ghost use Rattle.kplib.specs.Search.{rowsFor};
-ghost use Rattle.kplib.specs.Answer.{searched, matchedAlone, foundAfter, answerWith, queueRoom, answerOf, rowsOf, placed, searches};
-ghost use Rattle.kplib.specs.SearchSteps.{answerParts, laterOf, advanced, matchedBy, Weighable, WeighedAs, Searchable, Going, Gone, Startable, Acceptable};
+ghost use Rattle.kplib.specs.Answer.{searched, matchedAlone, answerWith, queueRoom, answerOf, rowsOf, placed, searches};
+ghost use Rattle.kplib.specs.SearchSteps.{answerParts, laterOf, advanced, matchedBy, Weighable, WeighedAs, Searchable, Going, Gone, Startable};
 use crate::haplotype::lay_lists;
 use crate::haplotype::whole_size;
 use crate::onetoone::Lone;
@@ -463,52 +463,6 @@ fn answer_alone(
     answer_with(0, n, scored, starts.len() + 2, true)
 }
 
-// The answer of an accepted job, by its mode.
-fn answer_accepted(
-    s: Settings,
-    starts: &[u64],
-    ends: &[u64],
-    sizes: &[i32],
-    features: &[i32],
-    part_sizes: &[i32],
-    part_features: &[i32],
-    parents: &mut [u32],
-    lasts: &mut [u32],
-    keys: &mut [u64],
-    rows: &mut [u32],
-) -> Answer
-    requires { ⌜ Acceptable s (tableOf (now starts) (now ends) (now sizes) (now features)) (partsOf (now «part_sizes») (now «part_features»)) (length (now parents)) (length (now lasts)) (length (now keys)) (length (now rows)) ⌝ }
-    ensures { λ r. ⌜ r ≡ answerWith 0 (foundAfter 0 s (tableOf (now (starts .entry)) (now (ends .entry)) (now (sizes .entry)) (now (features .entry))) (partsOf (now («part_sizes» .entry)) (now («part_features» .entry)))) ⌝ }
-    ensures { λ _. ⌜ now (rows .exit) ≡ placed (now (rows .entry)) (foundAfter 0 s (tableOf (now (starts .entry)) (now (ends .entry)) (now (sizes .entry)) (now (features .entry))) (partsOf (now («part_sizes» .entry)) (now («part_features» .entry))) .rows) ⌝ }
-    ensures { λ _. ⌜ ((searchMode s (length (now (starts .entry))) ≡ false) → (now (parents .exit) ≡ now (parents .entry)) × (now (lasts .exit) ≡ now (lasts .entry)) × (now (keys .exit) ≡ now (keys .entry))) ⌝ }
-{
-    if search_mode(s, starts.len()) {
-        return answer_search(
-            s,
-            starts,
-            ends,
-            sizes,
-            features,
-            part_sizes,
-            part_features,
-            parents,
-            lasts,
-            keys,
-            rows,
-        );
-    }
-    answer_alone(
-        s,
-        starts,
-        ends,
-        sizes,
-        features,
-        part_sizes,
-        part_features,
-        rows,
-    )
-}
-
 fn smaller(a: usize, b: usize) -> usize
     ensures { λ r. ⌜ r ≡ min a b ⌝ }
 {
@@ -535,7 +489,6 @@ pub fn apply_haplotype(
     ensures { λ _. ⌜ ((searches s (tableOf (now (starts .entry)) (now (ends .entry)) (now (sizes .entry)) (now (features .entry))) (partsOf (now («part_sizes» .entry)) (now («part_features» .entry))) (queueRoom (now (parents .entry)) (now («last_rows» .entry)) (now (keys .entry))) (length (now (rows .entry))) ≡ false) → now («last_rows» .exit) ≡ now («last_rows» .entry)) ⌝ }
     ensures { λ _. ⌜ ((searches s (tableOf (now (starts .entry)) (now (ends .entry)) (now (sizes .entry)) (now (features .entry))) (partsOf (now («part_sizes» .entry)) (now («part_features» .entry))) (queueRoom (now (parents .entry)) (now («last_rows» .entry)) (now (keys .entry))) (length (now (rows .entry))) ≡ false) → now (keys .exit) ≡ now (keys .entry)) ⌝ }
 {
-    let room = smaller(parents.len(), smaller(last_rows.len(), keys.len()));
     let refusal = call_fault(
         s,
         starts,
@@ -544,13 +497,28 @@ pub fn apply_haplotype(
         features,
         part_sizes,
         part_features,
-        room,
+        smaller(parents.len(), smaller(last_rows.len(), keys.len())),
         rows.len(),
     );
     if refusal != 0 {
         return answer_with(refusal, 0, nothing(), 0, false);
     }
-    answer_accepted(
+    if search_mode(s, starts.len()) {
+        return answer_search(
+            s,
+            starts,
+            ends,
+            sizes,
+            features,
+            part_sizes,
+            part_features,
+            parents,
+            last_rows,
+            keys,
+            rows,
+        );
+    }
+    answer_alone(
         s,
         starts,
         ends,
@@ -558,9 +526,6 @@ pub fn apply_haplotype(
         features,
         part_sizes,
         part_features,
-        parents,
-        last_rows,
-        keys,
         rows,
     )
 }

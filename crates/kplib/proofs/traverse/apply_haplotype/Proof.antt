@@ -1,10 +1,10 @@
--- A refusal is answered at once with nothing written; else the answer is the accepted job's.
-use mathlib.Core.Path.{refl, sym, ap, _∙_}
-use Prim.Native.Nat.{ℕ}
+-- A refusal is answered at once with nothing written; else the job's mode says which answer it is.
+use mathlib.Core.Path.{refl, sym, _∙_}
 use lib.ListN.{length}
 use denote.Ref.{now}
-use Rattle.params.specs.Numbers.{tableOf, partsOf, firstFault}
-use Rattle.kplib.proofs.FoundLaws.{refused-answers, accepted-answers, not-searched, acceptable, room-is}
+use Rattle.params.specs.Numbers.{tableOf, partsOf}
+use Rattle.params.proofs.CheckedLaws.{accepted, answer-suffices}
+use Rattle.kplib.proofs.FoundLaws.{refused-answers, searched-accepted, alone-accepted, did-search, startable, fault-is}
 use borrow.Author.Needs.{needs}
 use Rattle.kplib.proofs.traverse.apply_haplotype.Statement.{statement}
 use Rattle.kplib.proofs.traverse.apply_haplotype.Tie as tie
@@ -26,11 +26,24 @@ answer-with-requires c κs = search needs
 
 returns : tie.Need-returns
 returns c =
-    let h = refused-answers (c .before .before .before .before .before .before .before .before .before .before .before .before .args .s) (tableOf (now (c .before .before .before .before .before .before .before .before .before .before .before .before .args .starts)) (now (c .before .before .before .before .before .before .before .before .before .before .before .before .args .ends)) (now (c .before .before .before .before .before .before .before .before .before .before .before .before .args .sizes)) (now (c .before .before .before .before .before .before .before .before .before .before .before .before .args .features))) (partsOf (now (c .before .before .before .before .before .before .before .before .before .before .before .before .args .part-sizes)) (now (c .before .before .before .before .before .before .before .before .before .before .before .before .args .part-features))) _ _ _ (c .before .before .before .call-fault .ensures ∙ ap (λ (q : ℕ). firstFault (c .before .before .before .before .before .before .before .before .before .before .before .before .args .s) (tableOf (now (c .before .before .before .before .before .before .before .before .before .before .before .before .args .starts)) (now (c .before .before .before .before .before .before .before .before .before .before .before .before .args .ends)) (now (c .before .before .before .before .before .before .before .before .before .before .before .before .args .sizes)) (now (c .before .before .before .before .before .before .before .before .before .before .before .before .args .features))) (partsOf (now (c .before .before .before .before .before .before .before .before .before .before .before .before .args .part-sizes)) (now (c .before .before .before .before .before .before .before .before .before .before .before .before .args .part-features))) q (length (now (c .before .before .before .before .before .before .before .before .before .before .before .before .args .rows)))) (room-is (now (c .before .before .before .before .before .before .before .before .before .before .before .before .args .parents)) (now (c .before .before .before .before .before .before .before .before .before .before .before .before .args .last-rows)) (now (c .before .before .before .before .before .before .before .before .before .before .before .before .args .keys)) (c .before .before .before .before .before .smaller .ensures) (c .before .before .before .before .smaller2 .ensures))) (c .before .before .if1 .taken) _ (c .before .nothing .ensures) _ (c .answer-with .ensures) (now (c .before .before .before .before .before .before .before .before .before .before .before .before .args .rows)) in
+    let a = c .before .before .before .before .before .before .before .before .before .before .before .before .args in
+    let t = tableOf (now (a .starts)) (now (a .ends)) (now (a .sizes)) (now (a .features)) in
+    let p = partsOf (now (a .part-sizes)) (now (a .part-features)) in
+    let f = fault-is (a .s) t p (now (a .parents)) (now (a .last-rows)) (now (a .keys)) (length (now (a .rows))) (c .before .before .before .before .before .smaller .ensures) (c .before .before .before .before .smaller2 .ensures) (c .before .before .before .call-fault .ensures) in
+    let h = refused-answers (a .s) t p _ _ _ f (c .before .before .if1 .taken) _ (c .before .nothing .ensures) _ (c .answer-with .ensures) (now (a .rows)) in
     (h .0, (h .1, (λ _. refl, (λ _. refl, λ _. refl))))
 
-answer-accepted-requires : tie.Need-answer-accepted-requires
-answer-accepted-requires c κs = acceptable (c .before .before .before .before .before .before .before .before .before .before .before .before .before .before .args .s) (tableOf (now (c .before .before .before .before .before .before .before .before .before .before .before .before .before .before .args .starts)) (now (c .before .before .before .before .before .before .before .before .before .before .before .before .before .before .args .ends)) (now (c .before .before .before .before .before .before .before .before .before .before .before .before .before .before .args .sizes)) (now (c .before .before .before .before .before .before .before .before .before .before .before .before .before .before .args .features))) (partsOf (now (c .before .before .before .before .before .before .before .before .before .before .before .before .before .before .args .part-sizes)) (now (c .before .before .before .before .before .before .before .before .before .before .before .before .before .before .args .part-features))) (now (c .before .before .before .before .before .before .before .before .before .before .before .before .before .before .args .parents)) (now (c .before .before .before .before .before .before .before .before .before .before .before .before .before .before .args .last-rows)) (now (c .before .before .before .before .before .before .before .before .before .before .before .before .before .before .args .keys)) _ (sym (c .before .before .before .before .before .call-fault .ensures ∙ ap (λ (q : ℕ). firstFault (c .before .before .before .before .before .before .before .before .before .before .before .before .before .before .args .s) (tableOf (now (c .before .before .before .before .before .before .before .before .before .before .before .before .before .before .args .starts)) (now (c .before .before .before .before .before .before .before .before .before .before .before .before .before .before .args .ends)) (now (c .before .before .before .before .before .before .before .before .before .before .before .before .before .before .args .sizes)) (now (c .before .before .before .before .before .before .before .before .before .before .before .before .before .before .args .features))) (partsOf (now (c .before .before .before .before .before .before .before .before .before .before .before .before .before .before .args .part-sizes)) (now (c .before .before .before .before .before .before .before .before .before .before .before .before .before .before .args .part-features))) q (length (now (c .before .before .before .before .before .before .before .before .before .before .before .before .before .before .args .rows)))) (room-is (now (c .before .before .before .before .before .before .before .before .before .before .before .before .before .before .args .parents)) (now (c .before .before .before .before .before .before .before .before .before .before .before .before .before .before .args .last-rows)) (now (c .before .before .before .before .before .before .before .before .before .before .before .before .before .before .args .keys)) (c .before .before .before .before .before .before .before .smaller .ensures) (c .before .before .before .before .before .before .smaller2 .ensures))) ∙ c .before .before .before .before .if1 .left)
+search-mode-requires : tie.Need-search-mode-requires
+search-mode-requires c κs = search needs
+
+answer-search-requires : tie.Need-answer-search-requires
+answer-search-requires c κs =
+    let a = c .before .before .before .before .before .before .before .before .before .before .before .before .before .before .before .before .args in
+    let t = tableOf (now (a .starts)) (now (a .ends)) (now (a .sizes)) (now (a .features)) in
+    let p = partsOf (now (a .part-sizes)) (now (a .part-features)) in
+    let f = fault-is (a .s) t p (now (a .parents)) (now (a .last-rows)) (now (a .keys)) (length (now (a .rows))) (c .before .before .before .before .before .before .before .before .before .smaller .ensures) (c .before .before .before .before .before .before .before .before .smaller2 .ensures) (c .before .before .before .before .before .before .before .call-fault .ensures) in
+    let e = sym f ∙ c .before .before .before .before .before .before .if1 .left in
+    (startable (a .s) t p (now (a .parents)) (now (a .last-rows)) (now (a .keys)) (length (now (a .rows))) e (sym (c .before .before .before .before .before .search-mode .ensures) ∙ c .before .before .before .before .if2 .taken), answer-suffices (a .s) t p _ _ e)
 
 same-length : tie.Need-same-length
 same-length c = search needs
@@ -46,11 +59,37 @@ same-length-4 c = search needs
 
 returns-2 : tie.Need-returns-2
 returns-2 c =
-    let k = c .before .before .before .before .before .before .before .before .answer-accepted .ensures in
-    let e = sym (c .before .before .before .before .before .before .before .before .before .before .before .before .before .before .call-fault .ensures ∙ ap (λ (q : ℕ). firstFault (c .before .before .before .before .before .before .before .before .before .before .before .before .before .before .before .before .before .before .before .before .before .before .before .args .s) (tableOf (now (c .before .before .before .before .before .before .before .before .before .before .before .before .before .before .before .before .before .before .before .before .before .before .before .args .starts)) (now (c .before .before .before .before .before .before .before .before .before .before .before .before .before .before .before .before .before .before .before .before .before .before .before .args .ends)) (now (c .before .before .before .before .before .before .before .before .before .before .before .before .before .before .before .before .before .before .before .before .before .before .before .args .sizes)) (now (c .before .before .before .before .before .before .before .before .before .before .before .before .before .before .before .before .before .before .before .before .before .before .before .args .features))) (partsOf (now (c .before .before .before .before .before .before .before .before .before .before .before .before .before .before .before .before .before .before .before .before .before .before .before .args .part-sizes)) (now (c .before .before .before .before .before .before .before .before .before .before .before .before .before .before .before .before .before .before .before .before .before .before .before .args .part-features))) q (length (now (c .before .before .before .before .before .before .before .before .before .before .before .before .before .before .before .before .before .before .before .before .before .before .before .args .rows)))) (room-is (now (c .before .before .before .before .before .before .before .before .before .before .before .before .before .before .before .before .before .before .before .before .before .before .before .args .parents)) (now (c .before .before .before .before .before .before .before .before .before .before .before .before .before .before .before .before .before .before .before .before .before .before .before .args .last-rows)) (now (c .before .before .before .before .before .before .before .before .before .before .before .before .before .before .before .before .before .before .before .before .before .before .before .args .keys)) (c .before .before .before .before .before .before .before .before .before .before .before .before .before .before .before .before .smaller .ensures) (c .before .before .before .before .before .before .before .before .before .before .before .before .before .before .before .smaller2 .ensures))) ∙ c .before .before .before .before .before .before .before .before .before .before .before .before .before .if1 .left in
-    let h = accepted-answers (c .before .before .before .before .before .before .before .before .before .before .before .before .before .before .before .before .before .before .before .before .before .before .before .args .s) (tableOf (now (c .before .before .before .before .before .before .before .before .before .before .before .before .before .before .before .before .before .before .before .before .before .before .before .args .starts)) (now (c .before .before .before .before .before .before .before .before .before .before .before .before .before .before .before .before .before .before .before .before .before .before .before .args .ends)) (now (c .before .before .before .before .before .before .before .before .before .before .before .before .before .before .before .before .before .before .before .before .before .before .before .args .sizes)) (now (c .before .before .before .before .before .before .before .before .before .before .before .before .before .before .before .before .before .before .before .before .before .before .before .args .features))) (partsOf (now (c .before .before .before .before .before .before .before .before .before .before .before .before .before .before .before .before .before .before .before .before .before .before .before .args .part-sizes)) (now (c .before .before .before .before .before .before .before .before .before .before .before .before .before .before .before .before .before .before .before .before .before .before .before .args .part-features))) _ _ e _ (now (c .before .before .before .before .before .before .before .before .before .before .before .before .before .before .before .before .before .before .before .before .before .before .before .args .rows)) _ (k .0) (k .1 .0) in
-    let n = not-searched (c .before .before .before .before .before .before .before .before .before .before .before .before .before .before .before .before .before .before .before .before .before .before .before .args .s) (tableOf (now (c .before .before .before .before .before .before .before .before .before .before .before .before .before .before .before .before .before .before .before .before .before .before .before .args .starts)) (now (c .before .before .before .before .before .before .before .before .before .before .before .before .before .before .before .before .before .before .before .before .before .before .before .args .ends)) (now (c .before .before .before .before .before .before .before .before .before .before .before .before .before .before .before .before .before .before .before .before .before .before .before .args .sizes)) (now (c .before .before .before .before .before .before .before .before .before .before .before .before .before .before .before .before .before .before .before .before .before .before .before .args .features))) (partsOf (now (c .before .before .before .before .before .before .before .before .before .before .before .before .before .before .before .before .before .before .before .before .before .before .before .args .part-sizes)) (now (c .before .before .before .before .before .before .before .before .before .before .before .before .before .before .before .before .before .before .before .before .before .before .before .args .part-features))) _ _ e in
-    (h .0, (h .1, (λ z. k .1 .1 (n z) .0, (λ z. k .1 .1 (n z) .1, λ z. k .1 .1 (n z) .2))))
+    let a = c .before .before .before .before .before .before .before .before .before .before .before .before .before .before .before .before .before .before .before .before .before .before .before .before .before .args in
+    let t = tableOf (now (a .starts)) (now (a .ends)) (now (a .sizes)) (now (a .features)) in
+    let p = partsOf (now (a .part-sizes)) (now (a .part-features)) in
+    let f = fault-is (a .s) t p (now (a .parents)) (now (a .last-rows)) (now (a .keys)) (length (now (a .rows))) (c .before .before .before .before .before .before .before .before .before .before .before .before .before .before .before .before .before .before .smaller .ensures) (c .before .before .before .before .before .before .before .before .before .before .before .before .before .before .before .before .before .smaller2 .ensures) (c .before .before .before .before .before .before .before .before .before .before .before .before .before .before .before .before .call-fault .ensures) in
+    let e = sym f ∙ c .before .before .before .before .before .before .before .before .before .before .before .before .before .before .before .if1 .left in
+    let m = sym (c .before .before .before .before .before .before .before .before .before .before .before .before .before .before .search-mode .ensures) ∙ c .before .before .before .before .before .before .before .before .before .before .before .before .before .if2 .taken in
+    let h = searched-accepted (a .s) t p _ _ e _ (now (a .rows)) _ m (c .before .before .before .before .before .before .before .before .answer-search .ensures) in
+    (h .0, (h .1, (λ z. did-search (a .s) t p _ _ e m z, (λ z. did-search (a .s) t p _ _ e m z, λ z. did-search (a .s) t p _ _ e m z))))
+
+answer-alone-requires : tie.Need-answer-alone-requires
+answer-alone-requires c κs =
+    let a = c .before .before .before .before .before .before .before .before .before .before .before .before .before .args in
+    let t = tableOf (now (a .starts)) (now (a .ends)) (now (a .sizes)) (now (a .features)) in
+    let p = partsOf (now (a .part-sizes)) (now (a .part-features)) in
+    let f = fault-is (a .s) t p (now (a .parents)) (now (a .last-rows)) (now (a .keys)) (length (now (a .rows))) (c .before .before .before .before .before .before .smaller .ensures) (c .before .before .before .before .before .smaller2 .ensures) (c .before .before .before .before .call-fault .ensures) in
+    let e = sym f ∙ c .before .before .before .if1 .left in
+    (accepted (a .s) t p _ _ e, answer-suffices (a .s) t p _ _ e)
+
+same-length-5 : tie.Need-same-length-5
+same-length-5 c = search needs
+
+returns-3 : tie.Need-returns-3
+returns-3 c =
+    let a = c .before .before .before .before .before .before .before .before .before .before .before .before .before .before .before .before .args in
+    let t = tableOf (now (a .starts)) (now (a .ends)) (now (a .sizes)) (now (a .features)) in
+    let p = partsOf (now (a .part-sizes)) (now (a .part-features)) in
+    let f = fault-is (a .s) t p (now (a .parents)) (now (a .last-rows)) (now (a .keys)) (length (now (a .rows))) (c .before .before .before .before .before .before .before .before .before .smaller .ensures) (c .before .before .before .before .before .before .before .before .smaller2 .ensures) (c .before .before .before .before .before .before .before .call-fault .ensures) in
+    let e = sym f ∙ c .before .before .before .before .before .before .if1 .left in
+    let m = sym (c .before .before .before .before .before .search-mode .ensures) ∙ c .before .before .before .before .if2 .left in
+    let h = alone-accepted (a .s) t p _ _ e _ (now (a .rows)) _ m (c .before .before .answer-alone .ensures) in
+    (h .0, (h .1, (λ _. refl, (λ _. refl, λ _. refl))))
 
 pub apply-haplotype-spec : {M : Type 1} → statement M
 apply-haplotype-spec =
@@ -62,9 +101,13 @@ apply-haplotype-spec =
     nothing-requires
     answer-with-requires
     returns
-    answer-accepted-requires
+    search-mode-requires
+    answer-search-requires
     same-length
     same-length-2
     same-length-3
     same-length-4
-    returns-2)
+    returns-2
+    answer-alone-requires
+    same-length-5
+    returns-3)
