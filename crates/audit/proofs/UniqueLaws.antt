@@ -23,6 +23,7 @@ pub unique : Unique
 unique = record {
   sizesim = λ a b. one;
   seqsim = λ a b minkfreq. one;
+  bits-of = λ x. one;
   overlaps = λ s1 e1 s2 e2. one;
   seq-to-kmer = λ k negative letters row. through (λ r. rowAfter r (countsOf k negative letters) row);
   entries = λ k. one;

@@ -8,7 +8,7 @@ use mathlib.Core.List.{List}
 use lib.Dec.{ltb}
 use lib.IntN.{ℤ, natAbs}
 use lib.ListN.{length}
-use lib.Ieee.{Float}
+use lib.Ieee.{Float, binary32, toBits}
 use Rattle.metrics.specs.Letters.{countsOf, entryCount, counterAnswer, countedNumber, rowAfter}
 use Rattle.metrics.specs.Similarity.{sizesimOf, seqsimOf, overlapsOf, magnitudeSum, number, value}
 use Rattle.metrics.specs.declared.Sim.{Sim}
@@ -43,6 +43,7 @@ QueueSlice s t p queueRoom answerRoom old =
 pub record Unique : Type 0 where
   pub sizesim : (a b : ℕ) → One Sim (λ r. r ≡ sizesimOf a b)
   pub seqsim : (a b : List ℤ) (minkfreq : ℕ) → One Sim (λ r. r ≡ seqsimOf a b minkfreq)
+  pub bits-of : (x : Float) → One ℕ (λ r. r ≡ toBits binary32 x)
   pub overlaps : (s1 e1 s2 e2 : ℕ) → One Bool (λ r. r ≡ overlapsOf s1 e1 s2 e2)
   pub seq-to-kmer : (k : ℕ) (negative : Bool) (letters : List ℕ) (row : List ℤ)
       → Pair Counted (List ℤ) (λ r out. (r ≡ counterAnswer k letters row) × (out ≡ rowAfter r (countsOf k negative letters) row))

@@ -15,7 +15,7 @@ use mir.Syntax.{w32}
 use mir.Val.{toZ, ofZ}
 use Rattle.metrics.specs.Similarity.{whole, sizesimValue, magnitudeSum, partD, sumD}
 use Rattle.metrics.proofs.Rows.{sum-le, d-le}
-use Rattle.params.specs.Checked.{rowAt}
+use Rattle.params.specs.Numbers.{rowAt}
 use Rattle.kplib.specs.Parts.{wholeOf}
 use Rattle.kplib.specs.Sums.{zeros, sizeOf, featuresOf, Total}
 use Rattle.kplib.specs.Score.{sign, gapOf, scoreValue, seqsimOfRows, listScore, greaterOf, afterList, start}

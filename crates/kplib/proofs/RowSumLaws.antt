@@ -13,7 +13,8 @@ use mir.Syntax.{w32}
 use mir.Val.{toZ, ofZ, SFits}
 use Rattle.metrics.specs.Similarity.{magnitudeSum}
 use Rattle.metrics.proofs.Ints.{add-le}
-use Rattle.params.specs.Checked.{rowAt, Flat}
+use Rattle.params.specs.Checked.{Flat}
+use Rattle.params.specs.Numbers.{rowAt}
 use Rattle.kplib.specs.Sums.{rowPlus, featuresFrom, featuresOf, zeros}
 use Rattle.kplib.specs.Scoring.{Below, Inside, Summable, Ready}
 use Rattle.kplib.proofs.WordLaws.{add-fits, add-back}

@@ -7,7 +7,7 @@ use lib.IntN.{ℤ, pos}
 use lib.ListN.{length, getD}
 use lib.Ieee.{lt}
 use Rattle.metrics.specs.Similarity.{whole}
-use Rattle.params.specs.Checked.{rowAt}
+use Rattle.params.specs.Numbers.{rowAt}
 use Rattle.kplib.specs.Parts.{positionsFrom, wholeOf}
 use Rattle.kplib.specs.Sums.{zeros, Total}
 use Rattle.kplib.specs.Score.{afterList, start}

@@ -8,7 +8,8 @@ use lib.IntN.{ℤ, pos, natAbs}
 use lib.ListN.{length, getD, take}
 use lib.Ieee.{Float, lt, le}
 use Rattle.metrics.specs.Similarity.{whole, sizesimValue, magnitudeSum}
-use Rattle.params.specs.Checked.{rowAt, Flat, Sized}
+use Rattle.params.specs.Checked.{Flat, Sized}
+use Rattle.params.specs.Numbers.{rowAt}
 use Rattle.kplib.specs.Parts.{positionsFrom, wholeOf, choices, fallingLists, partLists}
 use Rattle.kplib.specs.Sums.{sizeOf, featuresOf, Total}
 use Rattle.kplib.specs.Score.{sign, gapOf, scoreValue, start, afterList}

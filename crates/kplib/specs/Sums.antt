@@ -3,7 +3,7 @@ use Prim.Native.Nat.{ℕ}
 use mathlib.Core.List.{List, [], _∷_}
 use lib.IntN.{ℤ, pos, _+ℤ_}
 use lib.ListN.{getD, length, replicate}
-use Rattle.params.specs.Checked.{rowAt}
+use Rattle.params.specs.Numbers.{rowAt}
 
 -- entry by entry
 unfoldable pub rowPlus : List ℤ → List ℤ → List ℤ

@@ -1,7 +1,7 @@
 // The score of a chain against the part lists of a haplotype (pathscore.rs).
 ghost use mathlib.Core.Path.{_≡_};
 ghost use mathlib.Core.Bool.{Bool, _&&_};
-ghost use Prim.Native.Nat.{ℕ, _≤_, _^_};
+ghost use Prim.Native.Nat.{ℕ, _≤_};
 ghost use lib.Dec.{eqb};
 ghost use lib.IntN.{ℤ, natAbs};
 ghost use lib.ListN.{length};
@@ -50,14 +50,6 @@ pub(crate) fn nothing() -> Scored
         sizesim: 0.0,
         seqsim: 0.0,
     }
-}
-
-// The entries of an accepted job's feature rows.
-pub(crate) fn entries(k: u8) -> usize
-    requires { ⌜ k ≤ 6 ⌝ }
-    ensures { λ r. ⌜ r ≡ 4 ^ k ⌝ }
-{
-    metrics::kmer::entries(k)
 }
 
 fn sign_of(x: i32) -> u32

@@ -2,7 +2,7 @@
 ghost use mathlib.Core.Path.{_≡_};
 ghost use mathlib.Core.Bool.{false};
 ghost use mathlib.Core.List.{reverse};
-ghost use Prim.Native.Nat.{_+_, _<_, _≤_, min};
+ghost use Prim.Native.Nat.{_+_, _<_, _≤_, _^_, min};
 ghost use lib.ListN.{length};
 ghost use Rattle.paths.specs.Queue.{chainAt, Walk};
 ghost use Rattle.params.specs.Checked.{Checked};
@@ -18,7 +18,6 @@ use crate::onetoone::Lone;
 use crate::onetoone::one_to_one;
 use crate::pathscore::Scored;
 use crate::pathscore::Target;
-use crate::pathscore::entries;
 use crate::pathscore::nothing;
 use crate::pathscore::score_chain;
 use crate::queue::end_node;
@@ -322,6 +321,14 @@ fn answer_with(refusal: u32, rows: usize, x: Scored, count: usize, complete: boo
         scored: count as u32,
         complete,
     }
+}
+
+// The entries of an accepted job's feature rows.
+fn entries(k: u8) -> usize
+    requires { ⌜ k ≤ 6 ⌝ }
+    ensures { λ r. ⌜ r ≡ 4 ^ k ⌝ }
+{
+    metrics::kmer::entries(k)
 }
 
 // The search, with its scratch: codes and sizes of at most 2,047 part lists, laid down once, and two feature rows.

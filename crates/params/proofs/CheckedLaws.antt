@@ -13,8 +13,8 @@ use lib.ListN.{length, getD, take, drop-of-length-le}
 use Rattle.metrics.specs.Similarity.{magnitudeSum}
 use Rattle.metrics.proofs.Entries.{few-entries}
 use Rattle.params.specs.declared.Settings.{Settings}
-use Rattle.params.specs.Checked.{rowAt, Flat, Checked}
-use Rattle.params.specs.Numbers.{Table, Parts, badK, badNumber, badSize, badRow, searchMode, queueNeeds, littleQueueRoom, settingsRules, lengthRules, roomRules, callRules, firstFault}
+use Rattle.params.specs.Checked.{Flat, Checked}
+use Rattle.params.specs.Numbers.{Table, Parts, badK, badNumber, badSize, badRow, searchMode, queueNeeds, littleQueueRoom, settingsRules, lengthRules, roomRules, callRules, firstFault, rowAt}
 use Rattle.params.proofs.CheckLaws.{Passed, none-given, or-no, and-yes, any-where}
 
 agreed : (a b : ℕ) → not (eqb a b) ≡ false → a ≡ b

@@ -1,15 +1,12 @@
--- What an accepted job is known to be: the limits of document 01, "Numbers a job may hold", as the functions behind the checks ask them.
+-- What an accepted job is known to be: the limits of document 01, as the functions behind the checks ask them. No public promise cites this file.
 use Prim.Native.Nat.{ℕ, _*_, _^_, _≤_}
 use mathlib.Core.Path.{_≡_}
 use mathlib.Core.List.{List}
 use lib.IntN.{ℤ, pos, natAbs}
-use lib.ListN.{length, getD, take, drop}
+use lib.ListN.{length, getD}
 use Rattle.metrics.specs.Similarity.{magnitudeSum}
+use Rattle.params.specs.Numbers.{rowAt}
 use Rattle.params.specs.declared.Settings.{Settings}
-
--- row r of a table that holds rows of e entries one behind the other
-abbrev pub rowAt : ℕ → List ℤ → ℕ → List ℤ
-rowAt e table r = take e (drop (r * e) table)
 
 -- n feature rows of e entries, each within its limit
 pub record Flat (n e : ℕ) (table : List ℤ) : Type 0 where

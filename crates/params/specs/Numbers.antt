@@ -4,10 +4,9 @@ use mathlib.Core.Bool.{Bool, false, not, cond, _&&_, _||_}
 use mathlib.Core.List.{List, [], _∷_, _++_}
 use lib.Dec.{leb, ltb, eqb}
 use lib.IntN.{ℤ, pos, natAbs}
-use lib.ListN.{length, getD}
+use lib.ListN.{length, getD, take, drop}
 use lib.Ieee.{Float, le}
 use Rattle.metrics.specs.Similarity.{whole, magnitudeSum}
-use Rattle.params.specs.Checked.{rowAt}
 use Rattle.params.specs.declared.Settings.{Settings}
 
 -- what the caller lends of the variants; V is the number of starts
@@ -27,6 +26,10 @@ pub record Parts : Type 0 where
 
 abbrev pub partsOf : List ℤ → List ℤ → Parts
 partsOf a b = record { sizes = a; features = b }
+
+-- row r of a table that holds rows of e entries one behind the other
+abbrev pub rowAt : ℕ → List ℤ → ℕ → List ℤ
+rowAt e table r = take e (drop (r * e) table)
 
 -- whom a row of the table of refusals concerns
 pub data Concern : Type 0 where

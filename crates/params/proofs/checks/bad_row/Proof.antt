@@ -6,8 +6,7 @@ use Prim.Native.Nat.{_+_, _*_, _-_, _≤_}
 use native.Mathlib.Omega.{arith}
 use lib.Dec.{ltb}
 use Rattle.metrics.specs.Similarity.{magnitudeSum}
-use Rattle.params.specs.Checked.{rowAt}
-use Rattle.params.specs.Numbers.{anyBelow, badRow}
+use Rattle.params.specs.Numbers.{anyBelow, badRow, rowAt}
 use Rattle.params.proofs.CheckLaws.{any-none, any-more, any-here, any-end, row-inside}
 use Rattle.params.proofs.checks.bad_row.Statement.{statement}
 use Rattle.params.proofs.checks.bad_row.Tie as tie
