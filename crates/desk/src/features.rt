@@ -2,10 +2,9 @@
 use metrics::kmer::seq_to_kmer;
 ghost use mathlib.Core.Path.{_≡_};
 ghost use Prim.Native.Nat.{_-_};
-ghost use lib.ListN.{length, take, drop};
+ghost use lib.ListN.{take, drop};
 ghost use Rattle.metrics.specs.Letters.{countsOf};
-ghost use Rattle.job.specs.Writing.{sum};
-ghost use Rattle.desk.specs.Rows.{rowsFrom, RowFits, RowsFit, Counted, rowStored};
+ghost use Rattle.desk.specs.Rows.{RowFits, RowsFit, Counted, rowStored};
 
 // One row, of the letters from `at` to `end`, into the entries from `from` to `to`.
 fn count_row(

@@ -10,7 +10,6 @@ use job::form::Scan;
 use job::reader::scan;
 use metrics::refusals::TOO_LARGE;
 ghost use mathlib.Core.Path.{_≡_};
-ghost use Prim.Native.Nat.{_≤_};
 ghost use lib.ListN.{length};
 ghost use Rattle.job.specs.Reading.{placed};
 ghost use Rattle.desk.specs.Desk.{deskText};

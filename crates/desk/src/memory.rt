@@ -15,7 +15,6 @@ use metrics::kmer::entries;
 use metrics::refusals::BAD_K;
 use metrics::refusals::TOO_LARGE;
 use params::Settings;
-ghost use mathlib.Core.Path.{_≡_};
 ghost use Prim.Native.Nat.{_≤_};
 ghost use lib.ListN.{length, take};
 ghost use Rattle.params.specs.Numbers.{tableOf, partsOf};

@@ -8,7 +8,7 @@ use metrics::refusals::OUT_OF_PLACE;
 use metrics::refusals::TOO_MANY_LETTERS;
 use metrics::refusals::UNKNOWN_KIND;
 ghost use mathlib.Core.Path.{_≡_};
-ghost use mathlib.Core.Bool.{Bool, true};
+ghost use mathlib.Core.Bool.{true};
 ghost use mathlib.Core.List.{[]};
 ghost use Prim.Native.Nat.{_≤_, _<_, _^_, _+_};
 ghost use lib.ListN.{length, drop, take};

@@ -10,7 +10,7 @@ use lib.ListN.{length, take}
 use Rattle.paths.specs.Chains.{firstAfter}
 use Rattle.paths.specs.Queue.{chainAt, Walk, Queue, Running, Ended}
 use Rattle.params.specs.Checked.{Sized, Checked}
-use Rattle.params.specs.Numbers.{Table, Parts, searchMode}
+use Rattle.params.specs.Numbers.{Table, Parts}
 use Rattle.kplib.specs.Sums.{sizeOf}
 use Rattle.kplib.specs.Score.{chainScore}
 use Rattle.kplib.specs.Scoring.{Below, Tables, LaidDown}

@@ -1,10 +1,10 @@
 // The part lists of a haplotype, laid down once a search as codes and sizes (haplotype.rs).
 ghost use mathlib.Core.Path.{_≡_};
-ghost use Prim.Native.Nat.{ℕ, _+_, _-_, _/_, _≤_, _<_, max};
+ghost use Prim.Native.Nat.{_+_, _-_, _/_, _≤_, _<_, max};
 ghost use lib.IntN.{ℤ, pos, natAbs, _+ℤ_};
 ghost use lib.ListN.{length, getD, take};
 ghost use Rattle.params.specs.Checked.{Sized};
-ghost use Rattle.kplib.specs.Parts.{wholeOf, lengthsOf, fallingLists};
+ghost use Rattle.kplib.specs.Parts.{wholeOf, lengthsOf};
 ghost use Rattle.kplib.specs.Sums.{sizeOf};
 ghost use Rattle.kplib.specs.Scoring.{positionsOfBits, listOfCode, Choosing, Chosen, LayingLengths, LaidLengths, Layable, LaidDown};
 use params::Settings;

@@ -1,12 +1,12 @@
 // The score of a chain against the part lists of a haplotype (pathscore.rs).
 ghost use mathlib.Core.Path.{_≡_};
-ghost use mathlib.Core.Bool.{Bool, _&&_};
-ghost use Prim.Native.Nat.{ℕ, _≤_};
+ghost use mathlib.Core.Bool.{_&&_};
+ghost use Prim.Native.Nat.{_≤_};
 ghost use lib.Dec.{eqb};
-ghost use lib.IntN.{ℤ, natAbs};
+ghost use lib.IntN.{natAbs};
 ghost use lib.ListN.{length};
 ghost use Rattle.metrics.specs.Similarity.{sizesimValue, magnitudeSum};
-ghost use Rattle.kplib.specs.Sums.{rowPlus, zeros, featuresFrom, featuresOf, Total};
+ghost use Rattle.kplib.specs.Sums.{rowPlus, zeros, featuresFrom, featuresOf};
 ghost use Rattle.kplib.specs.Score.{sign, seqsimOfRows, gapOf, scoreValue, listScore, start, targetOf, greaterOf, chainScore};
 ghost use Rattle.kplib.specs.Scoring.{Summable, Ready, Comparable, mayWin, total, listOfCode, Attempt, Attempted, noneTried, Scorable};
 use crate::haplotype::positions;

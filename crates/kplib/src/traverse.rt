@@ -6,7 +6,7 @@ ghost use Prim.Native.Nat.{_+_, _<_, _≤_, _^_, min};
 ghost use lib.ListN.{length};
 ghost use Rattle.paths.specs.Queue.{chainAt, Walk};
 ghost use Rattle.params.specs.Checked.{Checked};
-ghost use Rattle.params.specs.Numbers.{tableOf, partsOf, searchMode};
+ghost use Rattle.params.specs.Numbers.{tableOf, partsOf};
 ghost use Rattle.kplib.specs.OneToOne.{oneToOne, loneRowsAt};
 ghost use Rattle.kplib.specs.Scoring.{Tables};
 ghost use Rattle.kplib.specs.Search.{rowsFor};

@@ -5,7 +5,7 @@ ghost use mathlib.Core.Bool.{cond, true};
 ghost use Prim.Native.Nat.{_+_, _*_, _≤_, _<_};
 ghost use lib.Dec.{ltb, leb};
 ghost use lib.IntN.{pos, natAbs, _-ℤ_};
-ghost use lib.ListN.{length, drop};
+ghost use lib.ListN.{length};
 ghost use Rattle.metrics.specs.Similarity.{magnitudeSum};
 ghost use Rattle.metrics.specs.Lanes.{bitsOf, magnitudeOfBits, Added, Summed};
 

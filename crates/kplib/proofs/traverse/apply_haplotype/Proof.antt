@@ -46,16 +46,16 @@ answer-search-requires c κs =
     (startable (a .s) t p (now (a .parents)) (now (a .last-rows)) (now (a .keys)) (length (now (a .rows))) e (sym (c .before .before .before .before .before .search-mode .ensures) ∙ c .before .before .before .before .if2 .taken), answer-suffices (a .s) t p _ _ e)
 
 same-length : tie.Need-same-length
-same-length c = search needs
+same-length c = c .before .before .before .before .before .before .before .before .answer-search .kept .1 .1 .1 .1 .1 .1 .1 .0
 
 same-length-2 : tie.Need-same-length-2
-same-length-2 c = search needs
+same-length-2 c = c .before .before .before .before .before .before .before .before .answer-search .kept .1 .1 .1 .1 .1 .1 .1 .1 .0
 
 same-length-3 : tie.Need-same-length-3
-same-length-3 c = search needs
+same-length-3 c = c .before .before .before .before .before .before .before .before .answer-search .kept .1 .1 .1 .1 .1 .1 .1 .1 .1 .0
 
 same-length-4 : tie.Need-same-length-4
-same-length-4 c = search needs
+same-length-4 c = c .before .before .before .before .before .before .before .before .answer-search .kept .1 .1 .1 .1 .1 .1 .1 .1 .1 .1 .0
 
 returns-2 : tie.Need-returns-2
 returns-2 c =
@@ -78,7 +78,7 @@ answer-alone-requires c κs =
     (accepted (a .s) t p _ _ e, answer-suffices (a .s) t p _ _ e)
 
 same-length-5 : tie.Need-same-length-5
-same-length-5 c = search needs
+same-length-5 c = c .before .before .answer-alone .kept .1 .1 .1 .1 .1 .1 .1 .0
 
 returns-3 : tie.Need-returns-3
 returns-3 c =

@@ -51,10 +51,10 @@ score-chain-requires c κs =
     scorable-as (cut _ 64 _ (omega arith) (c .before .before .before .before .before .before .before .before .before .read-chain .ensures)) (h .tables) (h .within) (h .most) (read-back _ (c .before .before .before .before .before .rows-size .ok) ∙ c .before .before .before .before .before .rows-size .ensures) (h .laid) (omega arith) (h .chain-row) (h .list-row)
 
 same-length : tie.Need-same-length
-same-length c = search needs
+same-length c = c .before .before .before .score-chain .kept .1 .1 .1 .1 .1 .1 .1 .1 .1 .1 .1 .0
 
 same-length-2 : tie.Need-same-length-2
-same-length-2 c = search needs
+same-length-2 c = c .before .before .before .score-chain .kept .1 .1 .1 .1 .1 .1 .1 .1 .1 .1 .1 .1 .0
 
 returns : tie.Need-returns
 returns c = weighed-as _ _ _ _ _ (cut _ 64 _ (omega arith) (c .before .before .before .before .before .before .before .before .before .before .before .before .before .read-chain .ensures)) _ (read-back _ (c .before .before .before .before .before .before .before .before .before .rows-size .ok) ∙ c .before .before .before .before .before .before .before .before .before .rows-size .ensures) (c .before .before .before .score-chain .ensures)
