@@ -207,7 +207,7 @@ impl Rows {
         if !name.contains(&self.only) {
             return;
         }
-        let times = work(&mut Random(1));
+        let times = work(&mut Random::new(1));
         let [ours, rust] = [times.ours, times.rust].map(|nanos| nanos / 1e3);
         println!("{name:<66} {ours:>12.2} {rust:>12.2} {:>8.2}", times.ratio());
         self.told.push(times);

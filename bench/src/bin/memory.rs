@@ -39,7 +39,7 @@ fn most<T>(work: impl FnOnce() -> T) -> usize {
 }
 
 fn main() {
-    let mut random = Random(2);
+    let mut random = Random::new(2);
     println!("{:<66} {:>12} {:>12} {:>8}", "the queue of one search, bytes", "ours", "the Rust", "ratio");
     // neither k nor the thresholds change a queue
     for shape in shapes().iter().filter(|shape| shape.k == 4 && shape.threshold == 0.0) {
