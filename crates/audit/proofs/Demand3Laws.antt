@@ -2,7 +2,7 @@
 use mathlib.Core.Path.{_≡_, refl, sym, ap, _∙_}
 use Prim.Native.Nat.{ℕ, _+_, min}
 use native.Mathlib.Omega.{arith}
-use mathlib.Core.Bool.{Bool, true, false, not, _&&_, _||_}
+use mathlib.Core.Bool.{Bool, true, false, not, _||_}
 use mathlib.Core.List.{List, [], reverse}
 use borrow.Author.Tests.{eqb-true}
 use lib.Dec.{T, leb, eqb}
@@ -21,15 +21,9 @@ use Rattle.audit.specs.Demand3.{Demand3, Demand3Holds, resultIn}
 use Rattle.params.specs.declared.Settings.{Settings}
 use Rattle.kplib.specs.declared.traverse.Answer.{Answer}
 use Rattle.kplib.proofs.GraphLaws.{counts-chains}
-use Rattle.kplib.proofs.AnswerLaws.{at-least-zero, score-number}
-
-holds : (t : Bool) → t ≡ true → T t
-holds true e = tt
-holds false e = let z : _≡_ {A = ℕ} 0 1 = cc in absurd (omega arith)
-
-is-true : (t : Bool) → T t → t ≡ true
-is-true true h = refl
-is-true false h = absurd h
+use Rattle.params.proofs.CheckLaws.{and-yes}
+use Rattle.kplib.proofs.RoundingLaws.{holds}
+use Rattle.kplib.proofs.AnswerLaws.{is-true, at-least-zero, score-number}
 
 or-right : (a b : Bool) → a ≡ false → T (a || b) → b ≡ true
 or-right true b e h = let z : _≡_ {A = ℕ} 0 1 = cc in absurd (omega arith)
@@ -44,10 +38,6 @@ in-order = record {
   total = λ a b p q e. or-right (le (a .scored .score) (b .scored .score)) (le (b .scored .score) (a .scored .score)) e (le-total (a .scored .score) (b .scored .score) p q);
   trans = λ a b c p q r e f. is-true (le (a .scored .score) (c .scored .score)) (le-trans (a .scored .score) (b .scored .score) (c .scored .score) (holds _ e) (holds _ f));
 }
-
-and-both : (a b : Bool) → (a && b) ≡ true → (a ≡ true) × (b ≡ true)
-and-both true b h = (refl, h)
-and-both false b h = let z : _≡_ {A = ℕ} 0 1 = cc in absurd (omega arith)
 
 module _ (s : Settings) (t : Table) (p : Parts) where
   number : (c : List ℕ) → Number (resultOf s t p c)
@@ -69,7 +59,7 @@ module _ (s : Settings) (t : Table) (p : Parts) where
     parts : (firstFault s t p q a ≡ 0) × (searchMode s (length (t .starts)) ≡ true)
     unfolding searches
     parts =
-        let b = and-both (eqb (firstFault s t p q a) 0) (searchMode s (length (t .starts))) mode in
+        let b = and-yes (eqb (firstFault s t p q a) 0) (searchMode s (length (t .starts))) mode in
         (eqb-true (firstFault s t p q a) 0 (b .0), b .1)
 
     found-is : foundAfter (firstFault s t p q a) s t p ≡ searched s t p

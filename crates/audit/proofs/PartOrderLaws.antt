@@ -13,7 +13,9 @@ use Rattle.paths.specs.Sums.{bit, sameRows, timesIn}
 use Rattle.paths.proofs.SumLaws.{sum-append}
 use Rattle.kplib.specs.Parts.{choices, fallingLists, lengthsOf, partLists}
 use Rattle.kplib.proofs.PartLaws.{whole-only, all-lengths}
-use Rattle.audit.specs.PartOrder.{ascending, lexBefore, longerFirst, Every, InOrder, StandsWhen, PartOrder}
+use Rattle.paths.specs.Best.{All}
+use Rattle.paths.proofs.BestLaws.{all-map}
+use Rattle.audit.specs.PartOrder.{ascending, lexBefore, longerFirst, InOrder, StandsWhen, PartOrder}
 
 -- ---- tests
 same-leb : (a b c d : ℕ) → (a ≤ b → c ≤ d) → (c ≤ d → a ≤ b) → leb a b ≡ leb c d
@@ -101,40 +103,36 @@ chosen (suc left) p (suc n) [] = omega (arith, in-either left p n [], never-empt
 chosen (suc left) p (suc n) (a ∷ y) = chosen-cons left p n a y (chosen left (suc p) n y) (chosen left (suc p) (suc n) (a ∷ y)) (eqb a p) refl
 
 -- ---- order
-every-append : (P : List ℕ → Type 0) (a b : List (List ℕ)) → Every P a → Every P b → Every P (a ++ b)
-every-append P [] b h k = k
-every-append P (x ∷ a) b h k = (h .0, every-append P a b (h .1) k)
-
-every-from : (P Q : List ℕ → Type 0) → ((x : List ℕ) → P x → Q x) → (l : List (List ℕ)) → Every P l → Every Q l
-every-from P Q give [] h = tt
-every-from P Q give (x ∷ l) h = (give x (h .0), every-from P Q give l (h .1))
+all-append : (P : List ℕ → Type 0) (a b : List (List ℕ)) → All P a → All P b → All P (a ++ b)
+all-append P [] b h k = k
+all-append P (x ∷ a) b h k = (h .0, all-append P a b (h .1) k)
 
 -- with p before each
-every-with : (P Q : List ℕ → Type 0) (p : ℕ) → ((x : List ℕ) → P x → Q (p ∷ x)) → (l : List (List ℕ)) → Every P l → Every Q (map (λ (x : List ℕ). p ∷ x) l)
-every-with P Q p give [] h = tt
-every-with P Q p give (x ∷ l) h = (give x (h .0), every-with P Q p give l (h .1))
+all-with : (P Q : List ℕ → Type 0) (p : ℕ) → ((x : List ℕ) → P x → Q (p ∷ x)) → (l : List (List ℕ)) → All P l → All Q (map (λ (x : List ℕ). p ∷ x) l)
+all-with P Q p give [] h = tt
+all-with P Q p give (x ∷ l) h = (give x (h .0), all-with P Q p give l (h .1))
 
-order-append : (before : List ℕ → List ℕ → Bool) (a b : List (List ℕ)) → InOrder before a → InOrder before b → Every (λ x. Every (λ y. before x y ≡ true) b) a → InOrder before (a ++ b)
+order-append : (before : List ℕ → List ℕ → Bool) (a b : List (List ℕ)) → InOrder before a → InOrder before b → All (λ x. All (λ y. before x y ≡ true) b) a → InOrder before (a ++ b)
 order-append before [] b h k across = k
-order-append before (x ∷ a) b h k across = (every-append (λ y. before x y ≡ true) a b (h .0) (across .0), order-append before a b (h .1) k (across .1))
+order-append before (x ∷ a) b h k across = (all-append (λ y. before x y ≡ true) a b (h .0) (across .0), order-append before a b (h .1) k (across .1))
 
 order-with : (p : ℕ) (l : List (List ℕ)) → InOrder lexBefore l → InOrder lexBefore (map (λ (x : List ℕ). p ∷ x) l)
 order-with p [] h = tt
 order-with p (x ∷ l) h = (
-  every-with (λ y. lexBefore x y ≡ true) (λ y. lexBefore (p ∷ x) y ≡ true) p (λ y k. rw (le-ltb p p (omega arith), eq-eqb p p refl) k) l (h .0),
+  all-with (λ y. lexBefore x y ≡ true) (λ y. lexBefore (p ∷ x) y ≡ true) p (λ y k. rw (le-ltb p p (omega arith), eq-eqb p p refl) k) l (h .0),
   order-with p l (h .1),
 )
 
 abbrev Sized : ℕ → List ℕ → Type 0
 Sized n x = length x ≡ n
 
-chosen-sized : (left p n : ℕ) → Every (Sized n) (choices left p n)
+chosen-sized : (left p n : ℕ) → All (Sized n) (choices left p n)
 unfolding choices
 chosen-sized left p zero = (refl, tt)
 chosen-sized zero p (suc n) = tt
 chosen-sized (suc left) p (suc n) =
-    every-append (Sized (suc n)) (taking left p n) (choices left (suc p) (suc n))
-    (every-with (Sized n) (Sized (suc n)) p (λ x h. ap suc h) (choices left (suc p) n) (chosen-sized left (suc p) n))
+    all-append (Sized (suc n)) (taking left p n) (choices left (suc p) (suc n))
+    (all-with (Sized n) (Sized (suc n)) p (λ x h. ap suc h) (choices left (suc p) n) (chosen-sized left (suc p) n))
     (chosen-sized left (suc p) (suc n))
 
 -- a list that begins with p or later
@@ -152,13 +150,13 @@ unfolding StartsFrom
 starts-before p x [] h = absurd h
 starts-before p x (b ∷ y) h = rw (lt-ltb p b h)
 
-chosen-start : (left p n : ℕ) → Every (StartsFrom p) (choices left p (suc n))
+chosen-start : (left p n : ℕ) → All (StartsFrom p) (choices left p (suc n))
 unfolding choices StartsFrom
 chosen-start zero p n = tt
 chosen-start (suc left) p n =
-    every-append (StartsFrom p) (taking left p n) (choices left (suc p) (suc n))
-    (every-with (Sized n) (StartsFrom p) p (λ x h. omega arith) (choices left (suc p) n) (chosen-sized left (suc p) n))
-    (every-from (StartsFrom (suc p)) (StartsFrom p) (starts-later p) (choices left (suc p) (suc n)) (chosen-start left (suc p) n))
+    all-append (StartsFrom p) (taking left p n) (choices left (suc p) (suc n))
+    (all-with (Sized n) (StartsFrom p) p (λ x h. omega arith) (choices left (suc p) n) (chosen-sized left (suc p) n))
+    (all-map (StartsFrom (suc p)) (StartsFrom p) (starts-later p) (choices left (suc p) (suc n)) (chosen-start left (suc p) n))
 
 chosen-order : (left p n : ℕ) → InOrder lexBefore (choices left p n)
 unfolding choices
@@ -169,17 +167,17 @@ chosen-order (suc left) p (suc n) =
     order-append lexBefore (taking left p n) later
     (order-with p (choices left (suc p) n) (chosen-order left (suc p) n))
     (chosen-order left (suc p) (suc n))
-    (every-with (Sized n) (λ x. Every (λ y. lexBefore x y ≡ true) later) p
-    (λ x h. every-from (StartsFrom (suc p)) (λ y. lexBefore (p ∷ x) y ≡ true) (starts-before p x) later (chosen-start left (suc p) n))
+    (all-with (Sized n) (λ x. All (λ y. lexBefore x y ≡ true) later) p
+    (λ x h. all-map (StartsFrom (suc p)) (λ y. lexBefore (p ∷ x) y ≡ true) (starts-before p x) later (chosen-start left (suc p) n))
     (choices left (suc p) n) (chosen-sized left (suc p) n))
 
 -- ---- all lengths
 -- among lists of one length the two orders are the same
-one-length : (n : ℕ) (l : List (List ℕ)) → Every (Sized n) l → InOrder lexBefore l → InOrder longerFirst l
+one-length : (n : ℕ) (l : List (List ℕ)) → All (Sized n) l → InOrder lexBefore l → InOrder longerFirst l
 one-length n [] h k = tt
 one-length n (x ∷ l) h k = (both l (h .1) (k .0), one-length n l (h .1) (k .1))
   where
-    both : (l : List (List ℕ)) → Every (Sized n) l → Every (λ y. lexBefore x y ≡ true) l → Every (λ y. longerFirst x y ≡ true) l
+    both : (l : List (List ℕ)) → All (Sized n) l → All (λ y. lexBefore x y ≡ true) l → All (λ y. longerFirst x y ≡ true) l
     both [] s b = tt
     both (y ∷ l) s b =
         let e : length y ≡ length x = s .0 ∙ sym (h .0) in
@@ -188,15 +186,15 @@ one-length n (x ∷ l) h k = (both l (h .1) (k .0), one-length n l (h .1) (k .1)
 abbrev Short : ℕ → List ℕ → Type 0
 Short n x = length x ≤ n
 
-falling-short : (m lengths n : ℕ) → lengths ≤ n → Every (Short n) (fallingLists m lengths n)
+falling-short : (m lengths n : ℕ) → lengths ≤ n → All (Short n) (fallingLists m lengths n)
 unfolding fallingLists
 falling-short m zero n h = tt
 falling-short m (suc lengths) zero h = absurd (not-suc-le-zero h)
 falling-short m (suc lengths) (suc n) h =
     let z : suc n - 1 ≡ n = omega arith in
-    rw z (every-append (Short (suc n)) (choices m 0 (suc n)) (fallingLists m lengths n)
-    (every-from (Sized (suc n)) (Short (suc n)) (λ x e. omega arith) (choices m 0 (suc n)) (chosen-sized m 0 (suc n)))
-    (every-from (Short n) (Short (suc n)) (λ x e. omega arith) (fallingLists m lengths n) (falling-short m lengths n (le-of-suc-le-suc h))))
+    rw z (all-append (Short (suc n)) (choices m 0 (suc n)) (fallingLists m lengths n)
+    (all-map (Sized (suc n)) (Short (suc n)) (λ x e. omega arith) (choices m 0 (suc n)) (chosen-sized m 0 (suc n)))
+    (all-map (Short n) (Short (suc n)) (λ x e. omega arith) (fallingLists m lengths n) (falling-short m lengths n (le-of-suc-le-suc h))))
 
 falling-order : (m lengths n : ℕ) → lengths ≤ n → InOrder longerFirst (fallingLists m lengths n)
 unfolding fallingLists
@@ -208,8 +206,8 @@ falling-order m (suc lengths) (suc n) h =
     rw z (order-append longerFirst (choices m 0 (suc n)) (fallingLists m lengths n)
     (one-length (suc n) (choices m 0 (suc n)) (chosen-sized m 0 (suc n)) (chosen-order m 0 (suc n)))
     (falling-order m lengths n less)
-    (every-from (Sized (suc n)) (λ x. Every (λ y. longerFirst x y ≡ true) (fallingLists m lengths n))
-    (λ x e. every-from (Short n) (λ y. longerFirst x y ≡ true) (λ y k. rw (lt-ltb (length y) (length x) (omega arith))) (fallingLists m lengths n) (falling-short m lengths n less))
+    (all-map (Sized (suc n)) (λ x. All (λ y. longerFirst x y ≡ true) (fallingLists m lengths n))
+    (λ x e. all-map (Short n) (λ y. longerFirst x y ≡ true) (λ y k. rw (lt-ltb (length y) (length x) (omega arith))) (fallingLists m lengths n) (falling-short m lengths n less))
     (choices m 0 (suc n)) (chosen-sized m 0 (suc n))))
 
 -- of no length, and of one of `lengths` lengths from n down

@@ -6,6 +6,7 @@ use mathlib.Core.List.{List, [], _∷_}
 use lib.Dec.{leb, ltb, eqb}
 use lib.ListN.{length}
 use Rattle.paths.specs.Sums.{bit, timesIn}
+use Rattle.paths.specs.Best.{All}
 use Rattle.kplib.specs.Parts.{wholeOf, choices, partLists}
 
 -- positions from `low` on and below `end`, each greater than the one before
@@ -24,14 +25,10 @@ lexBefore (a ∷ x) (b ∷ y) = ltb a b || (eqb a b && lexBefore x y)
 abbrev pub longerFirst : List ℕ → List ℕ → Bool
 longerFirst x y = ltb (length y) (length x) || (eqb (length y) (length x) && lexBefore x y)
 
-abbrev pub Every : (List ℕ → Type 0) → List (List ℕ) → Type 0
-Every P [] = Unit {0}
-Every P (x ∷ l) = P x × Every P l
-
 -- each list stands before every later one
 abbrev pub InOrder : (List ℕ → List ℕ → Bool) → List (List ℕ) → Type 0
 InOrder before [] = Unit {0}
-InOrder before (x ∷ l) = Every (λ y. before x y ≡ true) l × InOrder before l
+InOrder before (x ∷ l) = All (λ y. before x y ≡ true) l × InOrder before l
 
 -- x stands once in l where the test holds, and otherwise never
 abbrev pub StandsWhen : List ℕ → List (List ℕ) → Bool → Type 0

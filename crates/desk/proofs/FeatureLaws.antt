@@ -15,6 +15,7 @@ use Rattle.metrics.specs.declared.kmer.Counted.the-variants.{Done}
 use Rattle.metrics.specs.Letters.{windowsOf, timesIn, signed, countsOf, counterAnswer, rowAfter}
 use Rattle.metrics.proofs.Windows.{table-length}
 use Rattle.metrics.proofs.Totals.{counter-done}
+use Rattle.job.proofs.RowLaws.{sum-next}
 use Rattle.job.specs.Writing.{sum}
 use Rattle.desk.specs.Rows.{rowsFrom, rowStored, RowFits, RowsFit, Counted}
 
@@ -41,11 +42,6 @@ row-counted k at end from to negative letters table fits answer is row e =
     let few : length (take (end - at) (drop at letters)) ≤ 32768 = simp (length-take, length-drop) (omega arith) in
     let done : answer ≡ Done = is ∙ accepted k _ _ (fits .k-low) (fits .k-high) long few in
     rw (post-is from to table up, e, done)
-
--- the letters from here on are those of the row here and those of the rows behind
-sum-drop : (counts : List ℕ) (row : ℕ) → row < length counts → sum (drop row counts) ≡ getD counts row 0 + sum (drop (row + 1) counts)
-unfolding sum
-sum-drop counts row h = rw (add-one row, drop-cons counts row 0 h)
 
 sum-none : sum [] ≡ 0
 unfolding sum
@@ -82,7 +78,7 @@ module _ (k width : ℕ) (negatives : List Bool) (counts letters : List ℕ) (fi
     row-fits =
         let a = now .letters-left in
         let b = fits .letters-end in
-        let d = sum-drop counts row more in
+        let d = sum-next counts row more in
         let e = row-end in
         let w : from + width ≡ from + 4 ^ k = ap (λ (n : ℕ). from + n) (fits .width-is) in
         record { k-low = fits .k-low; k-high = fits .k-high; rises = omega arith; letters-end = omega arith; few = fits .few; wide = w; table-end = e }
@@ -113,7 +109,7 @@ module _ (k width : ℕ) (negatives : List Bool) (counts letters : List ℕ) (fi
         let long : length new ≡ length table = rw (e, length-append, length-append, length-drop, l, m) (omega arith) in
         let b = suc-mul row width in
         let d = now .from-is in
-        let s = sum-drop counts row more in
+        let s = sum-next counts row more in
         let t = now .letters-left in
         let r : row + 1 ≡ suc row = add-one row in
         let step : (row + 1) * width ≡ row * width + width = rw r b in

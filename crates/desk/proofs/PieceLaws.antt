@@ -2,18 +2,15 @@
 use Prim.Native.Nat.{ℕ, zero, suc, _+_, _-_, _*_, _/_, _%_, _≤_, _<_}
 use native.Mathlib.Omega.{arith}
 use native.Mathlib.Numerals.{add-one}
-use native.Mathlib.Nat.{add-zero, add-suc, suc-add}
+use native.Mathlib.Nat.{add-zero}
 use mathlib.Core.Path.{_≡_, refl, sym, ap, subst, _∙_}
 use mathlib.Core.List.{List, [], _∷_, _++_, append-nil, append-assoc}
 use lib.ListN.{length, getD, take, drop, set, length-append, length-set, drop-of-length-le}
 use lib.Seq.{sets, drop-cons, take-suc}
 use borrow.Author.Tests.{lt-ltb, le-ltb}
+use Rattle.job.proofs.FieldLaws.{sets-append}
 use Rattle.desk.specs.Text.{hexDigit, hex2, digitsWithin, rowText, rowsText}
 use Rattle.desk.specs.Pieces.{Put}
-
-sets-append : (l : List ℕ) (i : ℕ) (xs ys : List ℕ) → sets l i (xs ++ ys) ≡ sets (sets l i xs) (i + length xs) ys
-sets-append l i [] ys = rw (add-zero i)
-sets-append l i (x ∷ xs) ys = sets-append (set l i x) (suc i) xs ys ∙ ap (λ (n : ℕ). sets (sets (set l i x) (suc i) xs) n ys) (suc-add i (length xs) ∙ sym (add-suc i (length xs)))
 
 -- one piece and then another
 pub put-then : {a b : ℕ} {t u w : List ℕ} {i r q : ℕ} {xs ys : List ℕ} → Put a t u i r xs → Put b u w r q ys → Put (a + b) t w i q (xs ++ ys)

@@ -25,12 +25,10 @@ use Rattle.kplib.specs.declared.pathscore.Target.the-variants.{Nothing, 
 use Rattle.kplib.specs.declared.pathscore.Verdict.{Verdict}
 use Rattle.kplib.specs.declared.pathscore.Verdict.the-variants.{Skipped, Scores}
 use Rattle.kplib.specs.declared.onetoone.Lone.{Lone}
+use Rattle.kplib.proofs.RoundingLaws.{holds}
 use Rattle.kplib.proofs.OneToOneLaws.{nodeStep, row-node, Matched, none-matched, row-matched, all-matched}
 
-holds : (t : Bool) → t ≡ true → T t
-holds t e = subst (λ (b : Bool). T b) (sym e) tt
-
-is-true : (t : Bool) → T t → t ≡ true
+pub is-true : (t : Bool) → T t → t ≡ true
 is-true true h = refl
 is-true false h = absurd h
 

@@ -127,7 +127,7 @@ positions-below m p (suc n) h = (omega arith, positions-below m (suc p) n (omega
 pub whole-below : (m : ℕ) → Below m (wholeOf m)
 whole-below m = positions-below m 0 m (omega arith)
 
-positions-length : (p n : ℕ) → length (positionsFrom p n) ≡ n
+pub positions-length : (p n : ℕ) → length (positionsFrom p n) ≡ n
 unfolding positionsFrom
 positions-length p zero = refl
 positions-length p (suc n) = ap suc (positions-length (suc p) n)

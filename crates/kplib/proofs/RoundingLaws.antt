@@ -463,8 +463,8 @@ nan-under : (x : Float) → le nan x ≡ true → ⊥
 unfolding le
 nan-under x h = let z : _≡_ {A = ℕ} 0 1 = cc in omega arith
 
-yes : (t : Bool) → t ≡ true → T t
-yes t e = subst (λ (b : Bool). T b) (sym e) tt
+pub holds : (t : Bool) → t ≡ true → T t
+holds t e = subst (λ (b : Bool). T b) (sym e) tt
 
 no : (t : Bool) → (T t → ⊥) → t ≡ false
 no true h = absurd (h tt)
@@ -473,7 +473,7 @@ no false h = refl
 pub beaten : (x y best : Float) → Safe x y → le y best ≡ true → lt best x ≡ false
 beaten nan y best lost h = nothing-beats best
 beaten x nan best gone h = absurd (nan-under best h)
-beaten x y best (kept k) h = no (lt best x) (λ t. lt-not-le best x t (le-trans x y best (Le→le x y k) (yes (le y best) h)))
+beaten x y best (kept k) h = no (lt best x) (λ t. lt-not-le best x t (le-trans x y best (Le→le x y k) (holds (le y best) h)))
 
 -- the score of a list is at most what it were if its seqsim were 1.0
 pub score-safe : (s : Settings) (d n : ℕ) (size : Float) (partial g : ℕ) → Safe (scoreValue s (seqsimValue d n) size partial g) (scoreValue s (whole 1) size partial g)

@@ -1,6 +1,6 @@
 -- What a step of the search asks of its callees follows from where the search stands; and what they promise is where it stands after the step. Assumes nothing.
 use mathlib.Core.Path.{_≡_, refl, ap, _∙_}
-use Prim.Native.Nat.{ℕ, zero, suc, _+_, _-_, _*_, _^_, _≤_, _<_}
+use Prim.Native.Nat.{ℕ, _+_, _-_, _*_, _^_, _≤_, _<_}
 use native.Mathlib.Omega.{arith}
 use native.Mathlib.Nat.{mul-le-mul-right}
 use mathlib.Core.Bool.{Bool, true, false, cond}
@@ -20,7 +20,7 @@ use Rattle.paths.proofs.QueueLaws.{chain-parts, chain-end, chain-length}
 use Rattle.paths.proofs.RunLaws.{taken-in, taken-queue, begin, step-on, end-empty, end-steps}
 use Rattle.params.specs.Checked.{Sized}
 use Rattle.params.specs.Numbers.{Table, Parts}
-use Rattle.kplib.specs.Parts.{positionsFrom, wholeOf}
+use Rattle.kplib.specs.Parts.{wholeOf}
 use Rattle.kplib.specs.Sums.{sizeFrom, sizeOf}
 use Rattle.kplib.specs.Score.{start}
 use Rattle.kplib.specs.Scoring.{Below, LaidDown}
@@ -33,6 +33,7 @@ use Rattle.kplib.specs.declared.traverse.Leader.{Leader}
 use Rattle.kplib.specs.declared.traverse.Weighed.{Weighed}
 use Rattle.kplib.specs.declared.traverse.Progress.{Progress}
 use Rattle.kplib.proofs.WordLaws.{back}
+use Rattle.kplib.proofs.CodeLaws.{positions-length}
 use Rattle.kplib.proofs.SizeSumLaws.{size-le}
 use Rattle.kplib.proofs.ChainScoreLaws.{tables-of}
 use Rattle.kplib.proofs.ExtensionLaws.{reverse-length, end-at}
@@ -47,13 +48,8 @@ chain-below follows v (r ∷ c) h =
     let p = chain-parts follows v r c h in
     rw (reverse-cons r c) (below-end v (reverse c) r (chain-below follows v c (p .0)) (p .1))
 
-positions-few : (p n : ℕ) → length (positionsFrom p n) ≡ n
-unfolding positionsFrom
-positions-few p zero = refl
-positions-few p (suc n) = ap suc (positions-few (suc p) n)
-
 pub haplotype-small : (sizes : List ℤ) → Sized sizes → natAbs (haplotypeSize sizes) ≤ 8388608
-haplotype-small sizes h = size-le sizes (wholeOf (length sizes)) h (omega (arith, positions-few 0 (length sizes), h .few))
+haplotype-small sizes h = size-le sizes (wholeOf (length sizes)) h (omega (arith, positions-length 0 (length sizes), h .few))
 
 later-result : (r x y : Leader) (t : Bool) (f : ℕ → List ℕ) → r ≡ cond t y x
     → resultWith (reverse (f (r .entry))) (r .scored) ≡ cond t (resultWith (reverse (f (y .entry))) (y .scored)) (resultWith (reverse (f (x .entry))) (x .scored))

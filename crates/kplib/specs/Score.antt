@@ -41,7 +41,8 @@ seqsimOfRows minkfreq a b = seqsimValue (sumD minkfreq a b) (sumN minkfreq a b)
 abbrev pub seqsimOfTotals : Settings → Total → Total → Float
 seqsimOfTotals s chain list = seqsimOfRows (s .minkfreq) (chain .features) (list .features)
 
--- one list, with `partial` parts left out, against one chain: skipped, or score, sizesim and seqsim
+-- one list, with `partial` parts left out, against one chain: skipped, or score, sizesim and seqsim. Under squish an empty chain accepts no list;
+-- else skip if the signs differ, or if sizesim or seqsim is below its threshold
 unfoldable pub listScore : Settings → Total → Total → ℕ → Verdict
 listScore s chain list partial =
     cond (s .squish && eqb (chain .count) 0) Skipped

@@ -17,7 +17,7 @@ use crate::vargraph::extends;
 use crate::vargraph::node_of;
 
 // Says false only where no key from place `from` up to `to` is below `key`: the difference to a lower one wraps, and shows in the
-// highest bit. With no early exit this becomes vector instructions, which compare no such keys.
+// highest bit. Baseline x86-64 has vector instructions that subtract 64-bit numbers, and none that compare them.
 fn may_hold_below(keys: &[u64], from: usize, to: usize, key: u64) -> bool
     requires { do ⌜ to ≤ (← ⟦keys.len()⟧) ⌝ }
     ensures { λ r. ⌜ (r ≡ false → (j : ℕ) → j < to → from ≤ j → key ≤ getD (now (keys .entry)) j 0) ⌝ }
