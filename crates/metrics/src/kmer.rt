@@ -4,8 +4,9 @@ ghost use mathlib.Core.Bool.{cond};
 ghost use Prim.Native.Nat.{_+_, _*_, _%_, _≤_, _<_, _^_};
 ghost use lib.IntN.{pos, natAbs, sucℤ, predℤ};
 ghost use lib.ListN.{length, replicate};
-ghost use Rattle.metrics.specs.Letters.{codeOf, countsOf, counterAnswer, rowAfter, entryCount};
+ghost use Rattle.metrics.specs.Letters.{codeOf, countsOf};
 ghost use Rattle.metrics.specs.Lanes.{Coded};
+ghost use Rattle.metrics.specs.Promises.{EntriesPromise, SeqToKmerPromise};
 use crate::refusals::BAD_K;
 use crate::refusals::BAD_LENGTHS;
 use crate::refusals::TOO_MANY_LETTERS;
@@ -66,7 +67,7 @@ fn next_window(window: usize, code: usize, k: u8, size: usize) -> usize
 
 // The entries of a feature row: 4^k. A k over 6 has none.
 pub fn entries(k: u8) -> usize
-    ensures { λ r. ⌜ r ≡ entryCount k ⌝ }
+    ensures { λ r. ⌜ EntriesPromise k r ⌝ }
 {
     match k {
         0 => 1,
@@ -118,8 +119,7 @@ fn count_windows(seq: &[u8], k: u8, size: usize, negative: bool, out: &mut [i32]
 
 // The counts of a sequence's windows of k letters, in a lent row of 4^k entries.
 pub fn seq_to_kmer(seq: &[u8], k: u8, negative: bool, out: &mut [i32]) -> Counted
-    ensures answer { λ r. ⌜ r ≡ counterAnswer k (now (seq .entry)) (now (out .entry)) ⌝ }
-    ensures row { λ r. ⌜ now (out .exit) ≡ rowAfter r (countsOf k negative (now (seq .entry))) (now (out .entry)) ⌝ }
+    ensures { λ r. ⌜ SeqToKmerPromise (now (seq .entry)) k negative (now (out .entry)) (now (out .exit)) r ⌝ }
 {
     if k < 1 {
         return Counted::Refused(BAD_K);
