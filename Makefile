@@ -21,6 +21,7 @@ packages:
 test:
 	$(MAKE) --no-print-directory --jobs=2 proofs packages
 	tools/promises
+	tools/test_promises
 	rt fmt --check
 	tools/run-examples
 	SHEET_NEEDS_PROGRAM=1 SHEET_WRITER=target/bin/copy_job tools/test_sheet
