@@ -2,6 +2,7 @@
 .PHONY: run test program proofs packages oracle faults fuzz bindings bench
 
 program:
+	tools/emulate >&2
 	rt check ndigomarr copy_job >&2
 
 run: program
