@@ -10,7 +10,7 @@ use lib.IntN.{ℤ, pos}
 use lib.ListN.{length, getD, drop, take-append-drop, drop-of-length-le}
 use lib.Seq.{slice, drop-cons, drop-length, length-slice}
 use Rattle.params.specs.declared.Settings.{Settings}
-use Rattle.job.specs.Job.{Variant, Part, Job}
+use Rattle.job.specs.Job.{Variant, Part}
 use Rattle.job.specs.Reading.{Lent, placed, variantLetters, partLetters, jobCounts, lentWith}
 use Rattle.job.specs.Writing.{sum, agree, variantsFrom, partsFrom, jobFrom}
 use Rattle.job.specs.RoundTrip.{laidOver, lentCounts}
@@ -23,162 +23,149 @@ slice-rest (suc p) zero l h = let z : ⊥ = omega arith in absurd z
 slice-rest (suc p) (suc q) [] h = refl
 slice-rest (suc p) (suc q) (x ∷ l) h = slice-rest p q l (omega arith)
 
-abbrev joined : {A : Type 0} → (A → List ℕ) → List A → List ℕ
-joined own [] = []
-joined own (x ∷ xs) = own x ++ joined own xs
-
--- ---- n rows from row r on, whose letters begin at p: variants and parts alike
-module _ {A : Type 0} (row : ℕ → ℕ → A) (counts : List ℕ) where
-  abbrev rowsFrom : ℕ → ℕ → ℕ → List A
-  rowsFrom r p zero = []
-  rowsFrom r p (suc n) = row r p ∷ rowsFrom (suc r) (p + getD counts r 0) n
-
-  long-rows : (n r p : ℕ) → length (rowsFrom r p n) ≡ n
-  long-rows zero r p = refl
-  long-rows (suc n) r p = ap suc (long-rows n (suc r) (p + getD counts r 0))
-
-  field-back : {B : Type 0} (f : A → B) (d : B) (xs : List B) → ((r p : ℕ) → f (row r p) ≡ getD xs r d)
-      → (n r p : ℕ) → r + n ≡ length xs → map f (rowsFrom r p n) ≡ drop r xs
-  field-back f d xs is zero r p e = let h : length xs ≤ r = omega arith in sym (drop-of-length-le xs h)
-  field-back {B} f d xs is (suc n) r p e =
+-- ---- What n rows from row r on, whose letters begin at p, have in one field: `column r p n`. Variants and parts alike.
+module _ (counts : List ℕ) where
+  field-back : {B : Type 0} (d : B) (xs : List B) (column : ℕ → ℕ → ℕ → List B) → ((r p : ℕ) → column r p 0 ≡ [])
+      → ((r p n : ℕ) → column r p (suc n) ≡ getD xs r d ∷ column (suc r) (p + getD counts r 0) n)
+      → (n r p : ℕ) → r + n ≡ length xs → column r p n ≡ drop r xs
+  field-back d xs column none more zero r p e = let h : length xs ≤ r = omega arith in none r p ∙ sym (drop-of-length-le xs h)
+  field-back {B} d xs column none more (suc n) r p e =
       let h : r < length xs = omega arith in
-      rw (is r p) (ap (λ (l : List B). getD xs r d ∷ l) (field-back f d xs is n (suc r) (p + getD counts r 0) (omega arith)) ∙ sym (drop-cons xs r d h))
+      more r p n ∙ ap (λ (l : List B). getD xs r d ∷ l) (field-back d xs column none more n (suc r) (p + getD counts r 0) (omega arith)) ∙ sym (drop-cons xs r d h)
 
-  module _ (own : A → List ℕ) (letters : List ℕ) (is : (r p : ℕ) → own (row r p) ≡ slice p (p + getD counts r 0) letters) where
-    counts-of : (n r p : ℕ) → r + n ≡ length counts → p + sum (drop r counts) ≤ length letters
-        → map (λ (x : A). length (own x)) (rowsFrom r p n) ≡ drop r counts
-    counts-of zero r p e f = let h : length counts ≤ r = omega arith in sym (drop-of-length-le counts h)
-    counts-of (suc n) r p e f =
+  module _ (letters : List ℕ) (column : ℕ → ℕ → ℕ → List ℕ) (none : (r p : ℕ) → column r p 0 ≡ []) where
+    lengths-back : ((r p n : ℕ) → column r p (suc n) ≡ length (slice p (p + getD counts r 0) letters) ∷ column (suc r) (p + getD counts r 0) n)
+        → (n r p : ℕ) → r + n ≡ length counts → p + sum (drop r counts) ≤ length letters → column r p n ≡ drop r counts
+    lengths-back more zero r p e f = let h : length counts ≤ r = omega arith in none r p ∙ sym (drop-of-length-le counts h)
+    lengths-back more (suc n) r p e f =
         let h : r < length counts = omega arith in
         let s = rw (add-one r) at (sum-next counts r h) in
         let c : ℕ = getD counts r 0 in
         let l : p + c ≤ length letters = omega arith in
         let k : p + c - p ≡ c = omega arith in
-        rw (is r p, length-slice p (p + c) letters l, k)
-        (ap (λ (ns : List ℕ). c ∷ ns) (counts-of n (suc r) (p + c) (omega arith) (omega arith)) ∙ sym (drop-cons counts r 0 h))
+        more r p n ∙ rw (length-slice p (p + c) letters l, k)
+        (ap (λ (ns : List ℕ). c ∷ ns) (lengths-back more n (suc r) (p + c) (omega arith) (omega arith)) ∙ sym (drop-cons counts r 0 h))
 
-    letters-of : (n r p : ℕ) → r + n ≡ length counts → joined own (rowsFrom r p n) ++ drop (p + sum (drop r counts)) letters ≡ drop p letters
+    -- the letters of the rows, and those behind them, are all from p on
+    letters-and-rest : ((r p n : ℕ) → column r p (suc n) ≡ slice p (p + getD counts r 0) letters ++ column (suc r) (p + getD counts r 0) n)
+        → (n r p : ℕ) → r + n ≡ length counts → column r p n ++ drop (p + sum (drop r counts)) letters ≡ drop p letters
     unfolding sum
-    letters-of zero r p e = let h : length counts ≤ r = omega arith in let z : p + 0 ≡ p = omega arith in rw (drop-of-length-le counts h, z)
-    letters-of (suc n) r p e =
+    letters-and-rest more zero r p e =
+        let h : length counts ≤ r = omega arith in
+        let z : p + 0 ≡ p = omega arith in
+        rw (none r p, drop-of-length-le counts h, z)
+    letters-and-rest more (suc n) r p e =
         let h : r < length counts = omega arith in
         let c : ℕ = getD counts r 0 in
         let s : p + sum (drop r counts) ≡ p + c + sum (drop (suc r) counts) = omega (arith, rw (add-one r) at (sum-next counts r h)) in
-        rw (is r p, s)
-        (append-assoc (slice p (p + c) letters) (joined own (rowsFrom (suc r) (p + c) n)) (drop (p + c + sum (drop (suc r) counts)) letters)
-        ∙ ap (λ (l : List ℕ). slice p (p + c) letters ++ l) (letters-of n (suc r) (p + c) (omega arith))
+        rw (more r p n, s)
+        (append-assoc (slice p (p + c) letters) (column (suc r) (p + c) n) (drop (p + c + sum (drop (suc r) counts)) letters)
+        ∙ ap (λ (l : List ℕ). slice p (p + c) letters ++ l) (letters-and-rest more n (suc r) (p + c) (omega arith))
         ∙ slice-rest p (p + c) letters (omega arith))
-
--- ---- variants
-module _ (starts ends : List ℕ) (sizes : List ℤ) (negatives : List Bool) (counts letters : List ℕ) where
-  abbrev variantAt : ℕ → ℕ → Variant
-  variantAt r p = record {
-    start = getD starts r 0;
-    end = getD ends r 0;
-    size = getD sizes r (pos 0);
-    negative = getD negatives r false;
-    letters = slice p (p + getD counts r 0) letters;
-  }
-
-  variants-rows : (n r p : ℕ) → variantsFrom starts ends sizes negatives counts letters r p n ≡ rowsFrom variantAt counts r p n
-  unfolding variantsFrom
-  variants-rows zero r p = refl
-  variants-rows (suc n) r p = ap (λ (xs : List Variant). variantAt r p ∷ xs) (variants-rows n (suc r) (p + getD counts r 0))
-
-variant-joined : (xs : List Variant) → variantLetters xs ≡ joined (λ (x : Variant). x .letters) xs
-unfolding variantLetters
-variant-joined [] = refl
-variant-joined (x ∷ xs) = ap (λ (l : List ℕ). x .letters ++ l) (variant-joined xs)
-
--- ---- parts
-module _ (sizes : List ℤ) (negatives : List Bool) (counts letters : List ℕ) where
-  abbrev partAt : ℕ → ℕ → Part
-  partAt r p = record { size = getD sizes r (pos 0); negative = getD negatives r false; letters = slice p (p + getD counts r 0) letters }
-
-  parts-rows : (n r p : ℕ) → partsFrom sizes negatives counts letters r p n ≡ rowsFrom partAt counts r p n
-  unfolding partsFrom
-  parts-rows zero r p = refl
-  parts-rows (suc n) r p = ap (λ (xs : List Part). partAt r p ∷ xs) (parts-rows n (suc r) (p + getD counts r 0))
-
-part-joined : (xs : List Part) → partLetters xs ≡ joined (λ (x : Part). x .letters) xs
-unfolding partLetters
-part-joined [] = refl
-part-joined (x ∷ xs) = ap (λ (l : List ℕ). x .letters ++ l) (part-joined xs)
 
 -- ---- the nine slices
 module _ (t : Lent) (a : Agreed t) where
-  abbrev variantIn : ℕ → ℕ → Variant
-  variantIn = variantAt (t .starts) (t .ends) (t .sizes) (t .negatives) (t .counts) (t .letters)
+  abbrev variantsOn : ℕ → ℕ → ℕ → List Variant
+  variantsOn r p n = variantsFrom (t .starts) (t .ends) (t .sizes) (t .negatives) (t .counts) (t .letters) r p n
 
-  abbrev partIn : ℕ → ℕ → Part
-  partIn = partAt (t .partSizes) (t .partNegatives) (t .partCounts) (t .letters)
+  abbrev partsOn : ℕ → ℕ → ℕ → List Part
+  partsOn r p n = partsFrom (t .partSizes) (t .partNegatives) (t .partCounts) (t .letters) r p n
 
   abbrev vs : List Variant
-  vs = rowsFrom variantIn (t .counts) 0 0 (length (t .starts))
+  vs = variantsOn 0 0 (length (t .starts))
 
   abbrev ps : List Part
-  ps = rowsFrom partIn (t .partCounts) 0 (sum (t .counts)) (length (t .partSizes))
+  ps = partsOn 0 (sum (t .counts)) (length (t .partSizes))
 
-  rows-are : (s : Settings) → jobFrom s t ≡ record { settings = s; variants = vs; parts = ps }
-  unfolding jobFrom
-  rows-are s = rw (variants-rows, parts-rows)
+  long-variants : (n r p : ℕ) → length (variantsOn r p n) ≡ n
+  unfolding variantsFrom
+  long-variants zero r p = refl
+  long-variants (suc n) r p = ap suc (long-variants n (suc r) (p + getD (t .counts) r 0))
 
-  variant-field : {B : Type 0} (f : Variant → B) (d : B) (xs : List B) → ((r p : ℕ) → f (variantIn r p) ≡ getD xs r d) → length xs ≡ length (t .starts) → map f vs ≡ xs
-  variant-field f d xs is e = field-back variantIn (t .counts) f d xs is (length (t .starts)) 0 0 (omega arith)
+  long-parts : (n r p : ℕ) → length (partsOn r p n) ≡ n
+  unfolding partsFrom
+  long-parts zero r p = refl
+  long-parts (suc n) r p = ap suc (long-parts n (suc r) (p + getD (t .partCounts) r 0))
 
-  part-field : {B : Type 0} (f : Part → B) (d : B) (xs : List B) → ((r p : ℕ) → f (partIn r p) ≡ getD xs r d) → length xs ≡ length (t .partSizes) → map f ps ≡ xs
-  part-field f d xs is e = field-back partIn (t .partCounts) f d xs is (length (t .partSizes)) 0 (sum (t .counts)) (omega arith)
+  starts-back : map (λ (x : Variant). x .start) vs ≡ t .starts
+  unfolding variantsFrom
+  starts-back = field-back (t .counts) 0 (t .starts) (λ r p n. map (λ (x : Variant). x .start) (variantsOn r p n)) (λ r p. refl) (λ r p n. refl)
+      (length (t .starts)) 0 0 (omega arith)
 
-  variant-counts : map (λ (x : Variant). length (x .letters)) vs ≡ t .counts
-  variant-counts = counts-of variantIn (t .counts) (λ (x : Variant). x .letters) (t .letters) (λ r p. refl) (length (t .starts)) 0 0
-      (let h = a .counts in omega arith) (let h = a .letters in omega arith)
+  ends-back : map (λ (x : Variant). x .end) vs ≡ t .ends
+  unfolding variantsFrom
+  ends-back = field-back (t .counts) 0 (t .ends) (λ r p n. map (λ (x : Variant). x .end) (variantsOn r p n)) (λ r p. refl) (λ r p n. refl)
+      (length (t .starts)) 0 0 (let e = a .ends in omega arith)
 
-  part-counts : map (λ (x : Part). length (x .letters)) ps ≡ t .partCounts
-  part-counts = counts-of partIn (t .partCounts) (λ (x : Part). x .letters) (t .letters) (λ r p. refl) (length (t .partSizes)) 0 (sum (t .counts))
-      (let h = a .partCounts in omega arith) (let h = a .letters in omega arith)
+  sizes-back : map (λ (x : Variant). x .size) vs ≡ t .sizes
+  unfolding variantsFrom
+  sizes-back = field-back (t .counts) (pos 0) (t .sizes) (λ r p n. map (λ (x : Variant). x .size) (variantsOn r p n)) (λ r p. refl) (λ r p n. refl)
+      (length (t .starts)) 0 0 (let e = a .sizes in omega arith)
 
-  part-letters : partLetters ps ≡ drop (sum (t .counts)) (t .letters)
-  part-letters =
-      let h = letters-of partIn (t .partCounts) (λ (x : Part). x .letters) (t .letters) (λ r p. refl) (length (t .partSizes)) 0 (sum (t .counts))
-      (let h = a .partCounts in omega arith) in
-      part-joined ps ∙ sym (append-nil (joined (λ (x : Part). x .letters) ps))
-      ∙ ap (λ (l : List ℕ). joined (λ (x : Part). x .letters) ps ++ l) (sym (drop-length (t .letters)) ∙ ap (λ (n : ℕ). drop n (t .letters)) (sym (a .letters)))
-      ∙ h
+  negatives-back : map (λ (x : Variant). x .negative) vs ≡ t .negatives
+  unfolding variantsFrom
+  negatives-back = field-back (t .counts) false (t .negatives) (λ r p n. map (λ (x : Variant). x .negative) (variantsOn r p n)) (λ r p. refl) (λ r p n. refl)
+      (length (t .starts)) 0 0 (let e = a .negatives in omega arith)
+
+  letter-counts-back : map (λ (x : Variant). length (x .letters)) vs ≡ t .counts
+  unfolding variantsFrom
+  letter-counts-back = lengths-back (t .counts) (t .letters) (λ r p n. map (λ (x : Variant). length (x .letters)) (variantsOn r p n)) (λ r p. refl) (λ r p n. refl)
+      (length (t .starts)) 0 0 (let e = a .counts in omega arith) (let e = a .letters in omega arith)
+
+  part-sizes-back : map (λ (x : Part). x .size) ps ≡ t .partSizes
+  unfolding partsFrom
+  part-sizes-back = field-back (t .partCounts) (pos 0) (t .partSizes) (λ r p n. map (λ (x : Part). x .size) (partsOn r p n)) (λ r p. refl) (λ r p n. refl)
+      (length (t .partSizes)) 0 (sum (t .counts)) (omega arith)
+
+  part-negatives-back : map (λ (x : Part). x .negative) ps ≡ t .partNegatives
+  unfolding partsFrom
+  part-negatives-back = field-back (t .partCounts) false (t .partNegatives) (λ r p n. map (λ (x : Part). x .negative) (partsOn r p n)) (λ r p. refl) (λ r p n. refl)
+      (length (t .partSizes)) 0 (sum (t .counts)) (let e = a .partNegatives in omega arith)
+
+  part-letter-counts-back : map (λ (x : Part). length (x .letters)) ps ≡ t .partCounts
+  unfolding partsFrom
+  part-letter-counts-back = lengths-back (t .partCounts) (t .letters) (λ r p n. map (λ (x : Part). length (x .letters)) (partsOn r p n)) (λ r p. refl) (λ r p n. refl)
+      (length (t .partSizes)) 0 (sum (t .counts)) (let e = a .partCounts in omega arith) (let e = a .letters in omega arith)
+
+  variant-letters : variantLetters vs ++ drop (0 + sum (t .counts)) (t .letters) ≡ t .letters
+  unfolding variantsFrom variantLetters
+  variant-letters = letters-and-rest (t .counts) (t .letters) (λ r p n. variantLetters (variantsOn r p n)) (λ r p. refl) (λ r p n. refl)
+      (length (t .starts)) 0 0 (let e = a .counts in omega arith)
+
+  part-letters : partLetters ps ++ drop (sum (t .counts) + sum (t .partCounts)) (t .letters) ≡ drop (sum (t .counts)) (t .letters)
+  unfolding partsFrom partLetters
+  part-letters = letters-and-rest (t .partCounts) (t .letters) (λ r p n. partLetters (partsOn r p n)) (λ r p. refl) (λ r p n. refl)
+      (length (t .partSizes)) 0 (sum (t .counts)) (let e = a .partCounts in omega arith)
 
   all-letters : variantLetters vs ++ partLetters ps ≡ t .letters
-  all-letters = let z : 0 + sum (t .counts) ≡ sum (t .counts) = omega arith in rw (part-letters, variant-joined vs, ← z)
-      (letters-of variantIn (t .counts) (λ (x : Variant). x .letters) (t .letters) (λ r p. refl) (length (t .starts)) 0 0 (let h = a .counts in omega arith))
+  all-letters =
+      let z : 0 + sum (t .counts) ≡ sum (t .counts) = omega arith in
+      let none : drop (sum (t .counts) + sum (t .partCounts)) (t .letters) ≡ [] = rw (a .letters, drop-length (t .letters)) in
+      let last : partLetters ps ≡ drop (sum (t .counts)) (t .letters) = sym (append-nil (partLetters ps)) ∙ rw none at part-letters in
+      rw last (rw z at variant-letters)
 
 pub slices-back : (s : Settings) (t u : Lent) → agree t ≡ true → lentWith (jobFrom s t) u ≡ laidOver u t
-unfolding lentWith laidOver
+unfolding lentWith jobFrom laidOver
 slices-back s t u h =
     let a = agreed t h in
-    let starts = variant-field t a (λ (x : Variant). x .start) 0 (t .starts) (λ r p. refl) refl in
-    let ends = variant-field t a (λ (x : Variant). x .end) 0 (t .ends) (λ r p. refl) (a .ends) in
-    let sizes = variant-field t a (λ (x : Variant). x .size) (pos 0) (t .sizes) (λ r p. refl) (a .sizes) in
-    let negatives = variant-field t a (λ (x : Variant). x .negative) false (t .negatives) (λ r p. refl) (a .negatives) in
-    let counts = variant-counts t a in
-    let partSizes = part-field t a (λ (x : Part). x .size) (pos 0) (t .partSizes) (λ r p. refl) refl in
-    let partNegatives = part-field t a (λ (x : Part). x .negative) false (t .partNegatives) (λ r p. refl) (a .partNegatives) in
-    let partCounts = part-counts t a in
-    let letters = all-letters t a in
-    ap (λ (job : Job). lentWith job u) (rows-are t a s) ∙ (λ i. record {
-      starts = placed (u .starts) (starts i);
-      ends = placed (u .ends) (ends i);
-      sizes = placed (u .sizes) (sizes i);
-      negatives = placed (u .negatives) (negatives i);
-      counts = placed (u .counts) (counts i);
-      partSizes = placed (u .partSizes) (partSizes i);
-      partNegatives = placed (u .partNegatives) (partNegatives i);
-      partCounts = placed (u .partCounts) (partCounts i);
-      letters = placed (u .letters) (letters i);
-    })
+    λ i. record {
+      starts = placed (u .starts) (starts-back t a i);
+      ends = placed (u .ends) (ends-back t a i);
+      sizes = placed (u .sizes) (sizes-back t a i);
+      negatives = placed (u .negatives) (negatives-back t a i);
+      counts = placed (u .counts) (letter-counts-back t a i);
+      partSizes = placed (u .partSizes) (part-sizes-back t a i);
+      partNegatives = placed (u .partNegatives) (part-negatives-back t a i);
+      partCounts = placed (u .partCounts) (part-letter-counts-back t a i);
+      letters = placed (u .letters) (all-letters t a i);
+    }
 
 pub counts-back : (s : Settings) (t : Lent) → agree t ≡ true → jobCounts (jobFrom s t) ≡ lentCounts t
-unfolding jobCounts lentCounts
+unfolding jobCounts jobFrom lentCounts
 counts-back s t h =
     let a = agreed t h in
-    let v = long-rows (variantIn t a) (t .counts) (length (t .starts)) 0 0 in
-    let p = long-rows (partIn t a) (t .partCounts) (length (t .partSizes)) 0 (sum (t .counts)) in
-    let l = ap length (all-letters t a) in
-    ap jobCounts (rows-are t a s) ∙ (λ i. record { variants = v i; parts = p i; letters = l i })
+    λ i. record {
+      variants = long-variants t a (length (t .starts)) 0 0 i;
+      parts = long-parts t a (length (t .partSizes)) 0 (sum (t .counts)) i;
+      letters = length (all-letters t a i);
+    }
