@@ -32,19 +32,16 @@ fn encode_nuc(b: u8) -> u8
     }
 }
 
-// The codes of all bytes: a table has no branch to mispredict, so that random letters are counted in a fifth of the time.
+// The codes of all bytes, each by the match: a table has no branch to mispredict, so that random letters are counted in a fifth of the time.
 fn code_table() -> [u8; 256]
     ensures { λ r. ⌜ Coded r ⌝ }
 {
     let mut table = [0u8; 256];
-    table[116] = encode_nuc(b't');
-    table[84] = encode_nuc(b'T');
-    table[99] = encode_nuc(b'c');
-    table[67] = encode_nuc(b'C');
-    table[103] = encode_nuc(b'g');
-    table[71] = encode_nuc(b'G');
-    table[97] = encode_nuc(b'a');
-    table[65] = encode_nuc(b'A');
+    let mut i: usize = 0;
+    while i < 256 {
+        table[i] = encode_nuc(i as u8);
+        i += 1;
+    }
     table
 }
 
