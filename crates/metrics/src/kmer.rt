@@ -15,19 +15,19 @@ pub enum Counted {
     Refused(u32),
 }
 
-// A, G, C and T give 0, 1, 2, 3 in either case; any other byte gives 0.
+// A, G, C and T give 0, 1, 2, 3 in either case; any other byte gives 0. Written from T to A: in that order the compiler folds the whole of `code_table`.
 fn encode_nuc(b: u8) -> u8
     ensures { λ r. ⌜ r ≡ codeOf b ⌝ }
 {
     match b {
-        b'A' => 0,
-        b'a' => 0,
-        b'G' => 1,
-        b'g' => 1,
-        b'C' => 2,
-        b'c' => 2,
         b'T' => 3,
         b't' => 3,
+        b'C' => 2,
+        b'c' => 2,
+        b'G' => 1,
+        b'g' => 1,
+        b'A' => 0,
+        b'a' => 0,
         _ => 0,
     }
 }
