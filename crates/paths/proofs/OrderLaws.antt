@@ -99,8 +99,8 @@ module _ (follows : List ℕ → ℕ → Bool) (c : List ℕ) where
   each-once k [] = never-empty k
   each-once k (s ∷ x) = stands s x k ∙ sym (bit-and (sameRows x c) (ltb s k && extends follows c s))
 
-pub extension-order : (follows : List ℕ → ℕ → Bool) (n : ℕ) (c : List ℕ) → ExtensionOrder follows n c
-extension-order follows n c = record { each-once = each-once follows c n; highest-first = highest follows c n }
+pub extension-order : ExtensionOrder
+extension-order = record { each-once = λ follows n c x. each-once follows c n x; highest-first = λ follows n c. highest follows c n }
 
 -- ---- what is picked
 all-both : {A : Type 0} (P : A → Type 0) (a b : List A) (y : A) → All P a → P y → All P b → All P (a ++ (y ∷ b))

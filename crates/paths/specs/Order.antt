@@ -15,17 +15,16 @@ abbrev pub HighestNodeFirst : List (List ℕ) → Type 0
 HighestNodeFirst [] = Unit {0}
 HighestNodeFirst (x ∷ l) = All (λ y. firstAfter y < firstAfter x) l × HighestNodeFirst l
 
-module _ (follows : List ℕ → ℕ → Bool) (n : ℕ) (c : List ℕ) where
-  -- x is c and one row more, below n, that extends it
-  abbrev pub isExtension : List ℕ → Bool
-  isExtension [] = false
-  isExtension (s ∷ x) = sameRows x c && (ltb s n && extends follows c s)
+-- x is c and one row more, below n, that extends it
+abbrev pub isExtension : (List ℕ → ℕ → Bool) → ℕ → List ℕ → List ℕ → Bool
+isExtension follows n c [] = false
+isExtension follows n c (s ∷ x) = sameRows x c && (ltb s n && extends follows c s)
 
-  pub record ExtensionOrder : Type 0 where
-    -- a list stands once among c's extensions if it is one, and else never
-    pub each-once : (x : List ℕ) → timesIn x (extensions follows n c) ≡ bit (isExtension x)
-    -- highest node first
-    pub highest-first : HighestNodeFirst (extensions follows n c)
+pub record ExtensionOrder : Type 0 where
+  -- a list stands once among c's extensions if it is one, and else never
+  pub each-once : (follows : List ℕ → ℕ → Bool) (n : ℕ) (c x : List ℕ) → timesIn x (extensions follows n c) ≡ bit (isExtension follows n c x)
+  -- highest node first
+  pub highest-first : (follows : List ℕ → ℕ → Bool) (n : ℕ) (c : List ℕ) → HighestNodeFirst (extensions follows n c)
 
 -- y is the nearest in the queue, the earliest queued among equals, and `rest` is the queue without it
 pub record Nearest {A : Type 0} (dist : A → ℕ) (queue : List A) (y : A) (rest : List A) : Type 0 where
