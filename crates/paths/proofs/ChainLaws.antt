@@ -5,7 +5,7 @@ use native.Mathlib.Omega.{arith}
 use mathlib.Core.Bool.{Bool, true, false, _&&_, cond}
 use mathlib.Core.List.{List, [], _∷_}
 use lib.Dec.{leb, ltb, eqb}
-use borrow.Author.Tests.{leb-true, ltb-true, ltb-false, eqb-true, eqb-false, lt-ltb, le-ltb}
+use borrow.Author.Tests.{leb-true}
 use Rattle.paths.specs.Sums.{sumBy, bit, sameRows}
 use Rattle.paths.specs.Chains.{firstAfter, extends, extensions, isChain, chainsWithin, chainsFrom}
 use Rattle.paths.proofs.SumLaws.{bit-and, sameRows-eq}

@@ -37,12 +37,17 @@ module _ (edge : ℕ → ℕ → Bool) (n : ℕ) where
 
   pub doc-full : chainsFrom (mayFollow edge true) n [] ≡ chainCount edge n true
   unfolding chainCount rowCount chainsFrom extends
-  doc-full = chainsFrom-step (mayFollow edge true) n [] ∙ omega (arith, rows (mayFollow edge true) (λ e. chainsFrom (mayFollow edge true) n e) (λ s. rowCountWithin edge n (n - suc s) s) (λ s. true) [] (λ s. rw (leb·zero s)) (λ s. row-chainsFrom (n - suc s) s []) n)
+  doc-full =
+      let all : ℕ → ℕ = λ s. rowCountWithin edge n (n - suc s) s in
+      let sum = rows (mayFollow edge true) (λ e. chainsFrom (mayFollow edge true) n e) all (λ s. true) [] (λ s. rw (leb·zero s)) (λ s. row-chainsFrom (n - suc s) s []) n in
+      chainsFrom-step (mayFollow edge true) n [] ∙ omega (arith, sum)
 
   pub doc-bare : chainsFrom (mayFollow edge false) n [] ≡ chainCount edge n false
   unfolding chainCount chainsFrom extends
   doc-bare =
-      chainsFrom-step (mayFollow edge false) n [] ∙ omega (arith, rows (mayFollow edge false) (λ e. chainsFrom (mayFollow edge false) n e) (λ s. chainsFrom (mayFollow edge false) n (s ∷ [])) (λ s. false) [] (λ s. rw (leb·zero s)) (λ s. refl) n, no-rows (λ s. chainsFrom (mayFollow edge false) n (s ∷ [])) n)
+      let each : ℕ → ℕ = λ s. chainsFrom (mayFollow edge false) n (s ∷ []) in
+      let sum = rows (mayFollow edge false) (λ e. chainsFrom (mayFollow edge false) n e) each (λ s. false) [] (λ s. rw (leb·zero s)) (λ s. refl) n in
+      chainsFrom-step (mayFollow edge false) n [] ∙ omega (arith, sum, no-rows each n)
 
 rows-split : (p : ℕ → Bool) (w : ℕ → ℕ) (k s : ℕ) → sumRows p w (s + k) ≡ sumRows p w s + sumRowsFrom p w k s
 unfolding sumRows sumRowsFrom

@@ -111,7 +111,8 @@ module _ {A : Type 0} (dist : A → ℕ) where
   -- no entry of the queue is nearer
   none-nearer : {queue rest : List A} {y : A} → Nearest dist queue y rest → All (λ a. dist y ≤ dist a) queue
   none-nearer {queue} {rest} {y} h =
-      rw (h .stood) (all-both (λ a. dist y ≤ dist a) (h .earlier) (h .later) y (all-map (λ a. dist y < dist a) (λ a. dist y ≤ dist a) (λ a l. omega arith) (h .earlier) (h .earlier-farther)) (omega arith) (h .later-no-nearer))
+      let earlier = all-map (λ a. dist y < dist a) (λ a. dist y ≤ dist a) (λ a l. omega arith) (h .earlier) (h .earlier-farther) in
+      rw (h .stood) (all-both (λ a. dist y ≤ dist a) (h .earlier) (h .later) y earlier (omega arith) (h .later-no-nearer))
 
   -- the first entry is taken or left
   chosen : (x : A) (q : List A) (y : A) (rest : List A) → Nearest dist q y rest → (t : Bool) → before dist x y ≡ t
