@@ -4,4 +4,5 @@ pub mod Worked
 pub mod NoParts
 pub mod PartOrder
 pub mod Anchors
+pub mod Edges
 pub mod Unique
