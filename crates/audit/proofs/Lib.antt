@@ -6,4 +6,5 @@ pub mod NoParts
 pub mod PartOrderLaws
 pub mod AnchorsLaws
 pub mod EdgesLaws
+pub mod NoAnchorLaws
 pub mod UniqueLaws

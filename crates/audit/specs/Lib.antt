@@ -5,4 +5,5 @@ pub mod NoParts
 pub mod PartOrder
 pub mod Anchors
 pub mod Edges
+pub mod NoAnchor
 pub mod Unique
