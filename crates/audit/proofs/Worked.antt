@@ -24,5 +24,11 @@ use Rattle.desk.specs.Desk.{variantFeatures, partFeatures, tableOfJob, partsOfJ
 use Rattle.audit.specs.Worked.{Worked}
 
 pub worked : Worked
-unfolding answerOf rowsOf searched firstFault badK badFloat badNumber anyBelow startAfterEnd fallingStart badSize badRow littleQueueRoom magnitudeSum best resultOf scored left after pick extensions extends edge overlapsOf distanceTo sizeOf sizeFrom positionsFrom chainScore afterLists afterList listScore greaterOf partLists fallingLists choices featuresOf featuresFrom rowPlus zeros sumBy codeOf numberOf windowsOf timesIn tableFrom countsOf le2 le4 le8 signedOf bitsOf bytes2 bytes4 bytes8 settingsOf numberBytes floatBytes settingsBytes bodyLen inPlace flagsOk countOf padOk faultOf afterRecord run lettersIn lettersAfter variantOf partOf variantHere partHere gather jobOf readJob padded lettersRecords sequenceBytes partBody variantBody variantBytes partBytes variantsBytes partsBytes jobBytes bytesOf digitsWithin hexDigit hex2 hex4 hex8 numberLine floatLine flagLine rowText rowsText rowsLine isWhole similarityLines reachLines sevenLines variantFeatures partFeatures tableOfJob partsOfJob answerText tooLarge jobText readText deskText le lt eq ofBits ofInt div add sub mul toBits
+unfolding answerOf rowsOf searched firstFault badK badFloat badNumber anyBelow startAfterEnd fallingStart badSize badRow littleQueueRoom magnitudeSum best resultOf scored left after pick
+    extensions extends edge overlapsOf distanceTo sizeOf sizeFrom positionsFrom chainScore afterLists afterList listScore greaterOf partLists fallingLists choices featuresOf
+    featuresFrom rowPlus zeros sumBy codeOf numberOf windowsOf timesIn tableFrom countsOf le2 le4 le8 signedOf bitsOf bytes2 bytes4 bytes8 settingsOf numberBytes floatBytes
+    settingsBytes bodyLen inPlace flagsOk countOf padOk faultOf afterRecord run lettersIn lettersAfter variantOf partOf variantHere partHere gather jobOf readJob padded lettersRecords
+    sequenceBytes partBody variantBody variantBytes partBytes variantsBytes partsBytes jobBytes bytesOf digitsWithin hexDigit hex2 hex4 hex8 numberLine floatLine flagLine rowText
+    rowsText rowsLine isWhole similarityLines reachLines sevenLines variantFeatures partFeatures tableOfJob partsOfJob answerText tooLarge jobText readText deskText le lt eq ofBits
+    ofInt div add sub mul toBits
 worked = record { accepted = refl; order = refl; exact = refl; answer = refl; rows = refl; printed = refl }
