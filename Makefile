@@ -2,6 +2,7 @@
 .PHONY: run test program proofs packages oracle faults fuzz bindings bench
 
 program:
+	tools/emulate >&2
 	rt check ndigomarr copy_job >&2
 
 run: program
@@ -21,6 +22,7 @@ packages:
 test:
 	$(MAKE) --no-print-directory --jobs=2 proofs packages
 	tools/promises
+	tools/test_promises
 	rt fmt --check
 	tools/run-examples
 	SHEET_NEEDS_PROGRAM=1 SHEET_WRITER=target/bin/copy_job tools/test_sheet

@@ -10,5 +10,6 @@ use Rattle.kplib.specs.Graph.{edge}
 use Rattle.audit.specs.Bench.{twelve, AllHold}
 
 pub bench : AllHold twelve
-unfolding twelve countsOf windowsOf timesIn tableFrom numberOf codeOf sizesimOf seqsimOf sumBy magnitudeSum overlapsOf ofBits ofInt div sub partLists choices fallingLists positionsFrom extends isChain sumRows rowCountWithin rowCount chainCount edge
+unfolding twelve countsOf windowsOf timesIn tableFrom numberOf codeOf sizesimOf seqsimOf sumBy magnitudeSum overlapsOf ofBits ofInt div sub partLists choices fallingLists positionsFrom
+    extends isChain sumRows rowCountWithin rowCount chainCount edge
 bench = (refl, (refl, (refl, (refl, (refl, (refl, ((refl, refl), (refl, (refl, (refl, (refl, ((refl, (refl, refl)), tt))))))))))))

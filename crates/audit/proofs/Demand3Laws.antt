@@ -12,8 +12,9 @@ use Rattle.metrics.proofs.FloatOrder.{le-trans, le-total}
 use Rattle.paths.specs.Best.{Order}
 use Rattle.paths.specs.Search.{none}
 use Rattle.paths.specs.Demand.{Demand3 as Rule}
-use Rattle.paths.proofs.Demand.{demand3}
+use Rattle.paths.proofs.Demand.{count-counts, demand3}
 use Rattle.params.specs.Numbers.{Table, Parts, firstFault, searchMode}
+use Rattle.kplib.specs.Graph.{edge}
 use Rattle.kplib.specs.Score.{chainScore}
 use Rattle.kplib.specs.Search.{Result, noLower, startResult, followsIn, distanceIn, scoredIn, leftIn, resultOf, bestIn}
 use Rattle.kplib.specs.Answer.{searched, answerWith, foundAfter, answerOf, rowsOf, searches}
@@ -96,6 +97,7 @@ module _ (s : Settings) (t : Table) (p : Parts) where
           only-chains = rule .only-chains;
           none-twice = rule .none-twice;
           counted = count-is;
+          n-counts = count-counts (edge (t .starts) (t .ends)) (length (t .starts)) (s .full);
           as-many = count-is ∙ rule .as-many ∙ ap (λ (k : ℕ). min k (s .maxpaths + 1)) n;
           complete-when = complete-is ∙ rule .complete-when ∙ ap (λ (k : ℕ). leb k (s .maxpaths + 1)) n;
           complete-all = λ e. rule .complete-all (sym complete-is ∙ e);

@@ -5,4 +5,6 @@ pub mod Worked
 pub mod NoParts
 pub mod PartOrderLaws
 pub mod AnchorsLaws
+pub mod EdgesLaws
+pub mod NoAnchorLaws
 pub mod UniqueLaws

@@ -1,23 +1,43 @@
 -- A promise that is an equation fixes its result; where a slice's equation speaks of the value, the values agree first, and where it holds under a condition, the condition is given.
 use mathlib.Core.Path.{_≡_, sym, ap, _∙_}
+use mathlib.Core.Bool.{Bool, false}
+use mathlib.Core.List.{List}
+use Prim.Native.Nat.{ℕ}
 use Rattle.metrics.specs.Letters.{countsOf, rowAfter}
 use Rattle.job.specs.Job.{jobBytes}
+use Rattle.job.specs.Reading.{Lent}
 use Rattle.job.specs.Writing.{jobFrom, outAfter}
-use Rattle.audit.specs.Unique.{Unique}
+use Rattle.audit.specs.Unique.{Left, Agree, Unique}
 
 one : {A : Type 0} {z : A} (x y : A) → x ≡ z → y ≡ z → x ≡ y
 one x y p q = p ∙ sym q
 
-two : {A B : Type 0} {a : A} {b : B} (x y : A) (u v : B) → (x ≡ a) × (u ≡ b) → (y ≡ a) × (v ≡ b) → (x ≡ y) × (u ≡ v)
-two x y u v p q = (p .0 ∙ sym (q .0), p .1 ∙ sym (q .1))
+two : {A B : Type 0} {a : A} {b : B} (x y : A) (u v : B) → (u ≡ b) × (x ≡ a) → (v ≡ b) × (y ≡ a) → (x ≡ y) × (u ≡ v)
+two x y u v p q = (p .1 ∙ sym (q .1), p .0 ∙ sym (q .0))
 
 -- the slice's equation speaks of the value
-through : {A B : Type 0} {a : A} (f : A → B) (x y : A) (u v : B) → (x ≡ a) × (u ≡ f x) → (y ≡ a) × (v ≡ f y) → (x ≡ y) × (u ≡ v)
-through f x y u v p q = (p .0 ∙ sym (q .0), (p .1 ∙ ap f (p .0 ∙ sym (q .0))) ∙ sym (q .1))
+through : {A B : Type 0} {b : B} (f : B → A) (x y : A) (u v : B) → (u ≡ b) × (x ≡ f u) → (v ≡ b) × (y ≡ f v) → (x ≡ y) × (u ≡ v)
+through f x y u v p q =
+    let e = p .0 ∙ sym (q .0) in
+    ((p .1 ∙ ap f e) ∙ sym (q .1), e)
 
--- the equation holds under a condition
-given : {P A : Type 0} {z : A} → P → (x y : A) → (P → x ≡ z) → (P → y ≡ z) → x ≡ y
-given h x y p q = p h ∙ sym (q h)
+-- the queue's slices, each under the condition
+abbrev Kept : Bool → List ℕ → List ℕ → Type 0
+Kept searching old new = searching ≡ false → new ≡ old
+
+kept : {searching : Bool} {old x y : List ℕ} → Kept searching old x → Kept searching old y → searching ≡ false → x ≡ y
+kept p q h = p h ∙ sym (q h)
+
+agree : {A : Type 0} {a : A} {searching : Bool} {parents lastRows keys rows : List ℕ}
+    → Agree A searching (λ x. (x .says ≡ a) × ((x .rows ≡ rows) × (Kept searching parents (x .parents) × (Kept searching lastRows (x .lastRows) × Kept searching keys (x .keys)))))
+agree x y p q = (
+  p .1 .0 ∙ sym (q .1 .0),
+  (p .0 ∙ sym (q .0), λ h. (kept (p .1 .1 .0) (q .1 .1 .0) h, (kept (p .1 .1 .1 .0) (q .1 .1 .1 .0) h, kept (p .1 .1 .1 .1) (q .1 .1 .1 .1) h))),
+)
+
+-- an export says a report and a number, each by an equation of its own
+both : {A B R : Type 0} {a : A} {b : B} (x : A × B) → (x .1 ≡ b) × ((x .0 ≡ a) × R) → (x ≡ (a, b)) × R
+both x p = let d = p .1 .0 in let e = p .0 in ((λ i. (d i, e i)), p .1 .1)
 
 pub unique : Unique
 unique = record {
@@ -25,25 +45,24 @@ unique = record {
   seqsim = λ a b minkfreq. one;
   bits-of = λ x. one;
   overlaps = λ s1 e1 s2 e2. one;
-  seq-to-kmer = λ k negative letters row. through (λ r. rowAfter r (countsOf k negative letters) row);
+  seq-to-kmer = λ seq k negative out. through (λ r. rowAfter r (countsOf k negative seq) out);
   entries = λ k. one;
   magnitude = λ x. one;
   row-over = λ a limit. one;
   search-mode = λ s v. one;
-  call-fault = λ s t p queueRoom answerRoom. one;
+  call-fault = λ s starts ends sizes features partSizes partFeatures queueRoom answerRoom. one;
   count-fault = λ starts ends cap. one;
   count-chains = λ starts ends full cap. one;
-  apply-haplotype = λ s t p room rows. two;
-  apply-haplotype-queue = λ s t p room rows old. given;
+  apply-haplotype = λ s starts ends sizes features partSizes partFeatures parents lastRows keys rows. agree;
   scan = λ bytes. one;
   read-job = λ bytes t. two;
   write-job = λ s t out. through (λ r. outAfter r (jobBytes (jobFrom s t)) out);
   answer = λ input out. two;
-  nd-seq-to-kmer = λ k negative letters row. two;
-  nd-seqsim = λ a b minkfreq. two;
-  nd-sizesim = λ a b. two;
-  nd-count-chains = λ starts ends full cap. two;
-  nd-apply-haplotype = λ s t p room rows. two;
-  nd-apply-haplotype-rows = λ s t p room rows. one;
-  nd-apply-haplotype-queue = λ s t p room rows old. given;
+  nd-seq-to-kmer = λ letters k negative row. two;
+  nd-seqsim = λ a b minkfreq place. two;
+  nd-sizesim = λ a b place. two;
+  nd-count-chains = λ starts ends full cap count. two;
+  nd-apply-haplotype =
+      λ k squish oneToOne full maxpaths maxnodes fnmax pileupmax minkfreq sizesim seqsim fpenalty gpenalty starts ends sizes features partSizes partFeatures parents lastRows keys rows report x y p q.
+      agree x y (both (x .says) p) (both (y .says) q);
 }

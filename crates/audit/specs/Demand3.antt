@@ -8,7 +8,7 @@ use lib.ListN.{length}
 use lib.Ieee.{le}
 use Rattle.paths.specs.Sums.{timesIn}
 use Rattle.paths.specs.Best.{Latest}
-use Rattle.paths.specs.Demand.{Lists}
+use Rattle.paths.specs.Demand.{Lists, Counted}
 use Rattle.params.specs.Numbers.{Table, Parts}
 use Rattle.kplib.specs.Graph.{isChainIn, chainsOf}
 use Rattle.kplib.specs.Score.{chainScore}
@@ -29,7 +29,9 @@ module _ (s : Settings) (t : Table) (p : Parts) (queueRoom answerRoom : ℕ) whe
     pub none-twice : (x : List ℕ) → timesIn x (scoredIn s t p) ≤ 1
     -- the count reported is their number
     pub counted : answerOf s t p queueRoom answerRoom .scored ≡ length (scoredIn s t p)
-    -- which is the smaller of N and maxpaths + 1
+    -- N is the number of chains: some list of N members holds each chain of the graph once and nothing else, and every list that does has N
+    pub n-counts : Counted (followsIn s t p) (length (t .starts)) (chainsOf (t .starts) (t .ends) (s .full))
+    -- the count reported is the smaller of N and maxpaths + 1
     pub as-many : answerOf s t p queueRoom answerRoom .scored ≡ min (chainsOf (t .starts) (t .ends) (s .full)) (s .maxpaths + 1)
     -- complete is yes exactly when N is at most maxpaths + 1
     pub complete-when : answerOf s t p queueRoom answerRoom .complete ≡ leb (chainsOf (t .starts) (t .ends) (s .full)) (s .maxpaths + 1)

@@ -4,4 +4,6 @@ pub mod Worked
 pub mod NoParts
 pub mod PartOrder
 pub mod Anchors
+pub mod Edges
+pub mod NoAnchor
 pub mod Unique

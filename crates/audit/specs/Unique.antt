@@ -1,75 +1,90 @@
 -- Document 01, "No empty promises": two results that meet a public function's promise coincide, the value and what each lent slice holds at exit.
--- A field for each function, its promise written as in its contract; `-rows` and `-queue` are further slices of the function named before them.
+-- A field for each function, named as it is; the promise is the very predicate that the function's `ensures` cites (specs/Promises of its crate).
 -- The queue's slices after a search are the one exception (docs/PROMISES.md): of them only what stands there where no search runs is promised.
 use Prim.Native.Nat.{ℕ}
 use mathlib.Core.Path.{_≡_}
 use mathlib.Core.Bool.{Bool, false}
 use mathlib.Core.List.{List}
-use lib.Dec.{ltb}
-use lib.IntN.{ℤ, natAbs}
+use lib.IntN.{ℤ}
 use lib.ListN.{length}
-use lib.Ieee.{Float, binary32, toBits}
-use Rattle.metrics.specs.Letters.{countsOf, entryCount, counterAnswer, countedNumber, rowAfter}
-use Rattle.metrics.specs.Similarity.{sizesimOf, seqsimOf, overlapsOf, magnitudeSum, number, value}
+use lib.Ieee.{Float}
 use Rattle.metrics.specs.declared.Sim.{Sim}
 use Rattle.metrics.specs.declared.kmer.Counted.{Counted}
+use Rattle.metrics.specs.Promises.{SizesimPromise, SeqsimPromise, OverlapsPromise, SeqToKmerPromise, EntriesPromise, MagnitudePromise, RowOverPromise, BitsOfPromise}
 use Rattle.params.specs.declared.Settings.{Settings}
-use Rattle.params.specs.Numbers.{Table, Parts, searchMode, firstFault, chainCountFault}
-use Rattle.kplib.specs.Graph.{cappedCount, countNumber, countValue}
-use Rattle.kplib.specs.Answer.{answerOf, rowsOf, placed, searches}
+use Rattle.params.specs.Numbers.{tableOf, partsOf}
+use Rattle.params.specs.Promises.{SearchModePromise, CallFaultPromise, CountFaultPromise}
+use Rattle.kplib.specs.Answer.{queueRoom, searches}
 use Rattle.kplib.specs.declared.vargraph.ChainCount.{ChainCount}
 use Rattle.kplib.specs.declared.traverse.Answer.{Answer}
-use Rattle.job.specs.Job.{readJob, jobBytes}
-use Rattle.job.specs.Reading.{Lent, scanOf, readingOf, lentAfter, placed as placedAtFront}
-use Rattle.job.specs.Writing.{jobFrom, writingOf, outAfter}
+use Rattle.kplib.specs.Promises.{CountChainsPromise, ApplyHaplotypePromise}
 use Rattle.job.specs.declared.form.Scan.{Scan}
 use Rattle.job.specs.declared.reader.Reading.{Reading}
 use Rattle.job.specs.declared.writer.Writing.{Writing}
-use Rattle.desk.specs.Desk.{deskText}
-use Rattle.capi.specs.Report.{reportOf}
+use Rattle.job.specs.Reading.{Lent}
+use Rattle.job.specs.Promises.{ScanPromise, ReadJobPromise, WriteJobPromise}
+use Rattle.desk.specs.Promises.{AnswerPromise}
+use Rattle.capi.specs.Report.{settingsOf}
+use Rattle.capi.specs.Promises.{NdSeqToKmerPromise, NdSeqsimPromise, NdSizesimPromise, NdCountChainsPromise, NdApplyHaplotypePromise}
 
--- at most one result meets a promise of a value, and at most one pair a promise of a value and a slice
+-- at most one result meets a promise of a value, and at most one pair a promise of what a slice holds at exit and a value
 abbrev pub One : (A : Type 0) → (A → Type 0) → Type 0
 One A promise = (x y : A) → promise x → promise y → x ≡ y
 
-abbrev pub Pair : (A B : Type 0) → (A → B → Type 0) → Type 0
-Pair A B promise = (x y : A) (u v : B) → promise x u → promise y v → (x ≡ y) × (u ≡ v)
+abbrev pub Two : (A B : Type 0) → (A → B → Type 0) → Type 0
+Two A B promise = (x y : A) (u v : B) → promise x u → promise y v → (x ≡ y) × (u ≡ v)
 
--- a queue slice that held `old` at entry, after a refusal or a one-to-one match: at most one content meets its promise
-abbrev pub QueueSlice : Settings → Table → Parts → ℕ → ℕ → List ℕ → Type 0
-QueueSlice s t p queueRoom answerRoom old =
-    searches s t p queueRoom answerRoom ≡ false → One (List ℕ) (λ out. (searches s t p queueRoom answerRoom ≡ false → out ≡ old))
+-- the nine slices of a job, lent by what they hold
+abbrev pub ReadsInto : List ℕ → Lent → Lent → Reading → Type 0
+ReadsInto bytes t u r =
+    ReadJobPromise bytes (t .starts) (t .ends) (t .sizes) (t .negatives) (t .counts) (t .partSizes) (t .partNegatives) (t .partCounts) (t .letters)
+    (u .starts) (u .ends) (u .sizes) (u .negatives) (u .counts) (u .partSizes) (u .partNegatives) (u .partCounts) (u .letters) r
+
+-- what a search leaves: the queue's three slices, the rows, and what it says
+pub record Left (A : Type 0) : Type 0 where
+  pub parents : List ℕ
+  pub lastRows : List ℕ
+  pub keys : List ℕ
+  pub rows : List ℕ
+  pub says : A
+
+-- two that meet a promise agree in rows and in what they say; and in the queue's slices where no search runs
+abbrev pub Agree : (A : Type 0) → Bool → (Left A → Type 0) → Type 0
+Agree A searching promise = (x y : Left A) → promise x → promise y → (x .rows ≡ y .rows)
+    × ((x .says ≡ y .says)
+    × ((searching ≡ false) → (x .parents ≡ y .parents) × ((x .lastRows ≡ y .lastRows) × (x .keys ≡ y .keys))))
 
 pub record Unique : Type 0 where
-  pub sizesim : (a b : ℕ) → One Sim (λ r. r ≡ sizesimOf a b)
-  pub seqsim : (a b : List ℤ) (minkfreq : ℕ) → One Sim (λ r. r ≡ seqsimOf a b minkfreq)
-  pub bits-of : (x : Float) → One ℕ (λ r. r ≡ toBits binary32 x)
-  pub overlaps : (s1 e1 s2 e2 : ℕ) → One Bool (λ r. r ≡ overlapsOf s1 e1 s2 e2)
-  pub seq-to-kmer : (k : ℕ) (negative : Bool) (letters : List ℕ) (row : List ℤ)
-      → Pair Counted (List ℤ) (λ r out. (r ≡ counterAnswer k letters row) × (out ≡ rowAfter r (countsOf k negative letters) row))
-  pub entries : (k : ℕ) → One ℕ (λ r. r ≡ entryCount k)
-  pub magnitude : (x : ℤ) → One ℕ (λ r. r ≡ natAbs x)
-  pub row-over : (a : List ℤ) (limit : ℕ) → One Bool (λ r. r ≡ ltb limit (magnitudeSum a))
-  pub search-mode : (s : Settings) (v : ℕ) → One Bool (λ r. r ≡ searchMode s v)
-  pub call-fault : (s : Settings) (t : Table) (p : Parts) (queueRoom answerRoom : ℕ) → One ℕ (λ r. r ≡ firstFault s t p queueRoom answerRoom)
-  pub count-fault : (starts ends : List ℕ) (cap : ℕ) → One ℕ (λ r. r ≡ chainCountFault cap starts ends)
-  pub count-chains : (starts ends : List ℕ) (full : Bool) (cap : ℕ) → One ChainCount (λ r. r ≡ cappedCount starts ends full cap)
-  pub apply-haplotype : (s : Settings) (t : Table) (p : Parts) (room : ℕ) (rows : List ℕ)
-      → Pair Answer (List ℕ) (λ r out. (r ≡ answerOf s t p room (length rows)) × (out ≡ placed rows (rowsOf s t p room (length rows))))
-  pub apply-haplotype-queue : (s : Settings) (t : Table) (p : Parts) (room : ℕ) (rows old : List ℕ) → QueueSlice s t p room (length rows) old
-  pub scan : (bytes : List ℕ) → One Scan (λ r. r ≡ scanOf (readJob bytes))
-  pub read-job : (bytes : List ℕ) (t : Lent) → Pair Reading Lent (λ r u. (r ≡ readingOf (readJob bytes) t) × (u ≡ lentAfter (readJob bytes) t))
+  pub sizesim : (a b : ℕ) → One Sim (SizesimPromise a b)
+  pub seqsim : (a b : List ℤ) (minkfreq : ℕ) → One Sim (SeqsimPromise a b minkfreq)
+  pub bits-of : (x : Float) → One ℕ (BitsOfPromise x)
+  pub overlaps : (s1 e1 s2 e2 : ℕ) → One Bool (OverlapsPromise s1 e1 s2 e2)
+  pub seq-to-kmer : (seq : List ℕ) (k : ℕ) (negative : Bool) (out : List ℤ) → Two (List ℤ) Counted (SeqToKmerPromise seq k negative out)
+  pub entries : (k : ℕ) → One ℕ (EntriesPromise k)
+  pub magnitude : (x : ℤ) → One ℕ (MagnitudePromise x)
+  pub row-over : (a : List ℤ) (limit : ℕ) → One Bool (RowOverPromise a limit)
+  pub search-mode : (s : Settings) (v : ℕ) → One Bool (SearchModePromise s v)
+  pub call-fault : (s : Settings) (starts ends : List ℕ) (sizes features partSizes partFeatures : List ℤ) (queueRoom answerRoom : ℕ)
+      → One ℕ (CallFaultPromise s starts ends sizes features partSizes partFeatures queueRoom answerRoom)
+  pub count-fault : (starts ends : List ℕ) (cap : ℕ) → One ℕ (CountFaultPromise starts ends cap)
+  pub count-chains : (starts ends : List ℕ) (full : Bool) (cap : ℕ) → One ChainCount (CountChainsPromise starts ends full cap)
+  pub apply-haplotype : (s : Settings) (starts ends : List ℕ) (sizes features partSizes partFeatures : List ℤ) (parents lastRows keys rows : List ℕ)
+      → Agree Answer (searches s (tableOf starts ends sizes features) (partsOf partSizes partFeatures) (queueRoom parents lastRows keys) (length rows))
+      (λ x. ApplyHaplotypePromise s starts ends sizes features partSizes partFeatures parents lastRows keys rows (x .parents) (x .lastRows) (x .keys) (x .rows) (x .says))
+  pub scan : (bytes : List ℕ) → One Scan (ScanPromise bytes)
+  pub read-job : (bytes : List ℕ) (t : Lent) → Two Lent Reading (ReadsInto bytes t)
   pub write-job : (s : Settings) (t : Lent) (out : List ℕ)
-      → Pair Writing (List ℕ) (λ r u. (r ≡ writingOf s t (length out)) × (u ≡ outAfter r (jobBytes (jobFrom s t)) out))
-  pub answer : (input out : List ℕ) → Pair ℕ (List ℕ) (λ r u. (r ≡ length (deskText input)) × (u ≡ placedAtFront out (deskText input)))
-  pub nd-seq-to-kmer : (k : ℕ) (negative : Bool) (letters : List ℕ) (row : List ℤ)
-      → Pair ℕ (List ℤ) (λ r out. (r ≡ countedNumber (counterAnswer k letters row)) × (out ≡ rowAfter (counterAnswer k letters row) (countsOf k negative letters) row))
-  pub nd-seqsim : (a b : List ℤ) (minkfreq : ℕ) → Pair ℕ Float (λ r x. (r ≡ number (seqsimOf a b minkfreq)) × (x ≡ value (seqsimOf a b minkfreq)))
-  pub nd-sizesim : (a b : ℕ) → Pair ℕ Float (λ r x. (r ≡ number (sizesimOf a b)) × (x ≡ value (sizesimOf a b)))
-  pub nd-count-chains : (starts ends : List ℕ) (full : Bool) (cap : ℕ)
-      → Pair ℕ ℕ (λ r n. (r ≡ countNumber (cappedCount starts ends full cap)) × (n ≡ countValue (cappedCount starts ends full cap)))
-  pub nd-apply-haplotype : (s : Settings) (t : Table) (p : Parts) (room : ℕ) (rows : List ℕ)
-      → Pair ℕ (List ℕ) (λ r report. (r ≡ answerOf s t p room (length rows) .refusal) × (report ≡ reportOf (answerOf s t p room (length rows))))
-  pub nd-apply-haplotype-rows : (s : Settings) (t : Table) (p : Parts) (room : ℕ) (rows : List ℕ)
-      → One (List ℕ) (λ out. out ≡ placed rows (rowsOf s t p room (length rows)))
-  pub nd-apply-haplotype-queue : (s : Settings) (t : Table) (p : Parts) (room : ℕ) (rows old : List ℕ) → QueueSlice s t p room (length rows) old
+      → Two (List ℕ) Writing (WriteJobPromise s (t .starts) (t .ends) (t .sizes) (t .negatives) (t .counts) (t .partSizes) (t .partNegatives) (t .partCounts) (t .letters) out)
+  pub answer : (input out : List ℕ) → Two (List ℕ) ℕ (AnswerPromise input out)
+  pub nd-seq-to-kmer : (letters : List ℕ) (k : ℕ) (negative : Bool) (row : List ℤ) → Two (List ℤ) ℕ (NdSeqToKmerPromise letters k negative row)
+  pub nd-seqsim : (a b : List ℤ) (minkfreq : ℕ) (place : Float) → Two Float ℕ (NdSeqsimPromise a b minkfreq place)
+  pub nd-sizesim : (a b : ℕ) (place : Float) → Two Float ℕ (NdSizesimPromise a b place)
+  pub nd-count-chains : (starts ends : List ℕ) (full : Bool) (cap count : ℕ) → Two ℕ ℕ (NdCountChainsPromise starts ends full cap count)
+  pub nd-apply-haplotype : (k : ℕ) (squish oneToOne full : Bool) (maxpaths maxnodes fnmax pileupmax minkfreq : ℕ) (sizesim seqsim fpenalty gpenalty : Float)
+      (starts ends : List ℕ) (sizes features partSizes partFeatures : List ℤ) (parents lastRows keys rows report : List ℕ)
+      → Agree (List ℕ × ℕ)
+      (searches (settingsOf k squish oneToOne full maxpaths maxnodes fnmax pileupmax minkfreq sizesim seqsim fpenalty gpenalty)
+      (tableOf starts ends sizes features) (partsOf partSizes partFeatures) (queueRoom parents lastRows keys) (length rows))
+      (λ x. NdApplyHaplotypePromise k squish oneToOne full maxpaths maxnodes fnmax pileupmax minkfreq sizesim seqsim fpenalty gpenalty
+      starts ends sizes features partSizes partFeatures parents lastRows keys rows report
+      (x .parents) (x .lastRows) (x .keys) (x .rows) (x .says .0) (x .says .1))

@@ -1,14 +1,19 @@
 -- Document 01, "Job form and program": its worked job, and that the definitions give for it what document 01 prints.
+use Prim.Native.Nat.{ℕ}
 use mathlib.Core.Path.{_≡_}
 use mathlib.Core.Bool.{true, false}
-use mathlib.Core.List.{[], _∷_}
+use mathlib.Core.List.{List, [], _∷_, _++_}
 use lib.IntN.{pos}
 use lib.Ieee.{Float, binary32, ofBits}
+use Rattle.metrics.specs.Letters.{countsOf}
 use Rattle.metrics.specs.Similarity.{whole}
 use Rattle.params.specs.Numbers.{Table, Parts, tableOf, partsOf, firstFault}
 use Rattle.kplib.specs.Score.{chainScore}
 use Rattle.kplib.specs.Search.{scoredIn}
 use Rattle.kplib.specs.Answer.{answerOf, rowsOf}
+use Rattle.job.specs.Job.{Job, jobBytes}
+use Rattle.desk.specs.Text.{bytesOf}
+use Rattle.desk.specs.Desk.{deskText}
 use Rattle.params.specs.declared.Settings.{Settings}
 use Rattle.kplib.specs.declared.pathscore.Target.the-variants.{Whole}
 
@@ -32,11 +37,38 @@ settings = record {
   gpenalty = whole 0;
 }
 
+abbrev pub ag : List ℕ
+ag = bytesOf "AG"
+
+abbrev pub ct : List ℕ
+ct = bytesOf "CT"
+
 abbrev pub variants : Table
-variants = tableOf (10 ∷ (20 ∷ [])) (10 ∷ (20 ∷ [])) (pos 2 ∷ (pos 2 ∷ [])) (pos 1 ∷ (pos 1 ∷ (pos 0 ∷ (pos 0 ∷ (pos 0 ∷ (pos 0 ∷ (pos 1 ∷ (pos 1 ∷ []))))))))
+variants = tableOf (10 ∷ (20 ∷ [])) (10 ∷ (20 ∷ [])) (pos 2 ∷ (pos 2 ∷ [])) (countsOf 1 false ag ++ countsOf 1 false ct)
 
 abbrev pub part : Parts
-part = partsOf (pos 2 ∷ []) (pos 1 ∷ (pos 1 ∷ (pos 0 ∷ (pos 0 ∷ []))))
+part = partsOf (pos 2 ∷ []) (countsOf 1 false ag)
+
+-- the same as records of the job form
+abbrev pub job : Job
+job = record {
+  settings = settings;
+  variants =
+      record { start = 10; end = 10; size = pos 2; negative = false; letters = ag }
+      ∷ (record { start = 20; end = 20; size = pos 2; negative = false; letters = ct } ∷ []);
+  parts = record { size = pos 2; negative = false; letters = ag } ∷ [];
+}
+
+-- the seven lines that document 01 prints
+abbrev pub lines : List ℕ
+lines =
+    bytesOf "rows 0\n"
+    ++ bytesOf "score 3f800000\n"
+    ++ bytesOf "sizesim 3f800000\n"
+    ++ bytesOf "seqsim 3f800000\n"
+    ++ bytesOf "full yes\n"
+    ++ bytesOf "scored 4\n"
+    ++ bytesOf "complete yes\n"
 
 pub record Worked : Type 0 where
   -- its checks all pass, with just the room that it needs: 1 + (maxpaths + 1) × V queue entries and V rows
@@ -48,3 +80,5 @@ pub record Worked : Type 0 where
   -- the answer that document 01 prints
   pub answer : answerOf settings variants part 23 2 ≡ record { refusal = 0; rows = 1; target = Whole; score = whole 1; sizesim = whole 1; seqsim = whole 1; scored = 4; complete = true }
   pub rows : rowsOf settings variants part 23 2 ≡ 0 ∷ []
+  -- the program, given the job's bytes, prints these lines
+  pub printed : deskText (jobBytes job) ≡ lines

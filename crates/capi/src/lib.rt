@@ -1,13 +1,5 @@
 // What Rust and C link: the library's calls on numbers and slices. Each gives back the refusal's number, 0 for an accepted call.
-ghost use mathlib.Core.Path.{_≡_};
-ghost use mathlib.Core.Bool.{false};
-ghost use lib.ListN.{length};
-ghost use Rattle.metrics.specs.Similarity.{sizesimOf, seqsimOf, number, value};
-ghost use Rattle.metrics.specs.Letters.{countsOf, counterAnswer, countedNumber, rowAfter};
-ghost use Rattle.kplib.specs.Graph.{cappedCount, countNumber, countValue};
-ghost use Rattle.params.specs.Numbers.{tableOf, partsOf};
-ghost use Rattle.kplib.specs.Answer.{answerOf, rowsOf, placed, queueRoom, searches};
-ghost use Rattle.capi.specs.Report.{settingsOf, reportOf};
+ghost use Rattle.capi.specs.Promises.{NdSeqToKmerPromise, NdSeqsimPromise, NdSizesimPromise, NdCountChainsPromise, NdApplyHaplotypePromise};
 use crate::report::put_report;
 use kplib::vargraph::ChainCount;
 use metrics::Sim;
@@ -19,8 +11,7 @@ mod report;
 
 #[no_mangle]
 pub extern "C" fn nd_seq_to_kmer(letters: &[u8], k: u8, negative: bool, row: &mut [i32]) -> u32
-    ensures number { λ r. ⌜ r ≡ countedNumber (counterAnswer k (now (letters .entry)) (now (row .entry))) ⌝ }
-    ensures row { λ _. ⌜ now (row .exit) ≡ rowAfter (counterAnswer k (now (letters .entry)) (now (row .entry))) (countsOf k negative (now (letters .entry))) (now (row .entry)) ⌝ }
+    ensures { λ r. ⌜ NdSeqToKmerPromise (now (letters .entry)) k negative (now (row .entry)) (now (row .exit)) r ⌝ }
 {
     let counted = metrics::kmer::seq_to_kmer(letters, k, negative, row);
     match counted {
@@ -31,8 +22,7 @@ pub extern "C" fn nd_seq_to_kmer(letters: &[u8], k: u8, negative: bool, row: &mu
 
 #[no_mangle]
 pub extern "C" fn nd_seqsim(a: &[i32], b: &[i32], minkfreq: u32, place: &mut f32) -> u32
-    ensures number { λ r. ⌜ r ≡ number (seqsimOf (now (a .entry)) (now (b .entry)) minkfreq) ⌝ }
-    ensures place { λ _. ⌜ now (place .exit) ≡ value (seqsimOf (now (a .entry)) (now (b .entry)) minkfreq) ⌝ }
+    ensures { λ r. ⌜ NdSeqsimPromise (now (a .entry)) (now (b .entry)) minkfreq (now (place .entry)) (now (place .exit)) r ⌝ }
 {
     let sim = metrics::seqsim(a, b, minkfreq);
     match sim {
@@ -49,8 +39,7 @@ pub extern "C" fn nd_seqsim(a: &[i32], b: &[i32], minkfreq: u32, place: &mut f32
 
 #[no_mangle]
 pub extern "C" fn nd_sizesim(a: u64, b: u64, place: &mut f32) -> u32
-    ensures number { λ r. ⌜ r ≡ number (sizesimOf a b) ⌝ }
-    ensures place { λ _. ⌜ now (place .exit) ≡ value (sizesimOf a b) ⌝ }
+    ensures { λ r. ⌜ NdSizesimPromise a b (now (place .entry)) (now (place .exit)) r ⌝ }
 {
     let sim = metrics::sizesim(a, b);
     match sim {
@@ -73,8 +62,7 @@ pub extern "C" fn nd_count_chains(
     cap: u32,
     count: &mut u32,
 ) -> u32
-    ensures number { λ r. ⌜ r ≡ countNumber (cappedCount (now (starts .entry)) (now (ends .entry)) full cap) ⌝ }
-    ensures count { λ _. ⌜ now (count .exit) ≡ countValue (cappedCount (now (starts .entry)) (now (ends .entry)) full cap) ⌝ }
+    ensures { λ r. ⌜ NdCountChainsPromise (now (starts .entry)) (now (ends .entry)) full cap (now (count .entry)) (now (count .exit)) r ⌝ }
 {
     let counted = kplib::vargraph::count_chains(starts, ends, full, cap);
     match counted {
@@ -117,12 +105,10 @@ pub extern "C" fn nd_apply_haplotype(
     rows: &mut [u32],
     report: &mut [u32; 7],
 ) -> u32
-    ensures number { λ r. ⌜ r ≡ answerOf (settingsOf k squish «one_to_one» full maxpaths maxnodes fnmax pileupmax minkfreq sizesim seqsim fpenalty gpenalty) (tableOf (now (starts .entry)) (now (ends .entry)) (now (sizes .entry)) (now (features .entry))) (partsOf (now («part_sizes» .entry)) (now («part_features» .entry))) (queueRoom (now (parents .entry)) (now («last_rows» .entry)) (now (keys .entry))) (length (now (rows .entry))) .refusal ⌝ }
-    ensures report { λ _. ⌜ now (report .exit) ≡ reportOf (answerOf (settingsOf k squish «one_to_one» full maxpaths maxnodes fnmax pileupmax minkfreq sizesim seqsim fpenalty gpenalty) (tableOf (now (starts .entry)) (now (ends .entry)) (now (sizes .entry)) (now (features .entry))) (partsOf (now («part_sizes» .entry)) (now («part_features» .entry))) (queueRoom (now (parents .entry)) (now («last_rows» .entry)) (now (keys .entry))) (length (now (rows .entry)))) ⌝ }
-    ensures rows { λ _. ⌜ now (rows .exit) ≡ placed (now (rows .entry)) (rowsOf (settingsOf k squish «one_to_one» full maxpaths maxnodes fnmax pileupmax minkfreq sizesim seqsim fpenalty gpenalty) (tableOf (now (starts .entry)) (now (ends .entry)) (now (sizes .entry)) (now (features .entry))) (partsOf (now («part_sizes» .entry)) (now («part_features» .entry))) (queueRoom (now (parents .entry)) (now («last_rows» .entry)) (now (keys .entry))) (length (now (rows .entry)))) ⌝ }
-    ensures parents { λ _. ⌜ ((searches (settingsOf k squish «one_to_one» full maxpaths maxnodes fnmax pileupmax minkfreq sizesim seqsim fpenalty gpenalty) (tableOf (now (starts .entry)) (now (ends .entry)) (now (sizes .entry)) (now (features .entry))) (partsOf (now («part_sizes» .entry)) (now («part_features» .entry))) (queueRoom (now (parents .entry)) (now («last_rows» .entry)) (now (keys .entry))) (length (now (rows .entry))) ≡ false) → now (parents .exit) ≡ now (parents .entry)) ⌝ }
-    ensures lasts { λ _. ⌜ ((searches (settingsOf k squish «one_to_one» full maxpaths maxnodes fnmax pileupmax minkfreq sizesim seqsim fpenalty gpenalty) (tableOf (now (starts .entry)) (now (ends .entry)) (now (sizes .entry)) (now (features .entry))) (partsOf (now («part_sizes» .entry)) (now («part_features» .entry))) (queueRoom (now (parents .entry)) (now («last_rows» .entry)) (now (keys .entry))) (length (now (rows .entry))) ≡ false) → now («last_rows» .exit) ≡ now («last_rows» .entry)) ⌝ }
-    ensures keys { λ _. ⌜ ((searches (settingsOf k squish «one_to_one» full maxpaths maxnodes fnmax pileupmax minkfreq sizesim seqsim fpenalty gpenalty) (tableOf (now (starts .entry)) (now (ends .entry)) (now (sizes .entry)) (now (features .entry))) (partsOf (now («part_sizes» .entry)) (now («part_features» .entry))) (queueRoom (now (parents .entry)) (now («last_rows» .entry)) (now (keys .entry))) (length (now (rows .entry))) ≡ false) → now (keys .exit) ≡ now (keys .entry)) ⌝ }
+    ensures { λ r. ⌜ NdApplyHaplotypePromise k squish «one_to_one» full maxpaths maxnodes fnmax pileupmax minkfreq sizesim seqsim fpenalty gpenalty (now (starts .entry))
+        (now (ends .entry)) (now (sizes .entry)) (now (features .entry)) (now («part_sizes» .entry)) (now («part_features» .entry)) (now (parents .entry))
+        (now («last_rows» .entry)) (now (keys .entry)) (now (rows .entry)) (now (report .entry)) (now (parents .exit)) (now («last_rows» .exit)) (now (keys .exit))
+        (now (rows .exit)) (now (report .exit)) r ⌝ }
 {
     let s = Settings {
         k,

@@ -3,3 +3,4 @@ pub mod Desk
 pub mod Pieces
 pub mod Rows
 pub mod Memory
+pub mod Promises

@@ -9,15 +9,11 @@ use crate::text::put_refused;
 use job::form::Scan;
 use job::reader::scan;
 use metrics::refusals::TOO_LARGE;
-ghost use mathlib.Core.Path.{_≡_};
-ghost use lib.ListN.{length};
-ghost use Rattle.job.specs.Reading.{placed};
-ghost use Rattle.desk.specs.Desk.{deskText};
+ghost use Rattle.desk.specs.Promises.{AnswerPromise};
 
 // The text for a job's bytes, at the front of `out`. Returns how long it is.
 pub fn answer(input: &[u8], out: &mut [u8; 512]) -> usize
-    ensures count { λ r. ⌜ r ≡ length (deskText (now (input .entry))) ⌝ }
-    ensures text { λ _. ⌜ now (out .exit) ≡ placed (now (out .entry)) (deskText (now (input .entry))) ⌝ }
+    ensures { λ r. ⌜ AnswerPromise (now (input .entry)) (now (out .entry)) (now (out .exit)) r ⌝ }
 {
     if 32768 < input.len() {
         return put_refused(out, TOO_LARGE);

@@ -12,4 +12,5 @@ pub mod RowLaws
 pub mod HeadLaws
 pub mod JobLaws
 pub mod BackLaws
+pub mod SlicesBack
 pub mod RoundTrip

@@ -1,9 +1,9 @@
--- The round trip: the bytes of a job are in good form, record by record, and what they hold is the job. Assumes nothing.
+-- The round trip: the bytes of a job are in good form, record by record, and what they hold is the job; what the job holds is what the slices held. Assumes nothing.
 use Prim.Native.Nat.{ℕ, zero, suc, _+_, _-_, _*_, _/_, _≤_, _<_}
 use native.Mathlib.Omega.{arith}
 use mathlib.Core.Path.{_≡_, refl, sym, ap, subst, _∙_}
 use mathlib.Core.Bool.{Bool, true, false, not, cond, _||_}
-use mathlib.Core.List.{List, [], _∷_, _++_, append-assoc}
+use mathlib.Core.List.{List, [], _∷_, _++_, append-assoc, append-nil}
 use mathlib.Core.Logic.{_⊎_, ⊎-elim}
 use lib.Dec.{ltb, leb}
 use lib.ListN.{length, getD, take, drop, replicate, length-append, length-drop, length-take}
@@ -17,17 +17,20 @@ use Rattle.job.specs.declared.form.Scan.the-variants.{Good, Refused}
 use Rattle.job.specs.Fields.{le2, le4, bytes2, bytes4, bytes8, flag}
 use Rattle.job.specs.Settings40.{settingsOf, settingsBytes, numberBytes, floatBytes}
 use Rattle.job.specs.Form.{bodyLen, inPlace, flagsOk, countOf, padOk, allZero, faultOf, after, run, start, counted}
-use Rattle.job.specs.Job.{Variant, Part, Job, Held, variantHere, partHere, gather, jobOf, readOf, readJob, padded, lettersRecords, recordsFor, sequenceBytes, partBody, variantBody, variantBytes, partBytes, variantsBytes, partsBytes, jobBytes}
+use Rattle.job.specs.Job.{Variant, Part, Job, Read, Held, variantHere, partHere, gather, jobOf, readOf, readJob}
+use Rattle.job.specs.Job.{padded, lettersRecords, recordsFor, sequenceBytes, partBody, variantBody, variantBytes, partBytes, variantsBytes, partsBytes, jobBytes}
 use Rattle.job.specs.declared.writer.Writing.the-variants.{Refused as Declined, Wrote}
-use Rattle.job.specs.Reading.{Lent}
+use Rattle.job.specs.declared.reader.Reading.the-variants.{Job as Given}
+use Rattle.job.specs.Reading.{Lent, hasRoom, readingOf, lentAfter}
 use Rattle.job.specs.Writing.{sum, anyOver, agree, variantsFrom, partsFrom, jobFrom, writingOf}
 use Rattle.job.specs.Holds.{SettingsHold, VariantHolds, PartHolds, VariantsHold, PartsHold, JobHolds, LentHolds}
-use Rattle.job.specs.RoundTrip.{RoundTrip}
+use Rattle.job.specs.RoundTrip.{RoundTrip, laidOver, lentCounts}
 use Rattle.job.proofs.FieldLaws.{four-back}
 use Rattle.job.proofs.FormLaws.{split, skip, judge-done, judge-more, fault-none, fault-none-end, pad-rest}
 use Rattle.job.proofs.FillLaws.{gather-skip}
 use Rattle.job.proofs.WriteLaws.{long-padded}
 use Rattle.job.proofs.BackLaws.{settings-back, variant-back, part-back}
+use Rattle.job.proofs.SlicesBack.{slices-back, counts-back}
 
 -- ---- one record
 run-record : (st : State) (k n : ℕ) (body rest : List ℕ) → (k ≡ 0 → ⊥) → n ≡ bodyLen k → length body ≡ n → faultOf st k (body ++ rest) ≡ 0
@@ -377,10 +380,6 @@ parts-there (x ∷ xs) rest h =
     ∙ gather-part x (h .0) (partsBytes xs ++ rest) partHere no-part-4
     ∙ rw (part-is x (h .0) (partsBytes xs ++ rest)) (ap (λ (q : List Part). x ∷ q) (parts-there xs rest (h .1)))
 
-append-empty : {A : Type 0} (xs : List A) → xs ++ [] ≡ xs
-append-empty [] = refl
-append-empty (x ∷ xs) = ap (λ (q : List _). x ∷ q) (append-empty xs)
-
 end-empty : {A : Type 0} (here : ℕ → List ℕ → List A) → here 0 [] ≡ [] → gather here (0 ∷ []) 0 ≡ []
 unfolding gather
 end-empty here e = rw e
@@ -401,7 +400,7 @@ module _ (job : Job) (h : JobHolds job) where
   variants-are = gather-record variantHere 1 40 (settingsBytes (job .settings)) tail refl (long-settings (job .settings) tail)
       ∙ variants-there (job .variants) (partsBytes (job .parts) ++ (0 ∷ [])) (h .variants)
       ∙ ap (λ (q : List Variant). job .variants ++ q) (no-variants (job .parts) (0 ∷ []) (h .parts) ∙ end-empty variantHere refl)
-      ∙ append-empty (job .variants)
+      ∙ append-nil (job .variants)
 
   parts-are : gather partHere (jobBytes job) 0 ≡ job .parts
   unfolding jobBytes bodyLen partHere
@@ -409,7 +408,7 @@ module _ (job : Job) (h : JobHolds job) where
       ∙ no-parts (job .variants) (partsBytes (job .parts) ++ (0 ∷ [])) (h .variants)
       ∙ parts-there (job .parts) (0 ∷ []) (h .parts)
       ∙ ap (λ (q : List Part). job .parts ++ q) (end-empty partHere refl)
-      ∙ append-empty (job .parts)
+      ∙ append-nil (job .parts)
 
   settings-are : settingsOf (drop 1 (jobBytes job)) ≡ job .settings
   unfolding jobBytes
@@ -423,11 +422,20 @@ module _ (job : Job) (h : JobHolds job) where
       ∙ (λ i. Held (record { settings = p i; variants = q i; parts = r i }))
 
 -- ---- a job that the writer accepts
-none-over : (m n : ℕ) (a b c d : Bool) → cond (not a) (Declined 6) (cond (b || c) (Declined 13) (cond d (Declined 30) (Wrote m))) ≡ Wrote n → (b ≡ false) × (c ≡ false)
-none-over m n false b c d e = let z : _≡_ {A = ℕ} 1 0 = cc in let w : ⊥ = omega arith in absurd w
-none-over m n true true c d e = let z : _≡_ {A = ℕ} 1 0 = cc in let w : ⊥ = omega arith in absurd w
-none-over m n true false true d e = let z : _≡_ {A = ℕ} 1 0 = cc in let w : ⊥ = omega arith in absurd w
-none-over m n true false false d e = (refl, refl)
+record Accepted (a b c : Bool) : Type 0 where
+  agrees : a ≡ true
+  few : b ≡ false
+  few-parts : c ≡ false
+
+accepted : (m n : ℕ) (a b c d : Bool) → cond (not a) (Declined 6) (cond (b || c) (Declined 13) (cond d (Declined 30) (Wrote m))) ≡ Wrote n → Accepted a b c
+accepted m n false b c d e = let z : _≡_ {A = ℕ} 1 0 = cc in let w : ⊥ = omega arith in absurd w
+accepted m n true true c d e = let z : _≡_ {A = ℕ} 1 0 = cc in let w : ⊥ = omega arith in absurd w
+accepted m n true false true d e = let z : _≡_ {A = ℕ} 1 0 = cc in let w : ⊥ = omega arith in absurd w
+accepted m n true false false d e = record { agrees = refl; few = refl; few-parts = refl }
+
+accepts : (s : Settings) (t : Lent) (room n : ℕ) → writingOf s t room ≡ Wrote n → Accepted (agree t) (anyOver (t .counts)) (anyOver (t .partCounts))
+unfolding writingOf
+accepts s t room n e = accepted (length (jobBytes (jobFrom s t))) n (agree t) (anyOver (t .counts)) (anyOver (t .partCounts)) (ltb room (length (jobBytes (jobFrom s t)))) e
 
 neither : (a b : Bool) → a || b ≡ false → (a ≡ false) × (b ≡ false)
 neither true b e = let z : _≡_ {A = ℕ} 1 0 = cc in let w : ⊥ = omega arith in absurd w
@@ -458,14 +466,31 @@ module _ (t : Lent) (h : LentHolds t) where
       (record { size = h .partSizes r; letters = omega (arith, k, l) }, parts-hold few n (suc r) (p + getD (t .partCounts) r 0))
 
   written-back : (s : Settings) → SettingsHold s → (room n : ℕ) → writingOf s t room ≡ Wrote n → readJob (jobBytes (jobFrom s t)) ≡ Held (jobFrom s t)
-  unfolding writingOf jobFrom
+  unfolding jobFrom
   written-back s g room n e =
-      let few = none-over (length (jobBytes (jobFrom s t))) n (agree t) (anyOver (t .counts)) (anyOver (t .partCounts)) (ltb room (length (jobBytes (jobFrom s t)))) e in
+      let ok = accepts s t room n e in
       job-back (jobFrom s t) (record {
         settings = g;
-        variants = variants-hold (few-each (t .counts) (few .0)) (length (t .starts)) 0 0;
-        parts = parts-hold (few-each (t .partCounts) (few .1)) (length (t .partSizes)) 0 (sum (t .counts));
+        variants = variants-hold (few-each (t .counts) (ok .few)) (length (t .starts)) 0 0;
+        parts = parts-hold (few-each (t .partCounts) (ok .few-parts)) (length (t .partSizes)) 0 (sum (t .counts));
       })
 
+  read-back : (s : Settings) → SettingsHold s → (room n : ℕ) → writingOf s t room ≡ Wrote n → (u : Lent) → hasRoom (lentCounts t) u ≡ true
+      → (readingOf (readJob (jobBytes (jobFrom s t))) u ≡ Given s (lentCounts t)) × (lentAfter (readJob (jobBytes (jobFrom s t))) u ≡ laidOver u t)
+  unfolding readingOf lentAfter jobFrom
+  read-back s g room n e u fits =
+      let ok = accepts s t room n e in
+      let b = written-back s g room n e in
+      let c = counts-back s t (ok .agrees) in (
+        ap (λ (x : Read). readingOf x u) b ∙ rw (c, fits),
+        ap (λ (x : Read). lentAfter x u) b ∙ rw (c, fits) (slices-back s t u (ok .agrees)),
+      )
+
 pub round-trip : RoundTrip
-round-trip = record { job-back = job-back; written-back = λ s g t h. written-back t h s g }
+round-trip = record {
+  job-back = job-back;
+  written-back = λ s g t h. written-back t h s g;
+  slices-back = slices-back;
+  counts-back = counts-back;
+  read-back = λ s g t h. read-back t h s g;
+}

@@ -7,3 +7,4 @@ pub mod Writing
 pub mod Steps
 pub mod Holds
 pub mod RoundTrip
+pub mod Promises

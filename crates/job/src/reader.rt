@@ -9,8 +9,8 @@ use crate::settings::read_settings;
 use metrics::refusals::LITTLE_ROOM;
 use params::Settings;
 ghost use mathlib.Core.Path.{_≡_};
-ghost use Rattle.job.specs.Job.{readJob};
-ghost use Rattle.job.specs.Reading.{lent, scanOf, five, three, readingOf, lentAfter};
+ghost use Rattle.job.specs.Reading.{five, three};
+ghost use Rattle.job.specs.Promises.{ScanPromise, ReadJobPromise};
 
 pub enum Reading {
     Refused(u32),
@@ -19,7 +19,7 @@ pub enum Reading {
 
 // The first fault, front to back, or how many variants, parts and letters the job has.
 pub fn scan(bytes: &[u8]) -> Scan
-    ensures { λ r. ⌜ r ≡ scanOf (readJob (now (bytes .entry))) ⌝ }
+    ensures { λ r. ⌜ ScanPromise (now (bytes .entry)) r ⌝ }
 {
     first_fault(bytes)
 }
@@ -68,14 +68,10 @@ pub fn read_job(
     part_letter_counts: &mut [u32],
     letters: &mut [u8],
 ) -> Reading
-    ensures answer { λ r. ⌜ r ≡ readingOf (readJob (now (bytes .entry)))
-        (lent (now (starts .entry)) (now (ends .entry)) (now (sizes .entry)) (now (negatives .entry)) (now («letter_counts» .entry))
-        (now («part_sizes» .entry)) (now («part_negatives» .entry)) (now («part_letter_counts» .entry)) (now (letters .entry))) ⌝ }
-    ensures slices { λ _. ⌜ lent (now (starts .exit)) (now (ends .exit)) (now (sizes .exit)) (now (negatives .exit)) (now («letter_counts» .exit))
-        (now («part_sizes» .exit)) (now («part_negatives» .exit)) (now («part_letter_counts» .exit)) (now (letters .exit))
-        ≡ lentAfter (readJob (now (bytes .entry)))
-        (lent (now (starts .entry)) (now (ends .entry)) (now (sizes .entry)) (now (negatives .entry)) (now («letter_counts» .entry))
-        (now («part_sizes» .entry)) (now («part_negatives» .entry)) (now («part_letter_counts» .entry)) (now (letters .entry))) ⌝ }
+    ensures { λ r. ⌜ ReadJobPromise (now (bytes .entry)) (now (starts .entry)) (now (ends .entry)) (now (sizes .entry)) (now (negatives .entry))
+        (now («letter_counts» .entry)) (now («part_sizes» .entry)) (now («part_negatives» .entry)) (now («part_letter_counts» .entry)) (now (letters .entry))
+        (now (starts .exit)) (now (ends .exit)) (now (sizes .exit)) (now (negatives .exit)) (now («letter_counts» .exit)) (now («part_sizes» .exit))
+        (now («part_negatives» .exit)) (now («part_letter_counts» .exit)) (now (letters .exit)) r ⌝ }
 {
     let found = first_fault(bytes);
     match found {

@@ -25,8 +25,9 @@ ghost use lib.ListN.{length, take, getD};
 ghost use lib.Seq.{sets, slice};
 ghost use Rattle.job.specs.Job.{padded, recordsFor, sequenceBytes, partBody, variantBody, variantsBytes, partsBytes, jobBytes};
 ghost use Rattle.job.specs.Reading.{lent};
-ghost use Rattle.job.specs.Writing.{sum, anyOver, four, two, variantsFrom, partsFrom, writingOf, outAfter, jobFrom};
+ghost use Rattle.job.specs.Writing.{sum, anyOver, four, two, variantsFrom, partsFrom, jobFrom};
 ghost use Rattle.job.specs.Steps.{costOf, total, leftOf, VariantsFit, PartsFit, Put, JobFits};
+ghost use Rattle.job.specs.Promises.{WriteJobPromise};
 
 pub enum Writing {
     Refused(u32),
@@ -330,12 +331,8 @@ pub fn write_job(
     letters: &[u8],
     out: &mut [u8],
 ) -> Writing
-    ensures answer { λ r. ⌜ r ≡ writingOf settings
-        (lent (now (starts .entry)) (now (ends .entry)) (now (sizes .entry)) (now (negatives .entry)) (now («letter_counts» .entry))
-        (now («part_sizes» .entry)) (now («part_negatives» .entry)) (now («part_letter_counts» .entry)) (now (letters .entry))) (length (now (out .entry))) ⌝ }
-    ensures bytes { λ r. ⌜ now (out .exit) ≡ outAfter r (jobBytes (jobFrom settings
-        (lent (now (starts .entry)) (now (ends .entry)) (now (sizes .entry)) (now (negatives .entry)) (now («letter_counts» .entry))
-        (now («part_sizes» .entry)) (now («part_negatives» .entry)) (now («part_letter_counts» .entry)) (now (letters .entry))))) (now (out .entry)) ⌝ }
+    ensures { λ r. ⌜ WriteJobPromise settings (now (starts .entry)) (now (ends .entry)) (now (sizes .entry)) (now (negatives .entry)) (now («letter_counts» .entry))
+        (now («part_sizes» .entry)) (now («part_negatives» .entry)) (now («part_letter_counts» .entry)) (now (letters .entry)) (now (out .entry)) (now (out .exit)) r ⌝ }
 {
     if !rows_agree(
         starts.len(),

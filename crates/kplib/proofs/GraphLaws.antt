@@ -14,7 +14,7 @@ use Rattle.paths.proofs.CountLaws.{doc-full, doc-bare}
 use Rattle.kplib.specs.Graph.{edge, mayFollowIn, extendsIn, chainsOf}
 use Rattle.kplib.specs.GraphWalk.{extendsAt}
 
-and-false : (b : Bool) → (b && false) ≡ false
+pub and-false : (b : Bool) → (b && false) ≡ false
 and-false true = refl
 and-false false = refl
 

@@ -75,7 +75,7 @@ module _ (s : Settings) (sizes features partSizes partFeatures : List ℤ) (y : 
   whole-sum : Summable e partFeatures all
   whole-sum = summable (length partSizes) e partFeatures all (y .part-rows) (whole-below (length partSizes)) (omega (arith, whole-length (length partSizes), y .part-sized .few))
 
-  anchor-low : lt (whole 0) ((aloneScore s partSizes partFeatures (anchorTotal e)) .seqsim) ≡ false
+  pub anchor-low : lt (whole 0) ((aloneScore s partSizes partFeatures (anchorTotal e)) .seqsim) ≡ false
   unfolding aloneScore afterList listScore
   anchor-low =
       let row = featuresOf e partFeatures all in

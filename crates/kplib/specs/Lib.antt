@@ -8,3 +8,4 @@ pub mod OneToOne
 pub mod Search
 pub mod Answer
 pub mod SearchSteps
+pub mod Promises

@@ -10,8 +10,9 @@ ghost use Rattle.params.specs.Numbers.{tableOf, partsOf};
 ghost use Rattle.kplib.specs.OneToOne.{oneToOne, loneRowsAt};
 ghost use Rattle.kplib.specs.Scoring.{Tables};
 ghost use Rattle.kplib.specs.Search.{rowsFor};
-ghost use Rattle.kplib.specs.Answer.{searched, matchedAlone, answerWith, queueRoom, answerOf, rowsOf, placed, searches};
+ghost use Rattle.kplib.specs.Answer.{searched, matchedAlone, answerWith, placed};
 ghost use Rattle.kplib.specs.SearchSteps.{answerParts, laterOf, advanced, matchedBy, Weighable, WeighedAs, Searchable, Going, Gone, Startable};
+ghost use Rattle.kplib.specs.Promises.{ApplyHaplotypePromise};
 use crate::haplotype::lay_lists;
 use crate::haplotype::whole_size;
 use crate::onetoone::Lone;
@@ -490,11 +491,9 @@ pub fn apply_haplotype(
     keys: &mut [u64],
     rows: &mut [u32],
 ) -> Answer
-    ensures { λ r. ⌜ r ≡ answerOf s (tableOf (now (starts .entry)) (now (ends .entry)) (now (sizes .entry)) (now (features .entry))) (partsOf (now («part_sizes» .entry)) (now («part_features» .entry))) (queueRoom (now (parents .entry)) (now («last_rows» .entry)) (now (keys .entry))) (length (now (rows .entry))) ⌝ }
-    ensures { λ _. ⌜ now (rows .exit) ≡ placed (now (rows .entry)) (rowsOf s (tableOf (now (starts .entry)) (now (ends .entry)) (now (sizes .entry)) (now (features .entry))) (partsOf (now («part_sizes» .entry)) (now («part_features» .entry))) (queueRoom (now (parents .entry)) (now («last_rows» .entry)) (now (keys .entry))) (length (now (rows .entry)))) ⌝ }
-    ensures { λ _. ⌜ ((searches s (tableOf (now (starts .entry)) (now (ends .entry)) (now (sizes .entry)) (now (features .entry))) (partsOf (now («part_sizes» .entry)) (now («part_features» .entry))) (queueRoom (now (parents .entry)) (now («last_rows» .entry)) (now (keys .entry))) (length (now (rows .entry))) ≡ false) → now (parents .exit) ≡ now (parents .entry)) ⌝ }
-    ensures { λ _. ⌜ ((searches s (tableOf (now (starts .entry)) (now (ends .entry)) (now (sizes .entry)) (now (features .entry))) (partsOf (now («part_sizes» .entry)) (now («part_features» .entry))) (queueRoom (now (parents .entry)) (now («last_rows» .entry)) (now (keys .entry))) (length (now (rows .entry))) ≡ false) → now («last_rows» .exit) ≡ now («last_rows» .entry)) ⌝ }
-    ensures { λ _. ⌜ ((searches s (tableOf (now (starts .entry)) (now (ends .entry)) (now (sizes .entry)) (now (features .entry))) (partsOf (now («part_sizes» .entry)) (now («part_features» .entry))) (queueRoom (now (parents .entry)) (now («last_rows» .entry)) (now (keys .entry))) (length (now (rows .entry))) ≡ false) → now (keys .exit) ≡ now (keys .entry)) ⌝ }
+    ensures { λ r. ⌜ ApplyHaplotypePromise s (now (starts .entry)) (now (ends .entry)) (now (sizes .entry)) (now (features .entry)) (now («part_sizes» .entry))
+        (now («part_features» .entry)) (now (parents .entry)) (now («last_rows» .entry)) (now (keys .entry)) (now (rows .entry)) (now (parents .exit))
+        (now («last_rows» .exit)) (now (keys .exit)) (now (rows .exit)) r ⌝ }
 {
     let refusal = call_fault(
         s,

@@ -7,8 +7,9 @@ ghost use mathlib.Core.Bool.{true};
 ghost use Prim.Native.Nat.{_-_, _<_, min};
 ghost use lib.ListN.{length};
 ghost use Rattle.paths.specs.Count.{sumRowsFrom, rowCount};
-ghost use Rattle.kplib.specs.Graph.{nodeOf, rowOf, edge, chainsOf, cappedCount};
+ghost use Rattle.kplib.specs.Graph.{nodeOf, rowOf, edge, chainsOf};
 ghost use Rattle.kplib.specs.GraphWalk.{extendsAt, Rows, Walk};
+ghost use Rattle.kplib.specs.Promises.{CountChainsPromise};
 
 // A variant's row in the table, from 0.
 pub(crate) struct Row(pub u32);
@@ -92,7 +93,7 @@ pub enum ChainCount {
 
 // The smaller of the number of chains and cap. It takes no longer than the cap allows, however many chains there are.
 pub fn count_chains(starts: &[u64], ends: &[u64], full: bool, cap: u32) -> ChainCount
-    ensures { λ r. ⌜ r ≡ cappedCount (now (starts .entry)) (now (ends .entry)) full cap ⌝ }
+    ensures { λ r. ⌜ CountChainsPromise (now (starts .entry)) (now (ends .entry)) full cap r ⌝ }
 {
     let fault = count_fault(starts, ends, cap);
     if fault != ACCEPTED {

@@ -139,23 +139,31 @@ pub counter-done : (k : ℕ) (s : List ℕ) (row : List ℤ) → 1 ≤ k → k �
 unfolding counterAnswer
 counter-done k s row h h' e l = rw (le-leb 1 k h, le-leb k 6 h', eq-eqb (length row) (4 ^ k) e, le-ltb 131072 (length s) l)
 
-refused : (n : ℕ) → Refused (suc n) ≡ Done → ⊥
-refused n e =
-    let z : suc n ≡ 0 = ap countedNumber e in
-    omega arith
-
-passed-tests : (low high room long : Bool)
-    → cond (not (low && high)) (Refused 1) (cond (not room) (Refused 6) (cond long (Refused 13) Done)) ≡ Done → (low ≡ true) × (long ≡ false)
-passed-tests false high room long e = absurd (refused 0 e)
-passed-tests true false room long e = absurd (refused 0 e)
-passed-tests true true false long e = absurd (refused 5 e)
-passed-tests true true true true e = absurd (refused 12 e)
-passed-tests true true true false e = (refl, refl)
+-- a test that fails gives a number other than 0, in whichever order the tests are tried
+passed-tests : (k : ℕ) (s : List ℕ) (row : List ℤ) (low high room long : Bool)
+    → leb 1 k ≡ low → leb k 6 ≡ high → eqb (length row) (4 ^ k) ≡ room → ltb 131072 (length s) ≡ long
+    → counterAnswer k s row ≡ Done → (low ≡ true) × (long ≡ false)
+unfolding counterAnswer
+passed-tests k s row false high room long a b c d e =
+    let z = ap countedNumber (simp a at e) in
+    absurd (omega arith)
+passed-tests k s row true false room long a b c d e =
+    let z = ap countedNumber (simp (a, b) at e) in
+    absurd (omega arith)
+passed-tests k s row true true false true a b c d e =
+    let z = ap countedNumber (simp (a, b, c, d) at e) in
+    absurd (omega arith)
+passed-tests k s row true true false false a b c d e =
+    let z = ap countedNumber (simp (a, b, c, d) at e) in
+    absurd (omega arith)
+passed-tests k s row true true true true a b c d e =
+    let z = ap countedNumber (simp (a, b, c, d) at e) in
+    absurd (omega arith)
+passed-tests k s row true true true false a b c d e = (refl, refl)
 
 accepted-limits : (k : ℕ) (s : List ℕ) (row : List ℤ) → counterAnswer k s row ≡ Done → (1 ≤ k) × (length s ≤ 131072)
-unfolding counterAnswer
 accepted-limits k s row e =
-    let t = passed-tests (leb 1 k) (leb k 6) (eqb (length row) (4 ^ k)) (ltb 131072 (length s)) e in
+    let t = passed-tests k s row (leb 1 k) (leb k 6) (eqb (length row) (4 ^ k)) (ltb 131072 (length s)) refl refl refl refl e in
     (leb-true 1 k (t .0), ltb-false 131072 (length s) (t .1))
 
 pub row-within-limit : RowWithinLimit

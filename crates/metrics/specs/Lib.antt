@@ -1,3 +1,4 @@
 pub mod Similarity
 pub mod Letters
 pub mod Lanes
+pub mod Promises

@@ -4,8 +4,9 @@ ghost use mathlib.Core.Bool.{cond};
 ghost use Prim.Native.Nat.{_+_, _*_, _%_, _≤_, _<_, _^_};
 ghost use lib.IntN.{pos, natAbs, sucℤ, predℤ};
 ghost use lib.ListN.{length, replicate};
-ghost use Rattle.metrics.specs.Letters.{codeOf, countsOf, counterAnswer, rowAfter, entryCount};
+ghost use Rattle.metrics.specs.Letters.{codeOf, countsOf};
 ghost use Rattle.metrics.specs.Lanes.{Coded};
+ghost use Rattle.metrics.specs.Promises.{EntriesPromise, SeqToKmerPromise};
 use crate::refusals::BAD_K;
 use crate::refusals::BAD_LENGTHS;
 use crate::refusals::TOO_MANY_LETTERS;
@@ -15,36 +16,33 @@ pub enum Counted {
     Refused(u32),
 }
 
-// A, G, C and T give 0, 1, 2, 3 in either case; any other byte gives 0.
+// A, G, C and T give 0, 1, 2, 3 in either case; any other byte gives 0. Written from T to A: in that order the compiler folds the whole of `code_table`.
 fn encode_nuc(b: u8) -> u8
     ensures { λ r. ⌜ r ≡ codeOf b ⌝ }
 {
     match b {
-        b'A' => 0,
-        b'a' => 0,
-        b'G' => 1,
-        b'g' => 1,
-        b'C' => 2,
-        b'c' => 2,
         b'T' => 3,
         b't' => 3,
+        b'C' => 2,
+        b'c' => 2,
+        b'G' => 1,
+        b'g' => 1,
+        b'A' => 0,
+        b'a' => 0,
         _ => 0,
     }
 }
 
-// The codes of all bytes: a table has no branch to mispredict, so that random letters are counted in a fifth of the time.
+// The codes of all bytes, each by the match: a table has no branch to mispredict, so that random letters are counted in a fifth of the time.
 fn code_table() -> [u8; 256]
     ensures { λ r. ⌜ Coded r ⌝ }
 {
     let mut table = [0u8; 256];
-    table[116] = encode_nuc(b't');
-    table[84] = encode_nuc(b'T');
-    table[99] = encode_nuc(b'c');
-    table[67] = encode_nuc(b'C');
-    table[103] = encode_nuc(b'g');
-    table[71] = encode_nuc(b'G');
-    table[97] = encode_nuc(b'a');
-    table[65] = encode_nuc(b'A');
+    let mut i: usize = 0;
+    while i < 256 {
+        table[i] = encode_nuc(i as u8);
+        i += 1;
+    }
     table
 }
 
@@ -66,7 +64,7 @@ fn next_window(window: usize, code: usize, k: u8, size: usize) -> usize
 
 // The entries of a feature row: 4^k. A k over 6 has none.
 pub fn entries(k: u8) -> usize
-    ensures { λ r. ⌜ r ≡ entryCount k ⌝ }
+    ensures { λ r. ⌜ EntriesPromise k r ⌝ }
 {
     match k {
         0 => 1,
@@ -118,8 +116,7 @@ fn count_windows(seq: &[u8], k: u8, size: usize, negative: bool, out: &mut [i32]
 
 // The counts of a sequence's windows of k letters, in a lent row of 4^k entries.
 pub fn seq_to_kmer(seq: &[u8], k: u8, negative: bool, out: &mut [i32]) -> Counted
-    ensures answer { λ r. ⌜ r ≡ counterAnswer k (now (seq .entry)) (now (out .entry)) ⌝ }
-    ensures row { λ r. ⌜ now (out .exit) ≡ rowAfter r (countsOf k negative (now (seq .entry))) (now (out .entry)) ⌝ }
+    ensures { λ r. ⌜ SeqToKmerPromise (now (seq .entry)) k negative (now (out .entry)) (now (out .exit)) r ⌝ }
 {
     if k < 1 {
         return Counted::Refused(BAD_K);

@@ -3,11 +3,11 @@
 ghost use mathlib.Core.Path.{_≡_};
 ghost use mathlib.Core.Bool.{cond, true};
 ghost use Prim.Native.Nat.{_+_, _*_, _≤_, _<_};
-ghost use lib.Dec.{ltb, leb};
+ghost use lib.Dec.{leb};
 ghost use lib.IntN.{pos, natAbs, _-ℤ_};
 ghost use lib.ListN.{length};
-ghost use Rattle.metrics.specs.Similarity.{magnitudeSum};
 ghost use Rattle.metrics.specs.Lanes.{bitsOf, magnitudeOfBits, Added, Summed};
+ghost use Rattle.metrics.specs.Promises.{MagnitudePromise, RowOverPromise};
 
 // The bits of an entry, read as an unsigned number. No instruction is left of it.
 fn bits(x: i32) -> u32
@@ -32,7 +32,7 @@ fn magnitude_of_bits(u: u32) -> u32
 
 // The magnitude of any signed number, the least one too.
 pub fn magnitude(x: i32) -> u32
-    ensures { λ r. ⌜ r ≡ natAbs x ⌝ }
+    ensures { λ r. ⌜ MagnitudePromise x r ⌝ }
 {
     magnitude_of_bits(bits(x))
 }
@@ -126,7 +126,7 @@ pub(crate) fn surely_within(s: Sums, count: usize, minkfreq: u32) -> bool
 
 // Whether the magnitudes of a row sum to more than a limit. The sum stops there, so that it fits whatever the entries are.
 pub fn row_over(a: &[i32], limit: u32) -> bool
-    ensures { λ r. ⌜ r ≡ ltb limit (magnitudeSum (now (a .entry))) ⌝ }
+    ensures { λ r. ⌜ RowOverPromise (now (a .entry)) limit r ⌝ }
 {
     let most = limit as u64;
     let mut sum: u64 = 0;

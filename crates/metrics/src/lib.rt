@@ -1,7 +1,8 @@
 // Similarity of features and of sizes, and the overlap of intervals.
 ghost use mathlib.Core.Path.{_≡_};
 ghost use Prim.Native.Nat.{_≤_, max, min};
-ghost use Rattle.metrics.specs.Similarity.{ratioOf, sizesimOf, overlapsOf, seqsimValue, seqsimOf};
+ghost use Rattle.metrics.specs.Similarity.{ratioOf, seqsimValue};
+ghost use Rattle.metrics.specs.Promises.{SeqsimPromise, SizesimPromise, OverlapsPromise};
 use crate::refusals::BAD_LENGTHS;
 use crate::refusals::BAD_NUMBER;
 use crate::refusals::BAD_ROW;
@@ -33,7 +34,7 @@ fn rounded_similarity(d: u32, n: u32) -> f32
 }
 
 pub fn seqsim(a: &[i32], b: &[i32], minkfreq: u32) -> Sim
-    ensures { λ r. ⌜ r ≡ seqsimOf (now (a .entry)) (now (b .entry)) minkfreq ⌝ }
+    ensures { λ r. ⌜ SeqsimPromise (now (a .entry)) (now (b .entry)) minkfreq r ⌝ }
 {
     if minkfreq > 16777216 {
         return Sim::Refused(BAD_NUMBER);
@@ -77,7 +78,7 @@ fn ratio(lo: u64, hi: u64) -> f32
 }
 
 pub fn sizesim(a: u64, b: u64) -> Sim
-    ensures { λ r. ⌜ r ≡ sizesimOf a b ⌝ }
+    ensures { λ r. ⌜ SizesimPromise a b r ⌝ }
 {
     let hi = larger(a, b);
     if hi > 8388608 {
@@ -91,7 +92,7 @@ pub fn sizesim(a: u64, b: u64) -> Sim
 }
 
 pub fn overlaps(s1: u64, e1: u64, s2: u64, e2: u64) -> bool
-    ensures { λ r. ⌜ r ≡ overlapsOf s1 e1 s2 e2 ⌝ }
+    ensures { λ r. ⌜ OverlapsPromise s1 e1 s2 e2 r ⌝ }
 {
     let start = larger(s1, s2);
     let end = smaller(e1, e2);

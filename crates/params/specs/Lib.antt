@@ -1,3 +1,4 @@
 pub mod Checked
 pub mod Numbers
 pub mod CheckSteps
+pub mod Promises

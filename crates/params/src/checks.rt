@@ -19,8 +19,9 @@ use metrics::refusals::TOO_MANY;
 ghost use mathlib.Core.Path.{_≡_};
 ghost use Prim.Native.Nat.{_*_, _≤_};
 ghost use lib.ListN.{length};
-ghost use Rattle.params.specs.Numbers.{tableOf, partsOf, firstOf, startAfterEnd, fallingStart, badSize, badRow, littleQueueRoom, lengthRules, boundRules, limitRules, roomRules, firstFault, chainCountFault};
+ghost use Rattle.params.specs.Numbers.{tableOf, partsOf, firstOf, startAfterEnd, fallingStart, badSize, badRow, littleQueueRoom, lengthRules, boundRules, limitRules, roomRules};
 ghost use Rattle.params.specs.CheckSteps.{Shaped};
+ghost use Rattle.params.specs.Promises.{CallFaultPromise, CountFaultPromise};
 
 // 4 to 6. The features are asked last, when V and m are known to be at most 64.
 fn length_fault(
@@ -195,7 +196,8 @@ pub fn call_fault(
     queue_room: usize,
     answer_room: usize,
 ) -> u32
-    ensures { λ r. ⌜ r ≡ firstFault s (tableOf (now (starts .entry)) (now (ends .entry)) (now (sizes .entry)) (now (features .entry))) (partsOf (now («part_sizes» .entry)) (now («part_features» .entry))) «queue_room» «answer_room» ⌝ }
+    ensures { λ r. ⌜ CallFaultPromise s (now (starts .entry)) (now (ends .entry)) (now (sizes .entry)) (now (features .entry)) (now («part_sizes» .entry))
+        (now («part_features» .entry)) «queue_room» «answer_room» r ⌝ }
 {
     let settings = settings_fault(s);
     if settings != ACCEPTED {
@@ -219,7 +221,7 @@ pub fn call_fault(
 
 // The number of the first refusal of a chain count, 0 where it is accepted.
 pub fn count_fault(starts: &[u64], ends: &[u64], cap: u32) -> u32
-    ensures { λ r. ⌜ r ≡ chainCountFault cap (now (starts .entry)) (now (ends .entry)) ⌝ }
+    ensures { λ r. ⌜ CountFaultPromise (now (starts .entry)) (now (ends .entry)) cap r ⌝ }
 {
     if cap > 4096 {
         return BAD_NUMBER;

@@ -5,11 +5,12 @@ use metrics::refusals::BAD_FLOAT;
 use metrics::refusals::BAD_K;
 use metrics::refusals::BAD_NUMBER;
 ghost use mathlib.Core.Path.{_≡_};
-ghost use Rattle.params.specs.Numbers.{outside, badFloat, badNumber, firstOf, settingsRules, searchMode};
+ghost use Rattle.params.specs.Numbers.{outside, badFloat, badNumber, firstOf, settingsRules};
+ghost use Rattle.params.specs.Promises.{SearchModePromise};
 
 // Whether a job is searched, and not matched one to one.
 pub fn search_mode(s: Settings, v: usize) -> bool
-    ensures { λ r. ⌜ r ≡ searchMode s v ⌝ }
+    ensures { λ r. ⌜ SearchModePromise s v r ⌝ }
 {
     if s.one_to_one {
         return false;

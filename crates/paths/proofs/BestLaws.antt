@@ -29,7 +29,7 @@ all-timesIn P x (y ∷ l) h o = go (sameRows x y) refl o (λ k. all-timesIn P x 
     go true e o ih = rw (sameRows-eq x y e) (h .0)
     go false e o ih = ih (omega arith)
 
-clash : (t : Bool) → t ≡ false → t ≡ true → ⊥
+pub clash : (t : Bool) → t ≡ false → t ≡ true → ⊥
 clash t p q = let z : _≡_ {A = ℕ} 0 1 = cc in omega arith
 
 module _ {R : Type 0} (P : R → Type 0) (le : R → R → Bool) (ord : Order P le) where

@@ -5,10 +5,11 @@ use native.Mathlib.Omega.{arith}
 use mathlib.Core.Bool.{Bool, true, false, _&&_, cond}
 use mathlib.Core.List.{List, [], _∷_}
 use lib.Dec.{leb, ltb, eqb}
-use borrow.Author.Tests.{leb-true, ltb-true, ltb-false, eqb-true, eqb-false, lt-ltb, le-ltb}
+use borrow.Author.Tests.{leb-true}
 use Rattle.paths.specs.Sums.{sumBy, bit, sameRows}
 use Rattle.paths.specs.Chains.{firstAfter, extends, extensions, isChain, chainsWithin, chainsFrom}
 use Rattle.paths.proofs.SumLaws.{bit-and, sameRows-eq}
+use Rattle.paths.proofs.OrderLaws.{sum-next, hits, hits-suc, hits-none}
 
 and-left : (a b : Bool) → (a && b) ≡ true → a ≡ true
 and-left true b h = refl
@@ -28,9 +29,9 @@ module _ (follows : List ℕ → ℕ → Bool) where
   sum-extensions w w′ c (suc k) h = go (extends follows c k) refl (sum-extensions w w′ c k (λ s l e. h s (omega arith) e))
     where
       go : (t : Bool) → extends follows c k ≡ t → sumBy w (extensions follows k c) ≡ sumBy w′ (extensions follows k c)
-          → sumBy w (cond t ((k ∷ c) ∷ extensions follows k c) (extensions follows k c)) ≡ sumBy w′ (cond t ((k ∷ c) ∷ extensions follows k c) (extensions follows k c))
-      go true e ih = omega (arith, h k (omega arith) e)
-      go false e ih = ih
+          → sumBy w (extensions follows (suc k) c) ≡ sumBy w′ (extensions follows (suc k) c)
+      go true e ih = omega (arith, sum-next follows c w k true e, sum-next follows c w′ k true e, h k (omega arith) e)
+      go false e ih = omega (arith, sum-next follows c w k false e, sum-next follows c w′ k false e)
 
   -- no room, no extension
   pub no-extensions : (w : List ℕ → ℕ) (c : List ℕ) (k : ℕ) → k ≤ firstAfter c → sumBy w (extensions follows k c) ≡ 0
@@ -67,35 +68,7 @@ module _ (follows : List ℕ → ℕ → Bool) where
     inTree [] c = bit (sameRows [] c)
     inTree (s ∷ x) c = bit (sameRows (s ∷ x) c) + inTree x c * step x s
 
-    -- how often s is the row of an extension of c below k
-    hits : List ℕ → ℕ → ℕ → ℕ
-    hits c s k = bit (ltb s k && extends follows c s)
-
-    hits-suc : (c : List ℕ) (s k : ℕ) → hits c s (suc k) ≡ bit (extends follows c k) * bit (eqb s k) + hits c s k
-    unfolding hits
-    hits-suc c s k = go (eqb s k) refl
-      where
-        bits : (t : Bool) → bit (true && t) ≡ bit t * 1 + bit (false && t)
-        bits true = refl
-        bits false = refl
-
-        go : (t : Bool) → eqb s k ≡ t → bit (ltb s (suc k) && extends follows c s) ≡ bit (extends follows c k) * bit t + bit (ltb s k && extends follows c s)
-        go true e =
-            let p : s ≡ k = eqb-true s k e in
-            rw (lt-ltb s (suc k) (omega arith), le-ltb s k (omega arith), p) (bits (extends follows c k))
-        go false e =
-            let p : s ≡ k → ⊥ = eqb-false s k e in
-            go2 (ltb s k) refl p
-          where
-            go2 : (t : Bool) → ltb s k ≡ t → (s ≡ k → ⊥) → bit (ltb s (suc k) && extends follows c s) ≡ bit (extends follows c k) * 0 + bit (t && extends follows c s)
-            go2 true e p = rw (lt-ltb s (suc k) (omega (arith, ltb-true s k e))) (omega arith)
-            go2 false e p = rw (le-ltb s (suc k) (omega (arith, ltb-false s k e))) (omega arith)
-
-    hits-none : (c : List ℕ) (s : ℕ) → hits c s 0 ≡ 0
-    unfolding hits
-    hits-none c s = rw (le-ltb s 0 (omega arith))
-
-    hits-all : (s : ℕ) (x c : List ℕ) (t : Bool) → sameRows x c ≡ t → bit t * hits c s n ≡ bit t * step x s
+    hits-all : (s : ℕ) (x c : List ℕ) (t : Bool) → sameRows x c ≡ t → bit t * hits follows c s n ≡ bit t * step x s
     unfolding hits step
     hits-all s x c true e = rw (← sameRows-eq x c e)
     hits-all s x c false e = omega arith
@@ -109,15 +82,15 @@ module _ (follows : List ℕ → ℕ → Bool) where
         zeros (x ∷ l) = omega (arith, zeros l)
 
     tree-extensions : (s : ℕ) (x c : List ℕ) (k : ℕ)
-        → sumBy (λ e. inTree (s ∷ x) e) (extensions follows k c) ≡ bit (sameRows x c) * hits c s k + sumBy (λ e. inTree x e) (extensions follows k c) * step x s
+        → sumBy (λ e. inTree (s ∷ x) e) (extensions follows k c) ≡ bit (sameRows x c) * hits follows c s k + sumBy (λ e. inTree x e) (extensions follows k c) * step x s
     unfolding inTree extensions
-    tree-extensions s x c zero = rw (hits-none c s) (omega arith)
-    tree-extensions s x c (suc k) = go (extends follows c k) (hits-suc c s k) (tree-extensions s x c k)
+    tree-extensions s x c zero = rw (hits-none follows c s) (omega arith)
+    tree-extensions s x c (suc k) = go (extends follows c k) (hits-suc follows c s k) (tree-extensions s x c k)
       where
-        go : (t : Bool) → hits c s (suc k) ≡ bit t * bit (eqb s k) + hits c s k
-            → sumBy (λ e. inTree (s ∷ x) e) (extensions follows k c) ≡ bit (sameRows x c) * hits c s k + sumBy (λ e. inTree x e) (extensions follows k c) * step x s
+        go : (t : Bool) → hits follows c s (suc k) ≡ bit t * bit (eqb s k) + hits follows c s k
+            → sumBy (λ e. inTree (s ∷ x) e) (extensions follows k c) ≡ bit (sameRows x c) * hits follows c s k + sumBy (λ e. inTree x e) (extensions follows k c) * step x s
             → sumBy (λ e. inTree (s ∷ x) e) (cond t ((k ∷ c) ∷ extensions follows k c) (extensions follows k c))
-            ≡ bit (sameRows x c) * hits c s (suc k) + sumBy (λ e. inTree x e) (cond t ((k ∷ c) ∷ extensions follows k c) (extensions follows k c)) * step x s
+            ≡ bit (sameRows x c) * hits follows c s (suc k) + sumBy (λ e. inTree x e) (cond t ((k ∷ c) ∷ extensions follows k c) (extensions follows k c)) * step x s
         go true h ih = rw h (omega (arith, bit-and (eqb s k) (sameRows x c), ih))
         go false h ih = rw h (omega (arith, ih))
 

@@ -9,7 +9,7 @@ use mathlib.Core.List.{List, [], _∷_}
 use lib.Dec.{ltb, leb·zero}
 use Rattle.paths.specs.Sums.{sumBy}
 use Rattle.paths.specs.Chains.{extends, extensions, chainsWithin, chainsFrom}
-use Rattle.paths.specs.Count.{mayFollow, sumRows, rowCountWithin, chainCount, sumRowsFrom, rowCount}
+use Rattle.paths.specs.Count.{mayFollow, sumRows, rowCountWithin, chainCount, sumRowsFrom, rowCount, CountRule}
 use Rattle.paths.proofs.ChainLaws.{chainsFrom-step}
 
 -- a sum over extensions is a sum over rows
@@ -37,12 +37,17 @@ module _ (edge : ℕ → ℕ → Bool) (n : ℕ) where
 
   pub doc-full : chainsFrom (mayFollow edge true) n [] ≡ chainCount edge n true
   unfolding chainCount rowCount chainsFrom extends
-  doc-full = chainsFrom-step (mayFollow edge true) n [] ∙ omega (arith, rows (mayFollow edge true) (λ e. chainsFrom (mayFollow edge true) n e) (λ s. rowCountWithin edge n (n - suc s) s) (λ s. true) [] (λ s. rw (leb·zero s)) (λ s. row-chainsFrom (n - suc s) s []) n)
+  doc-full =
+      let all : ℕ → ℕ = λ s. rowCountWithin edge n (n - suc s) s in
+      let sum = rows (mayFollow edge true) (λ e. chainsFrom (mayFollow edge true) n e) all (λ s. true) [] (λ s. rw (leb·zero s)) (λ s. row-chainsFrom (n - suc s) s []) n in
+      chainsFrom-step (mayFollow edge true) n [] ∙ omega (arith, sum)
 
   pub doc-bare : chainsFrom (mayFollow edge false) n [] ≡ chainCount edge n false
   unfolding chainCount chainsFrom extends
   doc-bare =
-      chainsFrom-step (mayFollow edge false) n [] ∙ omega (arith, rows (mayFollow edge false) (λ e. chainsFrom (mayFollow edge false) n e) (λ s. chainsFrom (mayFollow edge false) n (s ∷ [])) (λ s. false) [] (λ s. rw (leb·zero s)) (λ s. refl) n, no-rows (λ s. chainsFrom (mayFollow edge false) n (s ∷ [])) n)
+      let each : ℕ → ℕ = λ s. chainsFrom (mayFollow edge false) n (s ∷ []) in
+      let sum = rows (mayFollow edge false) (λ e. chainsFrom (mayFollow edge false) n e) each (λ s. false) [] (λ s. rw (leb·zero s)) (λ s. refl) n in
+      chainsFrom-step (mayFollow edge false) n [] ∙ omega (arith, sum, no-rows each n)
 
 rows-split : (p : ℕ → Bool) (w : ℕ → ℕ) (k s : ℕ) → sumRows p w (s + k) ≡ sumRows p w s + sumRowsFrom p w k s
 unfolding sumRows sumRowsFrom
@@ -70,15 +75,26 @@ module _ (edge : ℕ → ℕ → Bool) (n : ℕ) where
       ap suc (sym (ap (λ (m : ℕ). sumRows (λ s. true) (λ s. rowCount edge n s) m) e) ∙ rows-split (λ s. true) (λ s. rowCount edge n s) n 0 ∙ zero-add _)
 
   -- c(r) is 1 and the sum of c(s) over the later rows with an edge from r
-  pub row-up : (r : ℕ) → r < n → rowCount edge n r ≡ suc (sumRowsFrom (λ s. ltb r s && edge r s) (λ s. rowCount edge n s) (n - suc r) (suc r))
+  row-all : (r : ℕ) → rowCount edge n r ≡ 1 + sumRows (λ s. ltb r s && edge r s) (λ s. rowCount edge n s) n
   unfolding rowCount chainsFrom extends
+  row-all r =
+      let p : ℕ → Bool = λ s. ltb r s && edge r s in
+      let w : ℕ → ℕ = λ s. rowCount edge n s in
+      let a : rowCount edge n r ≡ chainsFrom (mayFollow edge true) n (r ∷ []) = sym (row-chainsFrom edge n (n - suc r) r []) in
+      let b : sumBy (λ c. chainsFrom (mayFollow edge true) n c) (extensions (mayFollow edge true) n (r ∷ [])) ≡ sumRows p w n =
+      rows (mayFollow edge true) (λ c. chainsFrom (mayFollow edge true) n c) w p (r ∷ []) (λ s. refl) (λ s. row-chainsFrom edge n (n - suc s) s (r ∷ [])) n in
+      omega (arith, a, chainsFrom-step (mayFollow edge true) n (r ∷ []), b)
+
+  -- the later rows alone
+  pub row-up : (r : ℕ) → r < n → rowCount edge n r ≡ suc (sumRowsFrom (λ s. ltb r s && edge r s) (λ s. rowCount edge n s) (n - suc r) (suc r))
   row-up r h =
       let p : ℕ → Bool = λ s. ltb r s && edge r s in
       let w : ℕ → ℕ = λ s. rowCount edge n s in
       let e : suc r + (n - suc r) ≡ n = omega arith in
       let none : sumRows p w (suc r) ≡ 0 = rows-none p w (suc r) (λ s l. ap (λ (t : Bool). t && edge r s) (le-ltb r s (omega arith))) in
-      let a : rowCount edge n r ≡ chainsFrom (mayFollow edge true) n (r ∷ []) = sym (row-chainsFrom edge n (n - suc r) r []) in
-      let b : sumBy (λ c. chainsFrom (mayFollow edge true) n c) (extensions (mayFollow edge true) n (r ∷ [])) ≡ sumRows p w n =
-      rows (mayFollow edge true) (λ c. chainsFrom (mayFollow edge true) n c) w p (r ∷ []) (λ s. refl) (λ s. row-chainsFrom edge n (n - suc s) s (r ∷ [])) n in
       let d : sumRows p w n ≡ sumRows p w (suc r) + sumRowsFrom p w (n - suc r) (suc r) = sym (ap (λ (m : ℕ). sumRows p w m) e) ∙ rows-split p w (n - suc r) (suc r) in
-      omega (arith, a, chainsFrom-step (mayFollow edge true) n (r ∷ []), b, d, none)
+      omega (arith, row-all r, d, none)
+
+pub count-rule : (edge : ℕ → ℕ → Bool) (n : ℕ) → CountRule edge n
+unfolding chainCount
+count-rule edge n = record { row = row-all edge n; full = omega arith; bare = refl }

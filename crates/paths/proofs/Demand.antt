@@ -15,7 +15,7 @@ use Rattle.paths.specs.Count.{mayFollow, chainCount}
 use Rattle.paths.specs.Search.{none, pick, after, scored, left}
 use Rattle.paths.specs.Demand.{scoredChains, leftChains, Lists, Counted, Demand3}
 use Rattle.paths.specs.Best.{Order, best, Latest}
-use Rattle.paths.proofs.SumLaws.{sum-one, bit-le}
+use Rattle.paths.proofs.SumLaws.{sum-one, bit-le, sameRows-eq, sameRows-refl}
 use Rattle.paths.proofs.SearchLaws.{conserve}
 use Rattle.paths.proofs.CountLaws.{doc-full, doc-bare}
 use Rattle.paths.proofs.ChainLaws.{chainsFrom-step, tree-step, tree-top, inTree}
@@ -101,12 +101,42 @@ lists follows n dist f h = record {
   nothing-else = λ x e. all-scored follows n dist f h x ∙ ap bit e;
 }
 
+-- a list that stands in l, taken out of it once
+taken-out : (x : List ℕ) (l : List (List ℕ)) → 1 ≤ timesIn x l
+    → (r : List (List ℕ)) × (length l ≡ suc (length r)) × ((z : List ℕ) → timesIn z l ≡ bit (sameRows z x) + timesIn z r)
+taken-out x [] h = absurd (omega arith)
+taken-out x (y ∷ l) h = go (sameRows x y) refl (λ k. taken-out x l k)
+  where
+    go : (t : Bool) → sameRows x y ≡ t → (1 ≤ timesIn x l → (r : List (List ℕ)) × (length l ≡ suc (length r)) × ((z : List ℕ) → timesIn z l ≡ bit (sameRows z x) + timesIn z r))
+        → (r : List (List ℕ)) × (length (y ∷ l) ≡ suc (length r)) × ((z : List ℕ) → timesIn z (y ∷ l) ≡ bit (sameRows z x) + timesIn z r)
+    go true e ih = (l, refl, λ z. rw (sameRows-eq x y e))
+    go false e ih =
+        let o : 1 ≤ timesIn x l = omega (arith, ap bit e) in
+        let k = ih o in
+        (y ∷ k .0, ap suc (k .1), λ z. omega (arith, k .2 z))
+
+-- two lists in which each list stands equally often are equally long
+same-length : (a b : List (List ℕ)) → ((x : List ℕ) → timesIn x a ≡ timesIn x b) → length a ≡ length b
+same-length [] [] h = refl
+same-length [] (y ∷ b) h = absurd (omega (arith, h y, ap bit (sameRows-refl y)))
+same-length (x ∷ a) b h =
+    let k = taken-out x b (omega (arith, h x, ap bit (sameRows-refl x))) in
+    omega (arith, k .1, same-length a (k .0) (λ z. omega (arith, h z, k .2 z)))
+
+-- two lists that list the chains are equally long
+lists-agree : (follows : List ℕ → ℕ → Bool) (n : ℕ) (a b : List (List ℕ)) → Lists follows n a → Lists follows n b → length a ≡ length b
+lists-agree follows n a b p q = same-length a b (λ x. go x (isChain follows n x) refl)
+  where
+    go : (x : List ℕ) (t : Bool) → isChain follows n x ≡ t → timesIn x a ≡ timesIn x b
+    go x true e = omega (arith, p .each-chain x e, q .each-chain x e)
+    go x false e = omega (arith, p .nothing-else x e, q .nothing-else x e)
+
 chains-counted : (follows : List ℕ → ℕ → Bool) (n : ℕ) → Counted follows n (chainsFrom follows n [])
-chains-counted follows n = record {
-  chains = scoredChains follows n (λ c. 0) (chainsFrom follows n []);
-  listed = lists follows n (λ c. 0) (chainsFrom follows n []) (omega arith);
-  number = omega (arith, how-many follows n (λ c. 0) (chainsFrom follows n []));
-}
+chains-counted follows n =
+    let chains = scoredChains follows n (λ c. 0) (chainsFrom follows n []) in
+    let listed : Lists follows n chains = lists follows n (λ c. 0) (chainsFrom follows n []) (omega arith) in
+    let number : length chains ≡ chainsFrom follows n [] = omega (arith, how-many follows n (λ c. 0) (chainsFrom follows n [])) in
+    record { chains = chains; listed = listed; number = number; every = λ l h. lists-agree follows n l chains h listed ∙ number }
 
 -- document 01's N is the number of chains
 pub count-counts : (edge : ℕ → ℕ → Bool) (n : ℕ) (full : Bool) → Counted (mayFollow edge full) n (chainCount edge n full)

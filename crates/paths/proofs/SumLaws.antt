@@ -6,7 +6,7 @@ use mathlib.Core.Bool.{Bool, true, false, _&&_}
 use mathlib.Core.List.{List, [], _∷_, _++_}
 use lib.Dec.{eqb}
 use lib.ListN.{length}
-use borrow.Author.Tests.{eqb-true}
+use borrow.Author.Tests.{eqb-true, eq-eqb}
 use Rattle.paths.specs.Sums.{sumBy, bit, sameRows}
 
 pub sum-append : {A : Type 0} (w : A → ℕ) (a b : List A) → sumBy w (a ++ b) ≡ sumBy w a + sumBy w b
@@ -37,3 +37,7 @@ sameRows-eq (a ∷ x) (b ∷ y) h = go (eqb a b) refl (λ k. sameRows-eq x y k) 
     go : (t : Bool) → eqb a b ≡ t → (sameRows x y ≡ true → x ≡ y) → (t && sameRows x y) ≡ true → a ∷ x ≡ b ∷ y
     go true e ih h = let p : a ≡ b = eqb-true a b e in let q : x ≡ y = ih h in cc
     go false e ih h = cc
+
+pub sameRows-refl : (x : List ℕ) → sameRows x x ≡ true
+sameRows-refl [] = refl
+sameRows-refl (a ∷ x) = rw (eq-eqb a a refl, sameRows-refl x)

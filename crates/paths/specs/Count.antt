@@ -1,5 +1,6 @@
 -- Document 01, "N counts the chains", word for word: c(r) = 1 + the sum of c(s) over later s with an edge from r; N = 1 + the sum of c(r) over the rows, 1 in a bare graph.
 use Prim.Native.Nat.{ℕ, zero, suc, _+_, _-_}
+use mathlib.Core.Path.{_≡_}
 use mathlib.Core.Bool.{Bool, true, false, cond, _&&_}
 use mathlib.Core.List.{List, [], _∷_}
 use lib.Dec.{ltb}
@@ -28,6 +29,15 @@ module _ (edge : ℕ → ℕ → Bool) (n : ℕ) where
   unfoldable pub chainCount : Bool → ℕ
   chainCount true = suc (sumRows (λ s. true) (λ s. rowCount s) n)
   chainCount false = 1
+
+-- the rule as document 01 gives it, without the bound of the recursion above
+pub record CountRule (edge : ℕ → ℕ → Bool) (n : ℕ) : Type 0 where
+  -- c(r) = 1 + the sum of c(s) over later s with an edge from r
+  pub row : (r : ℕ) → rowCount edge n r ≡ 1 + sumRows (λ s. ltb r s && edge r s) (λ s. rowCount edge n s) n
+  -- N is 1 plus, for each row r, c(r)
+  pub full : chainCount edge n true ≡ 1 + sumRows (λ r. true) (λ r. rowCount edge n r) n
+  -- 1 in a bare graph
+  pub bare : chainCount edge n false ≡ 1
 
 -- the sum of w over the k rows from s on at which p holds
 unfoldable pub sumRowsFrom : (ℕ → Bool) → (ℕ → ℕ) → ℕ → ℕ → ℕ

@@ -1,79 +1,61 @@
--- Each store puts the code of one letter into a table of zeros.
-use Rattle.metrics.proofs.Codes.{coded}
+-- After i turns the entries below i have their codes.
 use borrow.Author.Needs.{needs}
+use mathlib.Core.Path.{_≡_, refl}
+use Prim.Native.Nat.{ℕ, _-_, _≤_, _<_}
+use native.Mathlib.Nat.{not-suc-le-zero}
+use native.Mathlib.Omega.{arith}
+use lib.ListN.{length, getD, length-set}
+use Rattle.metrics.specs.Letters.{codeOf}
+use Rattle.metrics.proofs.Codes.{coded-more}
 use Rattle.metrics.proofs.kmer.code_table.Statement.{statement}
 use Rattle.metrics.proofs.kmer.code_table.Tie as tie
 
-encode-nuc-requires : tie.Need-encode-nuc-requires
+abbrev Inv-loop : tie.InvT-loop
+Inv-loop table₀ i₀ table i = (i ≤ 256) × (length table ≡ 256) × ((b : ℕ) → b < i → getD table b 0 ≡ codeOf b)
+
+abbrev μ-loop : tie.MeasureT-loop
+μ-loop table₀ i₀ table i = 256 - i
+
+loop-holds : tie.Need-loop-holds Inv-loop μ-loop
+loop-holds c = (omega arith, refl, λ b h. absurd (not-suc-le-zero h))
+
+cast-encode-nuc : tie.Need-cast-encode-nuc Inv-loop μ-loop
+cast-encode-nuc c = search needs
+
+encode-nuc-requires : tie.Need-encode-nuc-requires Inv-loop μ-loop
 encode-nuc-requires c κs = search needs
 
-array-write-table : tie.Need-array-write-table
+array-write-table : tie.Need-array-write-table Inv-loop μ-loop
 array-write-table c = search needs
 
-encode-nuc-requires-2 : tie.Need-encode-nuc-requires-2
-encode-nuc-requires-2 c κs = search needs
+add-i : tie.Need-add-i Inv-loop μ-loop
+add-i c = search needs
 
-array-write-table-2 : tie.Need-array-write-table-2
-array-write-table-2 c = search needs
+loop-less : tie.Need-loop-less Inv-loop μ-loop
+loop-less c = search needs
 
-encode-nuc-requires-3 : tie.Need-encode-nuc-requires-3
-encode-nuc-requires-3 c κs = search needs
+loop-again : tie.Need-loop-again Inv-loop μ-loop
+loop-again c =
+    let l = c .before .before .loop in
+    let h : l .i < length (l .table) = omega arith in
+    (omega arith, simp length-set (l .inv .1), coded-more (l .table) (l .i) (c .encode-nuc .result) h (c .encode-nuc .ensures) (l .inv .2))
 
-array-write-table-3 : tie.Need-array-write-table-3
-array-write-table-3 c = search needs
-
-encode-nuc-requires-4 : tie.Need-encode-nuc-requires-4
-encode-nuc-requires-4 c κs = search needs
-
-array-write-table-4 : tie.Need-array-write-table-4
-array-write-table-4 c = search needs
-
-encode-nuc-requires-5 : tie.Need-encode-nuc-requires-5
-encode-nuc-requires-5 c κs = search needs
-
-array-write-table-5 : tie.Need-array-write-table-5
-array-write-table-5 c = search needs
-
-encode-nuc-requires-6 : tie.Need-encode-nuc-requires-6
-encode-nuc-requires-6 c κs = search needs
-
-array-write-table-6 : tie.Need-array-write-table-6
-array-write-table-6 c = search needs
-
-encode-nuc-requires-7 : tie.Need-encode-nuc-requires-7
-encode-nuc-requires-7 c κs = search needs
-
-array-write-table-7 : tie.Need-array-write-table-7
-array-write-table-7 c = search needs
-
-encode-nuc-requires-8 : tie.Need-encode-nuc-requires-8
-encode-nuc-requires-8 c κs = search needs
-
-array-write-table-8 : tie.Need-array-write-table-8
-array-write-table-8 c = search needs
-
-returns : tie.Need-returns
+returns : tie.Need-returns Inv-loop μ-loop
 returns c =
-    coded _ _ _ _ _ _ _ _ (c .before .before .before .before .before .before .before .encode-nuc .ensures) (c .before .before .before .before .before .before .encode-nuc2 .ensures) (c .before .before .before .before .before .encode-nuc3 .ensures) (c .before .before .before .before .encode-nuc4 .ensures) (c .before .before .before .encode-nuc5 .ensures) (c .before .before .encode-nuc6 .ensures) (c .before .encode-nuc7 .ensures) (c .encode-nuc8 .ensures)
+    let l = c .before .loop in
+    record { at = λ b h. l .inv .2 b (omega arith) }
 
 pub code-table-spec : {M : Type 1} → statement M
 code-table-spec =
     tie.close
     (tie.spec
+    Inv-loop
+    μ-loop
+    loop-holds
+    cast-encode-nuc
     encode-nuc-requires
     array-write-table
-    encode-nuc-requires-2
-    array-write-table-2
-    encode-nuc-requires-3
-    array-write-table-3
-    encode-nuc-requires-4
-    array-write-table-4
-    encode-nuc-requires-5
-    array-write-table-5
-    encode-nuc-requires-6
-    array-write-table-6
-    encode-nuc-requires-7
-    array-write-table-7
-    encode-nuc-requires-8
-    array-write-table-8
+    add-i
+    loop-less
+    loop-again
     returns)

@@ -40,14 +40,14 @@ returns-9 : tie.Need-returns-9
 unfolding codeOf
 returns-9 c =
     rw (
-      ne-eqb _ _ (c .match .rest .0 .0 .0 .0 .0 .0 .0 .1),
-      ne-eqb _ _ (c .match .rest .0 .0 .0 .0 .0 .0 .1),
-      ne-eqb _ _ (c .match .rest .0 .0 .0 .0 .0 .1),
-      ne-eqb _ _ (c .match .rest .0 .0 .0 .0 .1),
-      ne-eqb _ _ (c .match .rest .0 .0 .0 .1),
-      ne-eqb _ _ (c .match .rest .0 .0 .1),
-      ne-eqb _ _ (c .match .rest .0 .1),
       ne-eqb _ _ (c .match .rest .1),
+      ne-eqb _ _ (c .match .rest .0 .1),
+      ne-eqb _ _ (c .match .rest .0 .0 .1),
+      ne-eqb _ _ (c .match .rest .0 .0 .0 .1),
+      ne-eqb _ _ (c .match .rest .0 .0 .0 .0 .1),
+      ne-eqb _ _ (c .match .rest .0 .0 .0 .0 .0 .1),
+      ne-eqb _ _ (c .match .rest .0 .0 .0 .0 .0 .0 .1),
+      ne-eqb _ _ (c .match .rest .0 .0 .0 .0 .0 .0 .0 .1),
     )
 
 pub encode-nuc-spec : {M : Type 1} → statement M

@@ -1,0 +1,54 @@
+-- Document 01, "Parts, graph, paths": the graph as the paper draws it, over nodes, and that the chains are its paths from source to sink.
+use Prim.Native.Nat.{ℕ, zero, suc, _+_, _<_}
+use mathlib.Core.Path.{_≡_}
+use mathlib.Core.Bool.{Bool, true, false, not, cond, _&&_}
+use mathlib.Core.List.{List, [], _∷_, _++_, map, reverse}
+use lib.Dec.{leb, ltb, eqb}
+use lib.ListN.{length, getD}
+use Rattle.metrics.specs.Similarity.{overlapsOf}
+use Rattle.kplib.specs.Graph.{nodeOf, rowOf, mayFollowIn, isChainIn}
+
+-- node 0 is the source, V + 1 the sink; V is the number of starts
+abbrev pub source : ℕ
+source = 0
+
+abbrev pub sink : List ℕ → ℕ
+sink starts = length starts + 1
+
+-- a node's start among the starts, its end among the ends: row r's at node r + 1, and 0 at source and sink
+abbrev pub boundAt : ℕ → List ℕ → ℕ → ℕ
+boundAt v bounds zero = 0
+boundAt v bounds (suc r) = cond (ltb r v) (getD bounds r 0) 0
+
+abbrev pub nodesOverlap : List ℕ → List ℕ → ℕ → ℕ → Bool
+nodesOverlap starts ends a b =
+    let v = length starts in
+    overlapsOf (boundAt v starts a) (boundAt v ends a) (boundAt v starts b) (boundAt v ends b)
+
+-- in a full graph each node has an edge to every later node it does not overlap; a bare graph has only source to sink
+abbrev pub graphEdge : List ℕ → List ℕ → Bool → ℕ → ℕ → Bool
+graphEdge starts ends true a b = ltb a b && (leb b (sink starts) && not (nodesOverlap starts ends a b))
+graphEdge starts ends false a b = eqb a source && eqb b (sink starts)
+
+-- from node a through the nodes of a list, each joined to the next by an edge
+abbrev pub isPathFrom : (ℕ → ℕ → Bool) → ℕ → List ℕ → Bool
+isPathFrom joins a [] = true
+isPathFrom joins a (b ∷ nodes) = joins a b && isPathFrom joins b nodes
+
+-- a path of the graph: from the source through these nodes to the sink
+abbrev pub isGraphPath : List ℕ → List ℕ → Bool → List ℕ → Bool
+isGraphPath starts ends full nodes = isPathFrom (graphEdge starts ends full) source (nodes ++ (sink starts ∷ []))
+
+module _ (starts ends : List ℕ) (full : Bool) where
+  pub record Edges : Type 0 where
+    -- a later row may stand right after another where their nodes have an edge
+    pub between-rows : (r s : ℕ) (c : List ℕ) → r < s → s < length starts → mayFollowIn starts ends full (r ∷ c) s ≡ graphEdge starts ends full (nodeOf r) (nodeOf s)
+    -- and may begin a chain where its node has an edge from the source
+    pub from-source : (s : ℕ) → s < length starts → mayFollowIn starts ends full [] s ≡ graphEdge starts ends full source (nodeOf s)
+    -- any rows, first row first, are a chain exactly when their nodes are a path of the graph
+    pub chains-are-paths : (rows : List ℕ) → isChainIn starts ends full (reverse rows) ≡ isGraphPath starts ends full (map nodeOf rows)
+    -- and there is no other path: each goes through nodes of rows
+    pub paths-are-rows : (nodes : List ℕ) → isGraphPath starts ends full nodes ≡ true → map nodeOf (map rowOf nodes) ≡ nodes
+
+abbrev pub EdgesHold : Type 0
+EdgesHold = (starts ends : List ℕ) (full : Bool) → Edges starts ends full

@@ -1,0 +1,47 @@
+-- The promise of each exported function, said once: the function's `ensures` and `Unique` (crates/audit) cite it by name.
+-- Its arguments are the function's own, in their order, what is lent by what it holds at entry; then what each `&mut` holds at exit; then the number r.
+use Prim.Native.Nat.{ℕ}
+use mathlib.Core.Path.{_≡_}
+use mathlib.Core.Bool.{Bool}
+use mathlib.Core.List.{List}
+use lib.IntN.{ℤ}
+use lib.ListN.{length}
+use lib.Ieee.{Float}
+use Rattle.metrics.specs.Letters.{countsOf, counterAnswer, countedNumber, rowAfter}
+use Rattle.metrics.specs.Similarity.{sizesimOf, seqsimOf, number, value}
+use Rattle.params.specs.Numbers.{tableOf, partsOf}
+use Rattle.kplib.specs.Graph.{cappedCount, countNumber, countValue}
+use Rattle.kplib.specs.Answer.{answerOf, rowsOf, placed, queueRoom}
+use Rattle.kplib.specs.Promises.{QueueKept}
+use Rattle.capi.specs.Report.{settingsOf, reportOf}
+
+abbrev pub NdSeqToKmerPromise : List ℕ → ℕ → Bool → List ℤ → List ℤ → ℕ → Type 0
+NdSeqToKmerPromise letters k negative row row' r =
+    (r ≡ countedNumber (counterAnswer k letters row)) × (row' ≡ rowAfter (counterAnswer k letters row) (countsOf k negative letters) row)
+
+abbrev pub NdSeqsimPromise : List ℤ → List ℤ → ℕ → Float → Float → ℕ → Type 0
+NdSeqsimPromise a b minkfreq place place' r = (r ≡ number (seqsimOf a b minkfreq)) × (place' ≡ value (seqsimOf a b minkfreq))
+
+abbrev pub NdSizesimPromise : ℕ → ℕ → Float → Float → ℕ → Type 0
+NdSizesimPromise a b place place' r = (r ≡ number (sizesimOf a b)) × (place' ≡ value (sizesimOf a b))
+
+abbrev pub NdCountChainsPromise : List ℕ → List ℕ → Bool → ℕ → ℕ → ℕ → ℕ → Type 0
+NdCountChainsPromise starts ends full cap count count' r =
+    (r ≡ countNumber (cappedCount starts ends full cap)) × (count' ≡ countValue (cappedCount starts ends full cap))
+
+abbrev pub NdApplyHaplotypePromise : ℕ → Bool → Bool → Bool → ℕ → ℕ → ℕ → ℕ → ℕ → Float → Float → Float → Float
+    → List ℕ → List ℕ → List ℤ → List ℤ → List ℤ → List ℤ → List ℕ → List ℕ → List ℕ → List ℕ → List ℕ
+    → List ℕ → List ℕ → List ℕ → List ℕ → List ℕ → ℕ → Type 0
+NdApplyHaplotypePromise k squish oneToOne full maxpaths maxnodes fnmax pileupmax minkfreq sizesim seqsim fpenalty gpenalty
+    starts ends sizes features partSizes partFeatures parents lastRows keys rows report
+    parents' lastRows' keys' rows' report' r =
+    let s = settingsOf k squish oneToOne full maxpaths maxnodes fnmax pileupmax minkfreq sizesim seqsim fpenalty gpenalty in
+    let t = tableOf starts ends sizes features in
+    let p = partsOf partSizes partFeatures in
+    let room = queueRoom parents lastRows keys in
+    (r ≡ answerOf s t p room (length rows) .refusal)
+    × ((report' ≡ reportOf (answerOf s t p room (length rows)))
+    × ((rows' ≡ placed rows (rowsOf s t p room (length rows)))
+    × (QueueKept s t p room (length rows) parents parents'
+    × (QueueKept s t p room (length rows) lastRows lastRows'
+    × QueueKept s t p room (length rows) keys keys'))))

@@ -1,0 +1,32 @@
+-- The promise of each public function, said once: the function's `ensures` and `Unique` (crates/audit) cite it by name.
+-- Its arguments are the function's own, in their order, a lent slice by what it holds at entry; then what each `&mut` holds at exit; then the result r.
+use Prim.Native.Nat.{ℕ}
+use mathlib.Core.Path.{_≡_}
+use mathlib.Core.Bool.{Bool}
+use mathlib.Core.List.{List}
+use lib.IntN.{ℤ}
+use lib.ListN.{length}
+use Rattle.params.specs.declared.Settings.{Settings}
+use Rattle.job.specs.Job.{readJob, jobBytes}
+use Rattle.job.specs.Reading.{lent, scanOf, readingOf, lentAfter}
+use Rattle.job.specs.Writing.{jobFrom, writingOf, outAfter}
+use Rattle.job.specs.declared.form.Scan.{Scan}
+use Rattle.job.specs.declared.reader.Reading.{Reading}
+use Rattle.job.specs.declared.writer.Writing.{Writing}
+
+abbrev pub ScanPromise : List ℕ → Scan → Type 0
+ScanPromise bytes r = r ≡ scanOf (readJob bytes)
+
+abbrev pub ReadJobPromise : List ℕ → List ℕ → List ℕ → List ℤ → List Bool → List ℕ → List ℤ → List Bool → List ℕ → List ℕ
+    → List ℕ → List ℕ → List ℤ → List Bool → List ℕ → List ℤ → List Bool → List ℕ → List ℕ → Reading → Type 0
+ReadJobPromise bytes starts ends sizes negatives letterCounts partSizes partNegatives partLetterCounts letters
+    starts' ends' sizes' negatives' letterCounts' partSizes' partNegatives' partLetterCounts' letters' r =
+    let t = lent starts ends sizes negatives letterCounts partSizes partNegatives partLetterCounts letters in
+    let u = lent starts' ends' sizes' negatives' letterCounts' partSizes' partNegatives' partLetterCounts' letters' in
+    (r ≡ readingOf (readJob bytes) t) × (u ≡ lentAfter (readJob bytes) t)
+
+abbrev pub WriteJobPromise : Settings → List ℕ → List ℕ → List ℤ → List Bool → List ℕ → List ℤ → List Bool → List ℕ → List ℕ → List ℕ
+    → List ℕ → Writing → Type 0
+WriteJobPromise settings starts ends sizes negatives letterCounts partSizes partNegatives partLetterCounts letters out out' r =
+    let t = lent starts ends sizes negatives letterCounts partSizes partNegatives partLetterCounts letters in
+    (r ≡ writingOf settings t (length out)) × (out' ≡ outAfter r (jobBytes (jobFrom settings t)) out)

@@ -1,0 +1,33 @@
+-- The promise of each public function, said once: the function's `ensures` and `Unique` (crates/audit) cite it by name.
+-- Its arguments are the function's own, in their order, a lent slice by what it holds at entry; then what each `&mut` holds at exit; then the result r.
+use Prim.Native.Nat.{ℕ}
+use mathlib.Core.Path.{_≡_}
+use mathlib.Core.Bool.{Bool, false}
+use mathlib.Core.List.{List}
+use lib.IntN.{ℤ}
+use lib.ListN.{length}
+use Rattle.params.specs.declared.Settings.{Settings}
+use Rattle.params.specs.Numbers.{Table, Parts, tableOf, partsOf}
+use Rattle.kplib.specs.Graph.{cappedCount}
+use Rattle.kplib.specs.Answer.{answerOf, rowsOf, placed, queueRoom, searches}
+use Rattle.kplib.specs.declared.vargraph.ChainCount.{ChainCount}
+use Rattle.kplib.specs.declared.traverse.Answer.{Answer}
+
+abbrev pub CountChainsPromise : List ℕ → List ℕ → Bool → ℕ → ChainCount → Type 0
+CountChainsPromise starts ends full cap r = r ≡ cappedCount starts ends full cap
+
+-- a slice of the queue, which only a search may write
+abbrev pub QueueKept : Settings → Table → Parts → ℕ → ℕ → List ℕ → List ℕ → Type 0
+QueueKept s t p queue answer old new = searches s t p queue answer ≡ false → new ≡ old
+
+abbrev pub ApplyHaplotypePromise : Settings → List ℕ → List ℕ → List ℤ → List ℤ → List ℤ → List ℤ → List ℕ → List ℕ → List ℕ → List ℕ
+    → List ℕ → List ℕ → List ℕ → List ℕ → Answer → Type 0
+ApplyHaplotypePromise s starts ends sizes features partSizes partFeatures parents lastRows keys rows parents' lastRows' keys' rows' r =
+    let t = tableOf starts ends sizes features in
+    let p = partsOf partSizes partFeatures in
+    let room = queueRoom parents lastRows keys in
+    (r ≡ answerOf s t p room (length rows))
+    × ((rows' ≡ placed rows (rowsOf s t p room (length rows)))
+    × (QueueKept s t p room (length rows) parents parents'
+    × (QueueKept s t p room (length rows) lastRows lastRows'
+    × QueueKept s t p room (length rows) keys keys')))

@@ -1,0 +1,37 @@
+-- The promise of each public function, said once: the function's `ensures` and `Unique` (crates/audit) cite it by name.
+-- Its arguments are the function's own, in their order, a lent slice by what it holds at entry; then what each `&mut` holds at exit; then the result r.
+use Prim.Native.Nat.{ℕ}
+use mathlib.Core.Path.{_≡_}
+use mathlib.Core.Bool.{Bool}
+use mathlib.Core.List.{List}
+use lib.Dec.{ltb}
+use lib.IntN.{ℤ, natAbs}
+use lib.Ieee.{Float, binary32, toBits}
+use Rattle.metrics.specs.Letters.{countsOf, entryCount, counterAnswer, rowAfter}
+use Rattle.metrics.specs.Similarity.{sizesimOf, seqsimOf, overlapsOf, magnitudeSum}
+use Rattle.metrics.specs.declared.Sim.{Sim}
+use Rattle.metrics.specs.declared.kmer.Counted.{Counted}
+
+abbrev pub SizesimPromise : ℕ → ℕ → Sim → Type 0
+SizesimPromise a b r = r ≡ sizesimOf a b
+
+abbrev pub SeqsimPromise : List ℤ → List ℤ → ℕ → Sim → Type 0
+SeqsimPromise a b minkfreq r = r ≡ seqsimOf a b minkfreq
+
+abbrev pub OverlapsPromise : ℕ → ℕ → ℕ → ℕ → Bool → Type 0
+OverlapsPromise s1 e1 s2 e2 r = r ≡ overlapsOf s1 e1 s2 e2
+
+abbrev pub SeqToKmerPromise : List ℕ → ℕ → Bool → List ℤ → List ℤ → Counted → Type 0
+SeqToKmerPromise seq k negative out out' r = (r ≡ counterAnswer k seq out) × (out' ≡ rowAfter r (countsOf k negative seq) out)
+
+abbrev pub EntriesPromise : ℕ → ℕ → Type 0
+EntriesPromise k r = r ≡ entryCount k
+
+abbrev pub MagnitudePromise : ℤ → ℕ → Type 0
+MagnitudePromise x r = r ≡ natAbs x
+
+abbrev pub RowOverPromise : List ℤ → ℕ → Bool → Type 0
+RowOverPromise a limit r = r ≡ ltb limit (magnitudeSum a)
+
+abbrev pub BitsOfPromise : Float → ℕ → Type 0
+BitsOfPromise x r = r ≡ toBits binary32 x
