@@ -5,7 +5,7 @@ ghost use lib.ListN.{length};
 ghost use Rattle.metrics.specs.Similarity.{sizesimOf, seqsimOf, number, value};
 ghost use Rattle.metrics.specs.Letters.{countsOf, counterAnswer, countedNumber, rowAfter};
 ghost use Rattle.kplib.specs.Graph.{cappedCount, countNumber, countValue};
-ghost use Rattle.params.specs.Numbers.{tableOf, partsOf};
+ghost use Rattle.params.specs.Numbers.{tableOf, partsOf, callOf};
 ghost use Rattle.kplib.specs.Answer.{answerOf, rowsOf, placed, queueRoom, searches};
 ghost use Rattle.capi.specs.Report.{settingsOf, reportOf};
 use crate::report::put_report;
@@ -117,12 +117,17 @@ pub extern "C" fn nd_apply_haplotype(
     rows: &mut [u32],
     report: &mut [u32; 7],
 ) -> u32
-    ensures number { λ r. ⌜ r ≡ answerOf (settingsOf k squish «one_to_one» full maxpaths maxnodes fnmax pileupmax minkfreq sizesim seqsim fpenalty gpenalty) (tableOf (now (starts .entry)) (now (ends .entry)) (now (sizes .entry)) (now (features .entry))) (partsOf (now («part_sizes» .entry)) (now («part_features» .entry))) (queueRoom (now (parents .entry)) (now («last_rows» .entry)) (now (keys .entry))) (length (now (rows .entry))) .refusal ⌝ }
-    ensures report { λ _. ⌜ now (report .exit) ≡ reportOf (answerOf (settingsOf k squish «one_to_one» full maxpaths maxnodes fnmax pileupmax minkfreq sizesim seqsim fpenalty gpenalty) (tableOf (now (starts .entry)) (now (ends .entry)) (now (sizes .entry)) (now (features .entry))) (partsOf (now («part_sizes» .entry)) (now («part_features» .entry))) (queueRoom (now (parents .entry)) (now («last_rows» .entry)) (now (keys .entry))) (length (now (rows .entry)))) ⌝ }
-    ensures rows { λ _. ⌜ now (rows .exit) ≡ placed (now (rows .entry)) (rowsOf (settingsOf k squish «one_to_one» full maxpaths maxnodes fnmax pileupmax minkfreq sizesim seqsim fpenalty gpenalty) (tableOf (now (starts .entry)) (now (ends .entry)) (now (sizes .entry)) (now (features .entry))) (partsOf (now («part_sizes» .entry)) (now («part_features» .entry))) (queueRoom (now (parents .entry)) (now («last_rows» .entry)) (now (keys .entry))) (length (now (rows .entry)))) ⌝ }
-    ensures parents { λ _. ⌜ ((searches (settingsOf k squish «one_to_one» full maxpaths maxnodes fnmax pileupmax minkfreq sizesim seqsim fpenalty gpenalty) (tableOf (now (starts .entry)) (now (ends .entry)) (now (sizes .entry)) (now (features .entry))) (partsOf (now («part_sizes» .entry)) (now («part_features» .entry))) (queueRoom (now (parents .entry)) (now («last_rows» .entry)) (now (keys .entry))) (length (now (rows .entry))) ≡ false) → now (parents .exit) ≡ now (parents .entry)) ⌝ }
-    ensures lasts { λ _. ⌜ ((searches (settingsOf k squish «one_to_one» full maxpaths maxnodes fnmax pileupmax minkfreq sizesim seqsim fpenalty gpenalty) (tableOf (now (starts .entry)) (now (ends .entry)) (now (sizes .entry)) (now (features .entry))) (partsOf (now («part_sizes» .entry)) (now («part_features» .entry))) (queueRoom (now (parents .entry)) (now («last_rows» .entry)) (now (keys .entry))) (length (now (rows .entry))) ≡ false) → now («last_rows» .exit) ≡ now («last_rows» .entry)) ⌝ }
-    ensures keys { λ _. ⌜ ((searches (settingsOf k squish «one_to_one» full maxpaths maxnodes fnmax pileupmax minkfreq sizesim seqsim fpenalty gpenalty) (tableOf (now (starts .entry)) (now (ends .entry)) (now (sizes .entry)) (now (features .entry))) (partsOf (now («part_sizes» .entry)) (now («part_features» .entry))) (queueRoom (now (parents .entry)) (now («last_rows» .entry)) (now (keys .entry))) (length (now (rows .entry))) ≡ false) → now (keys .exit) ≡ now (keys .entry)) ⌝ }
+    ensures { λ r.
+        let s = settingsOf k squish «one_to_one» full maxpaths maxnodes fnmax pileupmax minkfreq sizesim seqsim fpenalty gpenalty in
+        let t = tableOf (now (starts .entry)) (now (ends .entry)) (now (sizes .entry)) (now (features .entry)) in
+        let p = partsOf (now («part_sizes» .entry)) (now («part_features» .entry)) in
+        let c = callOf s t p (queueRoom (now (parents .entry)) (now («last_rows» .entry)) (now (keys .entry))) (length (now (rows .entry))) in
+        ⌜ (r ≡ answerOf c .refusal)
+        × ((now (report .exit) ≡ reportOf (answerOf c))
+        × ((now (rows .exit) ≡ placed (now (rows .entry)) (rowsOf c))
+        × ((searches c ≡ false → now (parents .exit) ≡ now (parents .entry))
+        × ((searches c ≡ false → now («last_rows» .exit) ≡ now («last_rows» .entry))
+        × (searches c ≡ false → now (keys .exit) ≡ now (keys .entry)))))) ⌝ }
 {
     let s = Settings {
         k,
