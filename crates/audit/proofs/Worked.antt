@@ -9,11 +9,11 @@ use Rattle.params.specs.Numbers.{firstFault, badK, badFloat, badNumber, anyBelo
 use Rattle.kplib.specs.Graph.{edge}
 use Rattle.kplib.specs.Parts.{positionsFrom, choices, fallingLists, partLists}
 use Rattle.kplib.specs.Sums.{sizeFrom, sizeOf, rowPlus, zeros, featuresFrom, featuresOf}
-use Rattle.kplib.specs.Score.{listScore, greaterOf, afterList, afterLists, chainScore}
+use Rattle.kplib.specs.Score.{listScore, greaterOf, afterList, afterLists, totalScore, chainScore}
 use Rattle.kplib.specs.Search.{distanceTo, resultOf}
 use Rattle.kplib.specs.Answer.{searched, answerOf, rowsOf}
 use Rattle.audit.specs.Worked.{Worked}
 
 pub worked : Worked
-unfolding answerOf rowsOf searched firstFault badK badFloat badNumber anyBelow startAfterEnd fallingStart badSize badRow littleQueueRoom magnitudeSum best resultOf scored left after pick extensions extends edge overlapsOf distanceTo sizeOf sizeFrom positionsFrom chainScore afterLists afterList listScore greaterOf partLists fallingLists choices featuresOf featuresFrom rowPlus zeros sumBy le lt eq ofBits ofInt div add sub mul
+unfolding answerOf rowsOf searched firstFault badK badFloat badNumber anyBelow startAfterEnd fallingStart badSize badRow littleQueueRoom magnitudeSum best resultOf scored left after pick extensions extends edge overlapsOf distanceTo sizeOf sizeFrom positionsFrom chainScore totalScore afterLists afterList listScore greaterOf partLists fallingLists choices featuresOf featuresFrom rowPlus zeros sumBy le lt eq ofBits ofInt div add sub mul
 worked = record { accepted = refl; order = refl; exact = refl; answer = refl; rows = refl }

@@ -14,7 +14,7 @@ use Rattle.metrics.specs.Similarity.{sizesimOf, seqsimOf, overlapsOf, magnitude
 use Rattle.metrics.specs.declared.Sim.{Sim}
 use Rattle.metrics.specs.declared.kmer.Counted.{Counted}
 use Rattle.params.specs.declared.Settings.{Settings}
-use Rattle.params.specs.Numbers.{Table, Parts, searchMode, firstFault, chainCountFault}
+use Rattle.params.specs.Numbers.{Table, Parts, Call, callOf, searchMode, firstFault, chainCountFault}
 use Rattle.kplib.specs.Graph.{cappedCount, countNumber, countValue}
 use Rattle.kplib.specs.Answer.{answerOf, rowsOf, placed, searches}
 use Rattle.kplib.specs.declared.vargraph.ChainCount.{ChainCount}
@@ -36,9 +36,8 @@ abbrev pub Pair : (A B : Type 0) → (A → B → Type 0) → Type 0
 Pair A B promise = (x y : A) (u v : B) → promise x u → promise y v → (x ≡ y) × (u ≡ v)
 
 -- a queue slice that held `old` at entry, after a refusal or a one-to-one match: at most one content meets its promise
-abbrev pub QueueSlice : Settings → Table → Parts → ℕ → ℕ → List ℕ → Type 0
-QueueSlice s t p queueRoom answerRoom old =
-    searches s t p queueRoom answerRoom ≡ false → One (List ℕ) (λ out. (searches s t p queueRoom answerRoom ≡ false → out ≡ old))
+abbrev pub QueueSlice : Call → List ℕ → Type 0
+QueueSlice c old = searches c ≡ false → One (List ℕ) (λ out. (searches c ≡ false → out ≡ old))
 
 pub record Unique : Type 0 where
   pub sizesim : (a b : ℕ) → One Sim (λ r. r ≡ sizesimOf a b)
@@ -51,12 +50,12 @@ pub record Unique : Type 0 where
   pub magnitude : (x : ℤ) → One ℕ (λ r. r ≡ natAbs x)
   pub row-over : (a : List ℤ) (limit : ℕ) → One Bool (λ r. r ≡ ltb limit (magnitudeSum a))
   pub search-mode : (s : Settings) (v : ℕ) → One Bool (λ r. r ≡ searchMode s v)
-  pub call-fault : (s : Settings) (t : Table) (p : Parts) (queueRoom answerRoom : ℕ) → One ℕ (λ r. r ≡ firstFault s t p queueRoom answerRoom)
+  pub call-fault : (c : Call) → One ℕ (λ r. r ≡ firstFault c)
   pub count-fault : (starts ends : List ℕ) (cap : ℕ) → One ℕ (λ r. r ≡ chainCountFault cap starts ends)
   pub count-chains : (starts ends : List ℕ) (full : Bool) (cap : ℕ) → One ChainCount (λ r. r ≡ cappedCount starts ends full cap)
   pub apply-haplotype : (s : Settings) (t : Table) (p : Parts) (room : ℕ) (rows : List ℕ)
-      → Pair Answer (List ℕ) (λ r out. (r ≡ answerOf s t p room (length rows)) × (out ≡ placed rows (rowsOf s t p room (length rows))))
-  pub apply-haplotype-queue : (s : Settings) (t : Table) (p : Parts) (room : ℕ) (rows old : List ℕ) → QueueSlice s t p room (length rows) old
+      → Pair Answer (List ℕ) (λ r out. (r ≡ answerOf (callOf s t p room (length rows))) × (out ≡ placed rows (rowsOf (callOf s t p room (length rows)))))
+  pub apply-haplotype-queue : (s : Settings) (t : Table) (p : Parts) (room : ℕ) (rows old : List ℕ) → QueueSlice (callOf s t p room (length rows)) old
   pub scan : (bytes : List ℕ) → One Scan (λ r. r ≡ scanOf (readJob bytes))
   pub read-job : (bytes : List ℕ) (t : Lent) → Pair Reading Lent (λ r u. (r ≡ readingOf (readJob bytes) t) × (u ≡ lentAfter (readJob bytes) t))
   pub write-job : (s : Settings) (t : Lent) (out : List ℕ)
@@ -69,7 +68,7 @@ pub record Unique : Type 0 where
   pub nd-count-chains : (starts ends : List ℕ) (full : Bool) (cap : ℕ)
       → Pair ℕ ℕ (λ r n. (r ≡ countNumber (cappedCount starts ends full cap)) × (n ≡ countValue (cappedCount starts ends full cap)))
   pub nd-apply-haplotype : (s : Settings) (t : Table) (p : Parts) (room : ℕ) (rows : List ℕ)
-      → Pair ℕ (List ℕ) (λ r report. (r ≡ answerOf s t p room (length rows) .refusal) × (report ≡ reportOf (answerOf s t p room (length rows))))
+      → Pair ℕ (List ℕ) (λ r report. (r ≡ answerOf (callOf s t p room (length rows)) .refusal) × (report ≡ reportOf (answerOf (callOf s t p room (length rows)))))
   pub nd-apply-haplotype-rows : (s : Settings) (t : Table) (p : Parts) (room : ℕ) (rows : List ℕ)
-      → One (List ℕ) (λ out. out ≡ placed rows (rowsOf s t p room (length rows)))
-  pub nd-apply-haplotype-queue : (s : Settings) (t : Table) (p : Parts) (room : ℕ) (rows old : List ℕ) → QueueSlice s t p room (length rows) old
+      → One (List ℕ) (λ out. out ≡ placed rows (rowsOf (callOf s t p room (length rows))))
+  pub nd-apply-haplotype-queue : (s : Settings) (t : Table) (p : Parts) (room : ℕ) (rows old : List ℕ) → QueueSlice (callOf s t p room (length rows)) old
