@@ -3,10 +3,8 @@ use Prim.Native.Nat.{ℕ, _+_, _^_}
 use mathlib.Core.Path.{_≡_}
 use mathlib.Core.Bool.{Bool, false}
 use lib.ListN.{length}
-use lib.Ieee.{lt}
-use Rattle.metrics.specs.Similarity.{whole}
 use Rattle.params.specs.Numbers.{Table, Parts, Call, firstFault}
-use Rattle.kplib.specs.OneToOne.{nodeTotal, aloneScore, latestOf, overNodes, noLone, oneToOne}
+use Rattle.kplib.specs.OneToOne.{nodeTotal, aloneScore, isCandidate, latestOf, overNodes, noLone, oneToOne}
 use Rattle.params.specs.declared.Settings.{Settings}
 use Rattle.kplib.specs.declared.pathscore.Scored.{Scored}
 
@@ -17,7 +15,7 @@ module _ (s : Settings) (t : Table) (p : Parts) where
 
   -- it is a candidate
   abbrev pub candidate : ℕ → Bool
-  candidate node = lt (whole 0) (nodeAlone node .seqsim)
+  candidate node = isCandidate (nodeAlone node)
 
   pub record NoAnchor : Type 0 where
     -- node 0, the source, is no candidate

@@ -17,7 +17,8 @@ use Rattle.job.specs.declared.form.Scan.the-variants.{Good, Refused}
 use Rattle.job.specs.Fields.{le2, le4, bytes2, bytes4, bytes8, flag}
 use Rattle.job.specs.Settings40.{settingsOf, settingsBytes, numberBytes, floatBytes}
 use Rattle.job.specs.Form.{bodyLen, inPlace, flagsOk, countOf, padOk, allZero, faultOf, after, run, start, counted}
-use Rattle.job.specs.Job.{Variant, Part, Job, Read, Held, variantHere, partHere, gather, jobOf, readOf, readJob, padded, lettersRecords, recordsFor, sequenceBytes, partBody, variantBody, variantBytes, partBytes, variantsBytes, partsBytes, jobBytes}
+use Rattle.job.specs.Job.{Variant, Part, Job, Read, Held, variantHere, partHere, gather, jobOf, readOf, readJob}
+use Rattle.job.specs.Job.{padded, lettersRecords, recordsFor, sequenceBytes, partBody, variantBody, variantBytes, partBytes, variantsBytes, partsBytes, jobBytes}
 use Rattle.job.specs.declared.writer.Writing.the-variants.{Refused as Declined, Wrote}
 use Rattle.job.specs.declared.reader.Reading.the-variants.{Job as Given}
 use Rattle.job.specs.Reading.{Lent, hasRoom, readingOf, lentAfter}

@@ -1,6 +1,6 @@
 -- Document 01, "One-to-one": each of the V + 2 nodes alone against the whole haplotype only.
 use Prim.Native.Nat.{ℕ, zero, suc, _+_, _^_}
-use mathlib.Core.Bool.{cond}
+use mathlib.Core.Bool.{Bool, cond}
 use mathlib.Core.List.{List, [], _∷_}
 use lib.Dec.{ltb}
 use lib.IntN.{ℤ, pos}
@@ -41,10 +41,14 @@ aloneScore s p node = afterList s p node start (wholeOf (length (p .sizes)))
 abbrev pub rowNumbered : ℕ → Row
 rowNumbered r = record { 0 = r }
 
--- a candidate has seqsim above 0 (what the scoring does not accept has 0.0); the highest score, the latest node among equals
+-- a candidate has seqsim above 0 (what the scoring does not accept has 0.0)
+abbrev pub isCandidate : Scored → Bool
+isCandidate x = lt (whole 0) (x .seqsim)
+
+-- the highest score, the latest node among equals
 unfoldable pub latestOf : Lone → ℕ → Scored → Lone
 latestOf best node x =
-    cond (lt (whole 0) (x .seqsim)) (cond (lt (x .score) (best .scored .score)) best (record { row = rowNumbered (rowOf node); scored = x })) best
+    cond (isCandidate x) (cond (lt (x .score) (best .scored .score)) best (record { row = rowNumbered (rowOf node); scored = x })) best
 
 -- so many nodes, from one on
 unfoldable pub overNodes : (Lone → ℕ → Lone) → Lone → ℕ → ℕ → Lone

@@ -17,7 +17,7 @@ use Rattle.paths.proofs.SumLaws.{bit-and}
 use Rattle.paths.proofs.BestLaws.{all-map}
 
 -- ---- extensions
--- the smallest case: of two rows that both extend the empty chain the higher comes first
+-- the smallest case, which nothing cites: a definition in another order fails here first, in plain numbers
 two-rows : extensions (λ c s. true) 2 [] ≡ (1 ∷ []) ∷ ((0 ∷ []) ∷ [])
 unfolding extensions extends
 two-rows = refl
