@@ -13,11 +13,11 @@ use Rattle.paths.specs.Best.{Order}
 use Rattle.paths.specs.Search.{none}
 use Rattle.paths.specs.Demand.{Demand3 as Rule}
 use Rattle.paths.proofs.Demand.{count-counts, demand3}
-use Rattle.params.specs.Numbers.{Table, Parts, firstFault, searchMode}
+use Rattle.params.specs.Numbers.{Table, Parts, Call, firstFault}
 use Rattle.kplib.specs.Graph.{edge}
 use Rattle.kplib.specs.Score.{chainScore}
 use Rattle.kplib.specs.Search.{Result, noLower, startResult, followsIn, distanceIn, scoredIn, leftIn, resultOf, bestIn}
-use Rattle.kplib.specs.Answer.{searched, answerWith, foundAfter, answerOf, rowsOf, searches}
+use Rattle.kplib.specs.Answer.{searched, answerWith, inSearchMode, foundAfter, answerOf, rowsOf, searches}
 use Rattle.audit.specs.Demand3.{Demand3, Demand3Holds, resultIn}
 use Rattle.params.specs.declared.Settings.{Settings}
 use Rattle.kplib.specs.declared.traverse.Answer.{Answer}
@@ -40,57 +40,66 @@ in-order = record {
   trans = λ a b c p q r e f. is-true (le (a .scored .score) (c .scored .score)) (le-trans (a .scored .score) (b .scored .score) (c .scored .score) (holds _ e) (holds _ f));
 }
 
-module _ (s : Settings) (t : Table) (p : Parts) where
-  number : (c : List ℕ) → Number (resultOf s t p c)
+module _ (c : Call) where
+  abbrev s : Settings
+  s = c .settings
+
+  abbrev t : Table
+  t = c .table
+
+  abbrev p : Parts
+  p = c .parts
+
+  number : (x : List ℕ) → Number (resultOf s t p x)
   unfolding resultOf
-  number c = score-number s (t .sizes) (t .features) (p .sizes) (p .features) (reverse c)
+  number x = score-number s t p (reverse x)
 
   first : noLower startResult (resultOf s t p []) ≡ true
   unfolding resultOf
-  first = at-least-zero s (t .sizes) (t .features) (p .sizes) (p .features) (reverse [])
+  first = at-least-zero s t p (reverse [])
 
   rule : Rule noLower startResult (resultOf s t p) (followsIn s t p) (length (t .starts)) (distanceIn s t p) (s .maxpaths + 1)
   rule = demand3 Number noLower in-order startResult (resultOf s t p) number first (followsIn s t p) (length (t .starts)) (distanceIn s t p) (s .maxpaths + 1) (omega arith)
 
-  score-of : (c : List ℕ) → resultOf s t p c .scored ≡ chainScore s (t .sizes) (t .features) (p .sizes) (p .features) (reverse c)
+  score-of : (x : List ℕ) → resultOf s t p x .scored ≡ chainScore s t p (reverse x)
   unfolding resultOf
-  score-of c = refl
+  score-of x = refl
 
-  module _ (q a : ℕ) (mode : searches s t p q a ≡ true) where
-    parts : (firstFault s t p q a ≡ 0) × (searchMode s (length (t .starts)) ≡ true)
+  module _ (mode : searches c ≡ true) where
+    parts : (firstFault c ≡ 0) × (inSearchMode c ≡ true)
     unfolding searches
     parts =
-        let b = and-yes (eqb (firstFault s t p q a) 0) (searchMode s (length (t .starts))) mode in
-        (eqb-true (firstFault s t p q a) 0 (b .0), b .1)
+        let b = and-yes (eqb (firstFault c) 0) (inSearchMode c) mode in
+        (eqb-true (firstFault c) 0 (b .0), b .1)
 
-    found-is : foundAfter (firstFault s t p q a) s t p ≡ searched s t p
-    found-is = ap (λ (n : ℕ). foundAfter n s t p) (parts .0) ∙ rw (parts .1)
+    found-is : foundAfter (firstFault c) c ≡ searched s t p
+    found-is = ap (λ (n : ℕ). foundAfter n c) (parts .0) ∙ rw (parts .1)
 
-    answer-is : answerOf s t p q a ≡ answerWith (firstFault s t p q a) (searched s t p)
+    answer-is : answerOf c ≡ answerWith (firstFault c) (searched s t p)
     unfolding answerOf
-    answer-is = ap (λ f. answerWith (firstFault s t p q a) f) found-is
+    answer-is = ap (λ f. answerWith (firstFault c) f) found-is
 
-    count-is : answerOf s t p q a .scored ≡ length (scoredIn s t p)
+    count-is : answerOf c .scored ≡ length (scoredIn s t p)
     unfolding searched
     count-is = ap (λ (x : Answer). x .scored) answer-is
 
-    complete-is : answerOf s t p q a .complete ≡ none (leftIn s t p)
+    complete-is : answerOf c .complete ≡ none (leftIn s t p)
     unfolding searched
     complete-is = ap (λ (x : Answer). x .complete) answer-is
 
-    score-is : answerOf s t p q a .score ≡ bestIn s t p .scored .score
+    score-is : answerOf c .score ≡ bestIn s t p .scored .score
     unfolding searched
     score-is = ap (λ (x : Answer). x .score) answer-is
 
-    rows-are : rowsOf s t p q a ≡ bestIn s t p .rows
+    rows-are : rowsOf c ≡ bestIn s t p .rows
     unfolding rowsOf searched
     rows-are = ap (λ f. f .rows) found-is
 
-    result-is : resultIn (answerOf s t p q a) (rowsOf s t p q a) ≡ bestIn s t p
+    result-is : resultIn (answerOf c) (rowsOf c) ≡ bestIn s t p
     unfolding searched
     result-is = rw (rows-are, answer-is)
 
-    demand : Demand3 s t p q a
+    demand : Demand3 c
     demand =
         let n = counts-chains (t .starts) (t .ends) (s .full) in
         record {
@@ -102,7 +111,7 @@ module _ (s : Settings) (t : Table) (p : Parts) where
           complete-when = complete-is ∙ rule .complete-when ∙ ap (λ (k : ℕ). leb k (s .maxpaths + 1)) n;
           complete-all = λ e. rule .complete-all (sym complete-is ∙ e);
           latest-best = rw result-is (rule .latest-best);
-          none-higher = λ e x c. rw (score-is, ← score-of x) (rule .none-higher (sym complete-is ∙ e) x c);
+          none-higher = λ e x h. rw (score-is, ← score-of x) (rule .none-higher (sym complete-is ∙ e) x h);
         }
 
 pub demand3-holds : Demand3Holds

@@ -5,7 +5,7 @@ use native.Mathlib.Numerals.{add-one}
 use mathlib.Core.Path.{_≡_, refl, sym}
 use borrow.Author.Tests.{le-ltb}
 use lib.ListN.{length}
-use Rattle.params.specs.Numbers.{Table, Parts, firstFault}
+use Rattle.params.specs.Numbers.{Table, Parts, Call, firstFault}
 use Rattle.params.specs.Checked.{Checked}
 use Rattle.params.proofs.CheckedLaws.{accepted}
 use Rattle.kplib.specs.OneToOne.{anchorTotal, nodeTotal}
@@ -15,11 +15,20 @@ use Rattle.kplib.proofs.AnswerLaws.{rows-only}
 use Rattle.audit.specs.NoAnchor.{NoAnchor, NoAnchorChosen}
 use Rattle.params.specs.declared.Settings.{Settings}
 
-module _ (s : Settings) (t : Table) (p : Parts) (queueRoom answerRoom : ℕ) (zeroFault : firstFault s t p queueRoom answerRoom ≡ 0) where
-  checked : Checked s (t .starts) (t .ends) (t .sizes) (t .features) (p .sizes) (p .features)
-  checked = accepted s t p queueRoom answerRoom zeroFault
+module _ (c : Call) (zeroFault : firstFault c ≡ 0) where
+  abbrev s : Settings
+  s = c .settings
 
-  tables : Tables s (t .sizes) (t .features) (p .sizes) (p .features)
+  abbrev t : Table
+  t = c .table
+
+  abbrev p : Parts
+  p = c .parts
+
+  checked : Checked s t p
+  checked = accepted c zeroFault
+
+  tables : Tables s t p
   tables = record { minkfreq = checked .minkfreq; sized = checked .sized; rows = checked .rows; part-sized = checked .part-sized; part-rows = checked .part-rows }
 
   source-is : nodeTotal (4 ^ s .k) (t .sizes) (t .features) 0 ≡ anchorTotal (4 ^ s .k)
@@ -32,11 +41,11 @@ module _ (s : Settings) (t : Table) (p : Parts) (queueRoom answerRoom : ℕ) (ze
 
   no-anchor : NoAnchor s t p
   no-anchor =
-      let low = anchor-low s (t .sizes) (t .features) (p .sizes) (p .features) tables in
+      let low = anchor-low tables in
       record {
         source-none = rw source-is low;
         sink-none = rw sink-is low;
-        variants-only = rw (← checked .sizes-are) (sym (rows-only s (t .sizes) (t .features) (p .sizes) (p .features) tables));
+        variants-only = rw (← checked .sizes-are) (sym (rows-only tables));
       }
 
 pub no-anchor-chosen : NoAnchorChosen

@@ -11,7 +11,7 @@ use Rattle.params.specs.Numbers.{firstFault, badK, badFloat, badNumber, anyBelo
 use Rattle.kplib.specs.Graph.{edge}
 use Rattle.kplib.specs.Parts.{positionsFrom, choices, fallingLists, partLists}
 use Rattle.kplib.specs.Sums.{sizeFrom, sizeOf, rowPlus, zeros, featuresFrom, featuresOf}
-use Rattle.kplib.specs.Score.{listScore, greaterOf, afterList, afterLists, chainScore}
+use Rattle.kplib.specs.Score.{listScore, greaterOf, afterList, afterLists, totalScore, chainScore}
 use Rattle.kplib.specs.Search.{distanceTo, resultOf}
 use Rattle.kplib.specs.Answer.{searched, answerOf, rowsOf}
 use Rattle.job.specs.Fields.{le2, le4, le8, signedOf, bitsOf, bytes2, bytes4, bytes8}
@@ -25,7 +25,7 @@ use Rattle.audit.specs.Worked.{Worked}
 
 pub worked : Worked
 unfolding answerOf rowsOf searched firstFault badK badFloat badNumber anyBelow startAfterEnd fallingStart badSize badRow littleQueueRoom magnitudeSum best resultOf scored left after pick
-    extensions extends edge overlapsOf distanceTo sizeOf sizeFrom positionsFrom chainScore afterLists afterList listScore greaterOf partLists fallingLists choices featuresOf
+    extensions extends edge overlapsOf distanceTo sizeOf sizeFrom positionsFrom chainScore totalScore afterLists afterList listScore greaterOf partLists fallingLists choices featuresOf
     featuresFrom rowPlus zeros sumBy codeOf numberOf windowsOf timesIn tableFrom countsOf le2 le4 le8 signedOf bitsOf bytes2 bytes4 bytes8 settingsOf numberBytes floatBytes
     settingsBytes bodyLen inPlace flagsOk countOf padOk faultOf afterRecord run lettersIn lettersAfter variantOf partOf variantHere partHere gather jobOf readJob padded lettersRecords
     sequenceBytes partBody variantBody variantBytes partBytes variantsBytes partsBytes jobBytes bytesOf digitsWithin hexDigit hex2 hex4 hex8 numberLine floatLine flagLine rowText

@@ -9,7 +9,7 @@ use lib.Ieee.{le}
 use Rattle.paths.specs.Sums.{timesIn}
 use Rattle.paths.specs.Best.{Latest}
 use Rattle.paths.specs.Demand.{Lists, Counted}
-use Rattle.params.specs.Numbers.{Table, Parts}
+use Rattle.params.specs.Numbers.{Table, Parts, Call}
 use Rattle.kplib.specs.Graph.{isChainIn, chainsOf}
 use Rattle.kplib.specs.Score.{chainScore}
 use Rattle.kplib.specs.Search.{Result, noLower, followsIn, scoredIn, resultOf}
@@ -21,29 +21,37 @@ use Rattle.kplib.specs.declared.traverse.Answer.{Answer}
 abbrev pub resultIn : Answer → List ℕ → Result
 resultIn a rows = record { rows = rows; scored = record { target = a .target; score = a .score; sizesim = a .sizesim; seqsim = a .seqsim } }
 
-module _ (s : Settings) (t : Table) (p : Parts) (queueRoom answerRoom : ℕ) where
+module _ (c : Call) where
+  abbrev s : Settings
+  s = c .settings
+
+  abbrev t : Table
+  t = c .table
+
+  abbrev p : Parts
+  p = c .parts
+
   pub record Demand3 : Type 0 where
     -- only chains of the graph are scored
     pub only-chains : (x : List ℕ) → 1 ≤ timesIn x (scoredIn s t p) → isChainIn (t .starts) (t .ends) (s .full) x ≡ true
     -- and none twice
     pub none-twice : (x : List ℕ) → timesIn x (scoredIn s t p) ≤ 1
     -- the count reported is their number
-    pub counted : answerOf s t p queueRoom answerRoom .scored ≡ length (scoredIn s t p)
+    pub counted : answerOf c .scored ≡ length (scoredIn s t p)
     -- N is the number of chains: some list of N members holds each chain of the graph once and nothing else, and every list that does has N
     pub n-counts : Counted (followsIn s t p) (length (t .starts)) (chainsOf (t .starts) (t .ends) (s .full))
     -- the count reported is the smaller of N and maxpaths + 1
-    pub as-many : answerOf s t p queueRoom answerRoom .scored ≡ min (chainsOf (t .starts) (t .ends) (s .full)) (s .maxpaths + 1)
+    pub as-many : answerOf c .scored ≡ min (chainsOf (t .starts) (t .ends) (s .full)) (s .maxpaths + 1)
     -- complete is yes exactly when N is at most maxpaths + 1
-    pub complete-when : answerOf s t p queueRoom answerRoom .complete ≡ leb (chainsOf (t .starts) (t .ends) (s .full)) (s .maxpaths + 1)
+    pub complete-when : answerOf c .complete ≡ leb (chainsOf (t .starts) (t .ends) (s .full)) (s .maxpaths + 1)
     -- and then every chain of the graph is scored
-    pub complete-all : answerOf s t p queueRoom answerRoom .complete ≡ true → Lists (followsIn s t p) (length (t .starts)) (scoredIn s t p)
+    pub complete-all : answerOf c .complete ≡ true → Lists (followsIn s t p) (length (t .starts)) (scoredIn s t p)
     -- the answer is the scoring's result for the latest of the best among the chains scored
-    pub latest-best : Latest noLower (resultIn (answerOf s t p queueRoom answerRoom) (rowsOf s t p queueRoom answerRoom)) (map (resultOf s t p) (scoredIn s t p))
+    pub latest-best : Latest noLower (resultIn (answerOf c) (rowsOf c)) (map (resultOf s t p) (scoredIn s t p))
     -- and when complete is yes no chain of the graph scores higher
-    pub none-higher : answerOf s t p queueRoom answerRoom .complete ≡ true → (x : List ℕ) → isChainIn (t .starts) (t .ends) (s .full) x ≡ true
-        → le (chainScore s (t .sizes) (t .features) (p .sizes) (p .features) (reverse x) .score) (answerOf s t p queueRoom answerRoom .score) ≡ true
+    pub none-higher : answerOf c .complete ≡ true → (x : List ℕ) → isChainIn (t .starts) (t .ends) (s .full) x ≡ true
+        → le (chainScore s t p (reverse x) .score) (answerOf c .score) ≡ true
 
 -- demand 3: so it is for every job that is accepted and in search mode
 abbrev pub Demand3Holds : Type 0
-Demand3Holds =
-    (s : Settings) (t : Table) (p : Parts) (queueRoom answerRoom : ℕ) → searches s t p queueRoom answerRoom ≡ true → Demand3 s t p queueRoom answerRoom
+Demand3Holds = (c : Call) → searches c ≡ true → Demand3 c

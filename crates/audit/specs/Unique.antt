@@ -6,18 +6,16 @@ use mathlib.Core.Path.{_≡_}
 use mathlib.Core.Bool.{Bool, false}
 use mathlib.Core.List.{List}
 use lib.IntN.{ℤ}
-use lib.ListN.{length}
 use lib.Ieee.{Float}
 use Rattle.metrics.specs.declared.Sim.{Sim}
 use Rattle.metrics.specs.declared.kmer.Counted.{Counted}
 use Rattle.metrics.specs.Promises.{SizesimPromise, SeqsimPromise, OverlapsPromise, SeqToKmerPromise, EntriesPromise, MagnitudePromise, RowOverPromise, BitsOfPromise}
 use Rattle.params.specs.declared.Settings.{Settings}
-use Rattle.params.specs.Numbers.{tableOf, partsOf}
 use Rattle.params.specs.Promises.{SearchModePromise, CallFaultPromise, CountFaultPromise}
-use Rattle.kplib.specs.Answer.{queueRoom, searches}
+use Rattle.kplib.specs.Answer.{searches}
 use Rattle.kplib.specs.declared.vargraph.ChainCount.{ChainCount}
 use Rattle.kplib.specs.declared.traverse.Answer.{Answer}
-use Rattle.kplib.specs.Promises.{CountChainsPromise, ApplyHaplotypePromise}
+use Rattle.kplib.specs.Promises.{callLent, CountChainsPromise, ApplyHaplotypePromise}
 use Rattle.job.specs.declared.form.Scan.{Scan}
 use Rattle.job.specs.declared.reader.Reading.{Reading}
 use Rattle.job.specs.declared.writer.Writing.{Writing}
@@ -69,7 +67,7 @@ pub record Unique : Type 0 where
   pub count-fault : (starts ends : List ℕ) (cap : ℕ) → One ℕ (CountFaultPromise starts ends cap)
   pub count-chains : (starts ends : List ℕ) (full : Bool) (cap : ℕ) → One ChainCount (CountChainsPromise starts ends full cap)
   pub apply-haplotype : (s : Settings) (starts ends : List ℕ) (sizes features partSizes partFeatures : List ℤ) (parents lastRows keys rows : List ℕ)
-      → Agree Answer (searches s (tableOf starts ends sizes features) (partsOf partSizes partFeatures) (queueRoom parents lastRows keys) (length rows))
+      → Agree Answer (searches (callLent s starts ends sizes features partSizes partFeatures parents lastRows keys rows))
       (λ x. ApplyHaplotypePromise s starts ends sizes features partSizes partFeatures parents lastRows keys rows (x .parents) (x .lastRows) (x .keys) (x .rows) (x .says))
   pub scan : (bytes : List ℕ) → One Scan (ScanPromise bytes)
   pub read-job : (bytes : List ℕ) (t : Lent) → Two Lent Reading (ReadsInto bytes t)
@@ -83,8 +81,8 @@ pub record Unique : Type 0 where
   pub nd-apply-haplotype : (k : ℕ) (squish oneToOne full : Bool) (maxpaths maxnodes fnmax pileupmax minkfreq : ℕ) (sizesim seqsim fpenalty gpenalty : Float)
       (starts ends : List ℕ) (sizes features partSizes partFeatures : List ℤ) (parents lastRows keys rows report : List ℕ)
       → Agree (List ℕ × ℕ)
-      (searches (settingsOf k squish oneToOne full maxpaths maxnodes fnmax pileupmax minkfreq sizesim seqsim fpenalty gpenalty)
-      (tableOf starts ends sizes features) (partsOf partSizes partFeatures) (queueRoom parents lastRows keys) (length rows))
+      (searches (callLent (settingsOf k squish oneToOne full maxpaths maxnodes fnmax pileupmax minkfreq sizesim seqsim fpenalty gpenalty)
+      starts ends sizes features partSizes partFeatures parents lastRows keys rows))
       (λ x. NdApplyHaplotypePromise k squish oneToOne full maxpaths maxnodes fnmax pileupmax minkfreq sizesim seqsim fpenalty gpenalty
       starts ends sizes features partSizes partFeatures parents lastRows keys rows report
       (x .parents) (x .lastRows) (x .keys) (x .rows) (x .says .0) (x .says .1))

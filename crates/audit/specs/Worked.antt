@@ -7,7 +7,7 @@ use lib.IntN.{pos}
 use lib.Ieee.{Float, binary32, ofBits}
 use Rattle.metrics.specs.Letters.{countsOf}
 use Rattle.metrics.specs.Similarity.{whole}
-use Rattle.params.specs.Numbers.{Table, Parts, tableOf, partsOf, firstFault}
+use Rattle.params.specs.Numbers.{Table, Parts, Call, tableOf, partsOf, callOf, firstFault}
 use Rattle.kplib.specs.Score.{chainScore}
 use Rattle.kplib.specs.Search.{scoredIn}
 use Rattle.kplib.specs.Answer.{answerOf, rowsOf}
@@ -70,15 +70,19 @@ lines =
     ++ bytesOf "scored 4\n"
     ++ bytesOf "complete yes\n"
 
+-- with just the room that it needs: 1 + (maxpaths + 1) × V queue entries and V rows
+abbrev pub call : Call
+call = callOf settings variants part 23 2
+
 pub record Worked : Type 0 where
-  -- its checks all pass, with just the room that it needs: 1 + (maxpaths + 1) × V queue entries and V rows
-  pub accepted : firstFault settings variants part 23 2 ≡ 0
+  -- its checks all pass
+  pub accepted : firstFault call ≡ 0
   -- the empty chain, row 1, row 0, and both (last row first): sizes 0, 2, 2 and 4 against 2, the highest node first
   pub order : scoredIn settings variants part ≡ [] ∷ ((1 ∷ []) ∷ ((0 ∷ []) ∷ ((1 ∷ (0 ∷ [])) ∷ [])))
   -- row 0 alone is the haplotype itself
-  pub exact : chainScore settings (variants .sizes) (variants .features) (part .sizes) (part .features) (0 ∷ []) ≡ record { target = Whole; score = whole 1; sizesim = whole 1; seqsim = whole 1 }
+  pub exact : chainScore settings variants part (0 ∷ []) ≡ record { target = Whole; score = whole 1; sizesim = whole 1; seqsim = whole 1 }
   -- the answer that document 01 prints
-  pub answer : answerOf settings variants part 23 2 ≡ record { refusal = 0; rows = 1; target = Whole; score = whole 1; sizesim = whole 1; seqsim = whole 1; scored = 4; complete = true }
-  pub rows : rowsOf settings variants part 23 2 ≡ 0 ∷ []
+  pub answer : answerOf call ≡ record { refusal = 0; rows = 1; target = Whole; score = whole 1; sizesim = whole 1; seqsim = whole 1; scored = 4; complete = true }
+  pub rows : rowsOf call ≡ 0 ∷ []
   -- the program, given the job's bytes, prints these lines
   pub printed : deskText (jobBytes job) ≡ lines

@@ -5,19 +5,18 @@ use mathlib.Core.Bool.{Bool, true, false, cond, not, _&&_}
 use mathlib.Core.List.{List, [], _∷_, map}
 use Prim.Native.Nat.{ℕ, zero, suc, _+_, _-_, _^_, _≤_}
 use native.Mathlib.Omega.{arith}
-use lib.IntN.{ℤ}
 use lib.ListN.{length}
 use lib.Dec.{eqb}
 use lib.Ieee.{Float, lt}
 use Rattle.metrics.specs.Similarity.{whole}
 use Rattle.paths.specs.Best.{best}
-use Rattle.params.specs.Numbers.{Table, Parts, firstFault, searchMode}
+use Rattle.params.specs.Numbers.{Table, Parts, Call, firstFault}
 use Rattle.kplib.specs.Parts.{partLists, wholeOf}
 use Rattle.kplib.specs.Sums.{Total, totalOf}
-use Rattle.kplib.specs.Score.{sign, gapOf, scoreValue, sizesimOfTotals, seqsimOfTotals, start, targetOf, afterList, afterLists, chainScore}
+use Rattle.kplib.specs.Score.{sign, gapOf, scoreValue, sizesimOfTotals, seqsimOfTotals, start, targetOf, afterList, afterLists, totalScore, chainScore}
 use Rattle.kplib.specs.OneToOne.{nodeTotal, aloneScore, latestOf, overNodes, noLone, oneToOne}
 use Rattle.kplib.specs.Search.{Result, noLower, startResult, resultOf, scoredIn}
-use Rattle.kplib.specs.Answer.{Found, searched, matchedAlone, foundAfter, answerOf}
+use Rattle.kplib.specs.Answer.{Found, searched, matchedAlone, inSearchMode, foundAfter, answerOf}
 use Rattle.params.specs.declared.Settings.{Settings}
 use Rattle.kplib.specs.declared.pathscore.Scored.{Scored}
 use Rattle.params.proofs.CheckedLaws.{accepted}
@@ -35,28 +34,28 @@ list-within : (n left : ℕ) → left ≤ n → targetNumber (targetOf left) ≤
 list-within n zero h = omega arith
 list-within n (suc left) h = omega arith
 
-module _ (s : Settings) (e : ℕ) (sizes features : List ℤ) (chain : Total) (b : Scored) (list : List ℕ) (w : Within (length sizes) b) where
+module _ (s : Settings) (p : Parts) (chain : Total) (b : Scored) (list : List ℕ) (w : Within (length (p .sizes)) b) where
   abbrev left : ℕ
-  left = length sizes - length list
+  left = length (p .sizes) - length list
 
   abbrev total : Total
-  total = totalOf e sizes features list
+  total = totalOf (4 ^ s .k) (p .sizes) (p .features) list
 
   abbrev points : Float
   points = scoreValue s (seqsimOfTotals s chain total) (sizesimOfTotals chain total) left (gapOf (s .squish) (total .count) (chain .count))
 
   by-tests : (t u v x y : Bool) → (s .squish && eqb (chain .count) 0) ≡ t → not (eqb (sign (chain .size)) (sign (total .size))) ≡ u →
       lt (sizesimOfTotals chain total) (s .sizesim) ≡ v → lt (seqsimOfTotals s chain total) (s .seqsim) ≡ x → lt (b .score) points ≡ y →
-      Within (length sizes) (afterList s e sizes features chain b list)
+      Within (length (p .sizes)) (afterList s p chain b list)
   unfolding afterList
-  by-tests true u v x y p q r i j = rw p w
-  by-tests false true v x y p q r i j = rw (p, q) w
-  by-tests false false true x y p q r i j = rw (p, q, r) w
-  by-tests false false false true y p q r i j = rw (p, q, r, i) w
-  by-tests false false false false true p q r i j = rw (p, q, r, i, j) (list-within (length sizes) left (omega arith))
-  by-tests false false false false false p q r i j = rw (p, q, r, i, j) w
+  by-tests true u v x y o q r i j = rw o w
+  by-tests false true v x y o q r i j = rw (o, q) w
+  by-tests false false true x y o q r i j = rw (o, q, r) w
+  by-tests false false false true y o q r i j = rw (o, q, r, i) w
+  by-tests false false false false true o q r i j = rw (o, q, r, i, j) (list-within (length (p .sizes)) left (omega arith))
+  by-tests false false false false false o q r i j = rw (o, q, r, i, j) w
 
-  after-within : Within (length sizes) (afterList s e sizes features chain b list)
+  after-within : Within (length (p .sizes)) (afterList s p chain b list)
   after-within = by-tests _ _ _ _ _ refl refl refl refl refl
 
 lists-within : (n : ℕ) (after : Scored → List ℕ → Scored) → ((b : Scored) (list : List ℕ) → Within n b → Within n (after b list)) →
@@ -65,14 +64,12 @@ unfolding afterLists
 lists-within n after keeps b [] w = w
 lists-within n after keeps b (list ∷ lists) w = lists-within n after keeps (after b list) lists (keeps b list w)
 
-chain-within : (s : Settings) (sizes features partSizes partFeatures : List ℤ) (chain : List ℕ) →
-    Within (length partSizes) (chainScore s sizes features partSizes partFeatures chain)
-unfolding chainScore
-chain-within s sizes features partSizes partFeatures chain =
-    let total = totalOf (4 ^ s .k) sizes features chain in
-    lists-within (length partSizes) (afterList s (4 ^ s .k) partSizes partFeatures total)
-    (λ b list w. after-within s (4 ^ s .k) partSizes partFeatures total b list w)
-    start (partLists (length partSizes) (s .fnmax) (s .pileupmax)) (omega arith)
+chain-within : (s : Settings) (t : Table) (p : Parts) (chain : List ℕ) → Within (length (p .sizes)) (chainScore s t p chain)
+unfolding chainScore totalScore
+chain-within s t p chain =
+    let total = totalOf (4 ^ s .k) (t .sizes) (t .features) chain in
+    lists-within (length (p .sizes)) (afterList s p total) (λ b list w. after-within s p total b list w)
+    start (partLists (length (p .sizes)) (s .fnmax) (s .pileupmax)) (omega arith)
 
 best-keeps : {A R : Type 0} (P : R → Type 0) (le : R → R → Bool) (f : A → R) → ((a : A) → P (f a)) → (b : R) → P b → (l : List A) → P (best le b (map f l))
 unfolding best
@@ -84,7 +81,7 @@ searched-within : (s : Settings) (t : Table) (p : Parts) → Within (length (p .
 unfolding searched resultOf
 searched-within s t p =
     best-keeps (λ (r : Result). Within (length (p .sizes)) (r .scored)) noLower (resultOf s t p)
-    (λ c. chain-within s (t .sizes) (t .features) (p .sizes) (p .features) _)
+    (λ c. chain-within s t p _)
     startResult (omega arith) (scoredIn s t p)
 
 -- the type of the best node alone, which only kplib names
@@ -110,18 +107,21 @@ alone-within : (s : Settings) (t : Table) (p : Parts) → Within (length (p .siz
 unfolding matchedAlone oneToOne aloneScore
 alone-within s t p =
     let node-total = nodeTotal (4 ^ s .k) (t .sizes) (t .features) in
-    nodes-within (length (p .sizes)) (λ best node. latestOf best node (aloneScore s (p .sizes) (p .features) (node-total node)))
-    (λ b node w. latest-within (length (p .sizes)) b node (aloneScore s (p .sizes) (p .features) (node-total node)) w
-    (after-within s (4 ^ s .k) (p .sizes) (p .features) (node-total node) start (wholeOf (length (p .sizes))) (omega arith)))
+    nodes-within (length (p .sizes)) (λ best node. latestOf best node (aloneScore s p (node-total node)))
+    (λ b node w. latest-within (length (p .sizes)) b node (aloneScore s p (node-total node)) w
+    (after-within s p (node-total node) start (wholeOf (length (p .sizes))) (omega arith)))
     noLone 0 (length (t .sizes) + 2) (omega arith)
 
-pub target-within : (s : Settings) (t : Table) (p : Parts) (queueRoom answerRoom : ℕ) → targetNumber (answerOf s t p queueRoom answerRoom .target) ≤ 65
+pub target-within : (c : Call) → targetNumber (answerOf c .target) ≤ 65
 unfolding answerOf
-target-within s t p queueRoom answerRoom = go (firstFault s t p queueRoom answerRoom) refl
+target-within c = go (firstFault c) refl
   where
-    go : (n : ℕ) → firstFault s t p queueRoom answerRoom ≡ n → targetNumber (foundAfter n s t p .scored .target) ≤ 65
+    go : (n : ℕ) → firstFault c ≡ n → targetNumber (foundAfter n c .scored .target) ≤ 65
     go zero e =
-        let few = accepted s t p queueRoom answerRoom e .part-sized .few in
-        let found = either (λ (f : Found). Within (length (p .sizes)) (f .scored)) (searchMode s (length (t .starts))) (searched s t p) (matchedAlone s t p) (searched-within s t p) (alone-within s t p) in
+        let few = accepted c e .part-sized .few in
+        let s = c .settings in
+        let t = c .table in
+        let p = c .parts in
+        let found = either (λ (f : Found). Within (length (p .sizes)) (f .scored)) (inSearchMode c) (searched s t p) (matchedAlone s t p) (searched-within s t p) (alone-within s t p) in
         omega arith
     go (suc n) e = omega arith

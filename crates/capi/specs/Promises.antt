@@ -5,14 +5,12 @@ use mathlib.Core.Path.{_≡_}
 use mathlib.Core.Bool.{Bool}
 use mathlib.Core.List.{List}
 use lib.IntN.{ℤ}
-use lib.ListN.{length}
 use lib.Ieee.{Float}
 use Rattle.metrics.specs.Letters.{countsOf, counterAnswer, countedNumber, rowAfter}
 use Rattle.metrics.specs.Similarity.{sizesimOf, seqsimOf, number, value}
-use Rattle.params.specs.Numbers.{tableOf, partsOf}
 use Rattle.kplib.specs.Graph.{cappedCount, countNumber, countValue}
-use Rattle.kplib.specs.Answer.{answerOf, rowsOf, placed, queueRoom}
-use Rattle.kplib.specs.Promises.{QueueKept}
+use Rattle.kplib.specs.Answer.{answerOf, rowsOf, placed}
+use Rattle.kplib.specs.Promises.{callLent, QueueKept}
 use Rattle.capi.specs.Report.{settingsOf, reportOf}
 
 abbrev pub NdSeqToKmerPromise : List ℕ → ℕ → Bool → List ℤ → List ℤ → ℕ → Type 0
@@ -36,12 +34,10 @@ NdApplyHaplotypePromise k squish oneToOne full maxpaths maxnodes fnmax pileupmax
     starts ends sizes features partSizes partFeatures parents lastRows keys rows report
     parents' lastRows' keys' rows' report' r =
     let s = settingsOf k squish oneToOne full maxpaths maxnodes fnmax pileupmax minkfreq sizesim seqsim fpenalty gpenalty in
-    let t = tableOf starts ends sizes features in
-    let p = partsOf partSizes partFeatures in
-    let room = queueRoom parents lastRows keys in
-    (r ≡ answerOf s t p room (length rows) .refusal)
-    × ((report' ≡ reportOf (answerOf s t p room (length rows)))
-    × ((rows' ≡ placed rows (rowsOf s t p room (length rows)))
-    × (QueueKept s t p room (length rows) parents parents'
-    × (QueueKept s t p room (length rows) lastRows lastRows'
-    × QueueKept s t p room (length rows) keys keys'))))
+    let c = callLent s starts ends sizes features partSizes partFeatures parents lastRows keys rows in
+    (r ≡ answerOf c .refusal)
+    × ((report' ≡ reportOf (answerOf c))
+    × ((rows' ≡ placed rows (rowsOf c))
+    × (QueueKept c parents parents'
+    × (QueueKept c lastRows lastRows'
+    × QueueKept c keys keys'))))

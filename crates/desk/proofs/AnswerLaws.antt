@@ -7,14 +7,14 @@ use lib.ListN.{length, take, drop, length-append, length-drop}
 use lib.Seq.{take-at}
 use Rattle.params.specs.declared.Settings.{Settings}
 use Rattle.kplib.specs.declared.traverse.Answer.{Answer}
-use Rattle.params.specs.Numbers.{Table, Parts, badK, firstFault}
+use Rattle.params.specs.Numbers.{Table, Parts, Call, callOf, badK, firstFault}
 use Rattle.kplib.specs.Answer.{answerOf, rowsOf, placed, queueRoom}
 use Rattle.desk.specs.Desk.{answerText}
 use Rattle.desk.specs.Memory.{searchText}
 
-pub refused-k-zero : (s : Settings) (t : Table) (p : Parts) (queue answer : ℕ) → s .k ≡ 0 → answerOf s t p queue answer .refusal ≡ 1
+pub refused-k-zero : (c : Call) → c .settings .k ≡ 0 → answerOf c .refusal ≡ 1
 unfolding answerOf firstFault badK
-refused-k-zero s t p queue answer e = rw e
+refused-k-zero c e = rw e
 
 -- rows that were placed in a buffer, which kept its length, are no more than it has
 placed-few : (old rows new : List ℕ) → new ≡ placed old rows → length new ≡ length old → length rows ≤ length old
@@ -26,32 +26,33 @@ placed-few old rows new e l =
     omega arith
 
 -- what the search answered in the program's room: how many rows it has, and its text
-module _ (s : Settings) (t : Table) (p : Parts) (parents lastRows keys old : List ℕ)
-    (a-room : 1025 ≡ length parents) (b-room : 1025 ≡ length lastRows) (c-room : 1025 ≡ length keys) (d-room : length old ≡ 16)
-    (a : Answer) (is : a ≡ answerOf s t p (queueRoom parents lastRows keys) (length old))
-    (new : List ℕ) (stands : new ≡ placed old (rowsOf s t p (queueRoom parents lastRows keys) (length old))) where
-  queue-is : queueRoom parents lastRows keys ≡ 1025
-  queue-is = rw (sym a-room, sym b-room, sym c-room)
+module _ (s : Settings) (t : Table) (p : Parts) (parents lastRows keys old : List ℕ) where
+  abbrev call : Call
+  call = callOf s t p (queueRoom parents lastRows keys) (length old)
 
-  rows-are : a .rows ≡ length (rowsOf s t p (queueRoom parents lastRows keys) (length old))
-  unfolding answerOf rowsOf
-  rows-are = ap (λ (x : Answer). x .rows) is
+  module _ (a-room : 1025 ≡ length parents) (b-room : 1025 ≡ length lastRows) (c-room : 1025 ≡ length keys) (d-room : length old ≡ 16)
+      (a : Answer) (is : a ≡ answerOf call) (new : List ℕ) (stands : new ≡ placed old (rowsOf call)) where
+    queue-is : queueRoom parents lastRows keys ≡ 1025
+    queue-is = rw (sym a-room, sym b-room, sym c-room)
 
-  pub answer-few : length new ≡ 16 → a .rows ≤ 16
-  answer-few l =
-      let e = rows-are in
-      let f = placed-few old (rowsOf s t p (queueRoom parents lastRows keys) (length old)) new stands (l ∙ sym d-room) in
-      omega arith
+    rows-are : a .rows ≡ length (rowsOf call)
+    unfolding answerOf rowsOf
+    rows-are = ap (λ (x : Answer). x .rows) is
 
-  rows-taken : take (a .rows) new ≡ rowsOf s t p (queueRoom parents lastRows keys) (length old)
-  unfolding placed
-  rows-taken =
-      let rows = rowsOf s t p (queueRoom parents lastRows keys) (length old) in
-      rw stands (take-at rows (drop (length rows) old) (a .rows) (sym rows-are))
+    pub answer-few : length new ≡ 16 → a .rows ≤ 16
+    answer-few l =
+        let e = rows-are in
+        let f = placed-few old (rowsOf call) new stands (l ∙ sym d-room) in
+        omega arith
 
-  pub answer-text : answerText a (take (a .rows) new) ≡ searchText s t p
-  unfolding searchText
-  answer-text =
-      let g : a ≡ answerOf s t p 1025 16 = rw (queue-is, d-room) at is in
-      let h : take (a .rows) new ≡ rowsOf s t p 1025 16 = rw (queue-is, d-room) at rows-taken in
-      ap (λ (x : Answer). answerText x (take (a .rows) new)) g ∙ ap (answerText (answerOf s t p 1025 16)) h
+    rows-taken : take (a .rows) new ≡ rowsOf call
+    unfolding placed
+    rows-taken = rw stands (take-at (rowsOf call) (drop (length (rowsOf call)) old) (a .rows) (sym rows-are))
+
+    pub answer-text : answerText a (take (a .rows) new) ≡ searchText s t p
+    unfolding searchText
+    answer-text =
+        let held = callOf s t p 1025 16 in
+        let g : a ≡ answerOf held = rw (queue-is, d-room) at is in
+        let h : take (a .rows) new ≡ rowsOf held = rw (queue-is, d-room) at rows-taken in
+        ap (λ (x : Answer). answerText x (take (a .rows) new)) g ∙ ap (answerText (answerOf held)) h

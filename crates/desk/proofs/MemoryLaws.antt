@@ -24,7 +24,7 @@ use Rattle.job.specs.Reading.{jobCounts}
 use Rattle.job.specs.Writing.{sum}
 use Rattle.job.proofs.LetterLaws.{letters-within}
 use Rattle.desk.specs.Text.{refusedText}
-use Rattle.desk.specs.Desk.{variantFeatures, partFeatures, tableOfJob, partsOfJob, answerText, tooLarge, jobText, readText}
+use Rattle.desk.specs.Desk.{variantFeatures, partFeatures, tableOfJob, partsOfJob, callOfJob, answerText, tooLarge, jobText, readText}
 use Rattle.desk.specs.Rows.{rowsFrom, RowsFit, Counted}
 use Rattle.desk.proofs.AnswerLaws.{refused-k-zero}
 use Rattle.desk.specs.Memory.{tableFrom, partsFrom, searchText, memoryText, cut, loadedText, Fits, Loaded, Holds}
@@ -193,7 +193,7 @@ zero-text : (job : Job) → job .settings .k < 1 → refusedText 1 ≡ jobText j
 unfolding jobText answerText
 zero-text job h =
     let e : job .settings .k ≡ 0 = omega arith in
-    rw (refused-k-zero (job .settings) (tableOfJob job) (partsOfJob job) 1025 16 e)
+    rw (refused-k-zero (callOfJob job) e)
 
 placed-long : {A : Type 0} (old new : List A) (n : ℕ) → n ≡ length new → n ≤ length (placed old new)
 placed-long old new n e = rw length-append (omega arith)

@@ -7,7 +7,7 @@ use lib.IntN.{ℤ}
 use lib.ListN.{length}
 use Rattle.metrics.specs.Letters.{countsOf}
 use Rattle.kplib.specs.declared.traverse.Answer.{Answer}
-use Rattle.params.specs.Numbers.{Table, Parts, tableOf, partsOf}
+use Rattle.params.specs.Numbers.{Table, Parts, Call, tableOf, partsOf, callOf}
 use Rattle.kplib.specs.Answer.{answerOf, rowsOf}
 use Rattle.job.specs.Job.{Variant, Part, Job, Read, Faulty, Held, readJob}
 use Rattle.desk.specs.Text.{sevenLines, refusedText}
@@ -41,10 +41,11 @@ tooLarge job =
     ltb 16 (length (job .variants)) || (ltb 8 (length (job .parts)) || (ltb 4 (job .settings .k) || ltb 63 (job .settings .maxpaths)))
 
 -- the search has room for 1,025 queue entries and 16 rows
+abbrev pub callOfJob : Job → Call
+callOfJob job = callOf (job .settings) (tableOfJob job) (partsOfJob job) 1025 16
+
 unfoldable pub jobText : Job → List ℕ
-jobText job = answerText
-    (answerOf (job .settings) (tableOfJob job) (partsOfJob job) 1025 16)
-    (rowsOf (job .settings) (tableOfJob job) (partsOfJob job) 1025 16)
+jobText job = answerText (answerOf (callOfJob job)) (rowsOf (callOfJob job))
 
 unfoldable pub readText : Read → List ℕ
 readText (Faulty n) = refusedText n

@@ -6,7 +6,7 @@ use mathlib.Core.List.{List}
 use lib.Dec.{ltb}
 use lib.ListN.{length, take, drop}
 use Rattle.params.specs.declared.Settings.{Settings}
-use Rattle.params.specs.Numbers.{Table, Parts, tableOf, partsOf}
+use Rattle.params.specs.Numbers.{Table, Parts, tableOf, partsOf, callOf}
 use Rattle.kplib.specs.Answer.{answerOf, rowsOf}
 use Rattle.job.specs.Job.{Job, Held, readJob}
 use Rattle.job.specs.Reading.{Lent, lent}
@@ -23,7 +23,7 @@ abbrev pub partsFrom : ℕ → Lent → Parts
 partsFrom k t = partsOf (t .partSizes) (rowsFrom k (t .partNegatives) (t .partCounts) (drop (sum (t .counts)) (t .letters)))
 
 unfoldable pub searchText : Settings → Table → Parts → List ℕ
-searchText s t p = answerText (answerOf s t p 1025 16) (rowsOf s t p 1025 16)
+searchText s t p = answerText (answerOf (callOf s t p 1025 16)) (rowsOf (callOf s t p 1025 16))
 
 unfoldable pub memoryText : Settings → Lent → List ℕ
 memoryText s t = searchText s (tableFrom (s .k) t) (partsFrom (s .k) t)

@@ -5,7 +5,8 @@ use metrics::floats::bits_of;
 ghost use mathlib.Core.Path.{_≡_};
 ghost use Prim.Native.Nat.{_+_, _≤_, _<_};
 ghost use lib.ListN.{length};
-ghost use Rattle.desk.specs.Text.{hexDigit, hex2, hex4, hex8, digitsWithin, rowText, rowsText, rowsLine, floatLine, flagLine, numberLine, refusedText, isWhole, similarityLines, reachLines, sevenLines};
+ghost use Rattle.desk.specs.Text.{hexDigit, hex2, hex4, hex8, digitsWithin, rowText, rowsText, rowsLine, floatLine, flagLine, numberLine};
+ghost use Rattle.desk.specs.Text.{refusedText, isWhole, similarityLines, reachLines, sevenLines};
 ghost use Rattle.desk.specs.Pieces.{Put};
 
 fn put_bytes(out: &mut [u8], at: usize, src: &[u8]) -> usize

@@ -289,7 +289,8 @@ fn lay_job(
 ) -> usize
     requires { ⌜ JobFits settings (lent (now starts) (now ends) (now sizes) (now negatives) (now «letter_counts»)
         (now «part_sizes») (now «part_negatives») (now «part_letter_counts») (now letters)) (length (now out)) ⌝ }
-    ensures { λ r. ⌜ Put (now (out .entry)) (now (out .exit)) 0 r (jobBytes (jobFrom settings (lent (now (starts .entry)) (now (ends .entry)) (now (sizes .entry)) (now (negatives .entry)) (now («letter_counts» .entry))
+    ensures { λ r. ⌜ Put (now (out .entry)) (now (out .exit)) 0 r (jobBytes (jobFrom settings (lent
+        (now (starts .entry)) (now (ends .entry)) (now (sizes .entry)) (now (negatives .entry)) (now («letter_counts» .entry))
         (now («part_sizes» .entry)) (now («part_negatives» .entry)) (now («part_letter_counts» .entry)) (now (letters .entry))))) ⌝ }
 {
     put_one(out, 0, SETTINGS);

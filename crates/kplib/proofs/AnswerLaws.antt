@@ -7,16 +7,16 @@ use mathlib.Core.Logic.{_⊎_, inl, inr}
 use Prim.Native.Nat.{ℕ, zero, suc, _+_, _-_, _^_, _≤_, _<_}
 use native.Mathlib.Omega.{arith}
 use lib.Dec.{T}
-use lib.IntN.{ℤ}
 use lib.ListN.{length}
 use lib.Ieee.{Float, lt, le, isNan, ofInt}
 use Rattle.metrics.specs.Similarity.{whole}
 use Rattle.metrics.proofs.FloatOrder.{lt-le, le-lt-trans, le-number}
+use Rattle.params.specs.Numbers.{Table, Parts}
 use Rattle.kplib.specs.Parts.{partLists}
 use Rattle.kplib.specs.Sums.{Total, totalOf}
-use Rattle.kplib.specs.Score.{start, targetOf, listScore, greaterOf, afterList, afterLists, chainScore}
+use Rattle.kplib.specs.Score.{start, targetOf, listScore, greaterOf, afterList, afterLists, totalScore, chainScore}
 use Rattle.kplib.specs.Graph.{rowOf}
-use Rattle.kplib.specs.OneToOne.{rowTotal, nodeTotal, aloneScore, rowNumbered, latestOf, overNodes, noLone, oneToOne, loneRowsAt, loneRows}
+use Rattle.kplib.specs.OneToOne.{nodeTotal, aloneScore, rowNumbered, latestOf, overNodes, noLone, oneToOne, loneRowsAt, loneRows}
 use Rattle.kplib.specs.Scoring.{Below, Tables}
 use Rattle.params.specs.declared.Settings.{Settings}
 use Rattle.kplib.specs.declared.pathscore.Scored.{Scored}
@@ -66,22 +66,23 @@ zero-or-above : (r : Scored) → StartOrAbove r → le (whole 0) (r .score) ≡ 
 zero-or-above r (inl e) = subst (λ (x : Scored). le (whole 0) (x .score) ≡ true) (sym e) zero-le-zero
 zero-or-above r (inr t) = is-true (le (whole 0) (r .score)) (lt-le (whole 0) (r .score) (holds _ t))
 
-module _ (s : Settings) (sizes features partSizes partFeatures : List ℤ) (chain : List ℕ) where
+module _ (s : Settings) (t : Table) (p : Parts) (chain : List ℕ) where
   -- a chain scores the start, or above 0.0
-  pub start-or-above : StartOrAbove (chainScore s sizes features partSizes partFeatures chain)
-  unfolding chainScore afterList
+  pub start-or-above : StartOrAbove (chainScore s t p chain)
+  unfolding chainScore totalScore afterList
   start-or-above =
-      lists-kept (afterList s (4 ^ s .k) partSizes partFeatures (totalOf (4 ^ s .k) sizes features chain))
-      (λ best l b. greater-kept best (length partSizes - length l) (listScore s (totalOf (4 ^ s .k) sizes features chain) (totalOf (4 ^ s .k) partSizes partFeatures l) (length partSizes - length l)) b)
-      start (partLists (length partSizes) (s .fnmax) (s .pileupmax)) (inl refl)
+      let total = totalOf (4 ^ s .k) (t .sizes) (t .features) chain in
+      lists-kept (afterList s p total)
+      (λ best l b. greater-kept best (length (p .sizes) - length l) (listScore s total (totalOf (4 ^ s .k) (p .sizes) (p .features) l) (length (p .sizes) - length l)) b)
+      start (partLists (length (p .sizes)) (s .fnmax) (s .pileupmax)) (inl refl)
 
   -- a chain's score is at least 0.0
-  pub at-least-zero : le (whole 0) (chainScore s sizes features partSizes partFeatures chain .score) ≡ true
-  at-least-zero = zero-or-above (chainScore s sizes features partSizes partFeatures chain) start-or-above
+  pub at-least-zero : le (whole 0) (chainScore s t p chain .score) ≡ true
+  at-least-zero = zero-or-above (chainScore s t p chain) start-or-above
 
   -- and so it is never a NaN
-  pub score-number : T (not (isNan (chainScore s sizes features partSizes partFeatures chain .score)))
-  score-number = le-number (whole 0) (chainScore s sizes features partSizes partFeatures chain .score) (holds _ at-least-zero) .1
+  pub score-number : T (not (isNan (chainScore s t p chain .score)))
+  score-number = le-number (whole 0) (chainScore s t p chain .score) (holds _ at-least-zero) .1
 
 -- ---- no anchor is ever chosen
 nodes-last : (f : Lone → ℕ → Lone) (best : Lone) (node n : ℕ) → overNodes f best node (suc n) ≡ f (overNodes f best node n) (node + n)
@@ -103,34 +104,34 @@ latest-below n best r x h b = go (lt (whole 0) (x .seqsim)) (lt (x .score) (best
     go true false = let z : r + 1 - 1 < n = omega arith in target-below n (r + 1 - 1) (x .target) z
     go false u = b
 
-module _ (s : Settings) (sizes features partSizes partFeatures : List ℤ) (y : Tables s sizes features partSizes partFeatures) where
+module _ {s : Settings} {t : Table} {p : Parts} (y : Tables s t p) where
   abbrev step : Lone → ℕ → Lone
-  step = nodeStep s sizes features partSizes partFeatures y
+  step = nodeStep s t p
 
-  rows-below : (n : ℕ) → n ≤ length sizes → Below (length sizes) (loneRows (overNodes step noLone 1 n))
+  rows-below : (n : ℕ) → n ≤ length (t .sizes) → Below (length (t .sizes)) (loneRows (overNodes step noLone 1 n))
   unfolding overNodes
   rows-below zero h = tt
   rows-below (suc n) h =
       let z : 1 + n ≡ n + 1 = omega arith in
       rw (nodes-last step noLone 1 n, z)
-      (latest-below (length sizes) (overNodes step noLone 1 n) n (aloneScore s partSizes partFeatures (nodeTotal (4 ^ s .k) sizes features (n + 1))) h (rows-below n (omega arith)))
+      (latest-below (length (t .sizes)) (overNodes step noLone 1 n) n (aloneScore s p (nodeTotal (4 ^ s .k) (t .sizes) (t .features) (n + 1))) h (rows-below n (omega arith)))
 
-  first-rows : (n : ℕ) → n ≤ length sizes → Matched s sizes features partSizes partFeatures y (overNodes step noLone 1 n) n
+  first-rows : (n : ℕ) → n ≤ length (t .sizes) → Matched s t p (overNodes step noLone 1 n) n
   unfolding overNodes
-  first-rows zero h = none-matched s sizes features partSizes partFeatures y start refl
+  first-rows zero h = none-matched y refl
   first-rows (suc n) h =
       let z : 1 + n ≡ n + 1 = omega arith in
       let w : suc n ≡ n + 1 = omega arith in
       let last : overNodes step noLone 1 (suc n) ≡ step (overNodes step noLone 1 n) (n + 1) = nodes-last step noLone 1 n ∙ ap (λ (m : ℕ). step (overNodes step noLone 1 n) m) z in
       rw w
-      (row-matched s sizes features partSizes partFeatures y (overNodes step noLone 1 n) (overNodes step noLone 1 (suc n)) (aloneScore s partSizes partFeatures (rowTotal (4 ^ s .k) sizes features n)) n h refl
-      (last ∙ ap (λ (t : Total). latestOf (overNodes step noLone 1 n) (n + 1) (aloneScore s partSizes partFeatures t)) (row-node s sizes features partSizes partFeatures y n h))
+      (row-matched y (overNodes step noLone 1 n) h refl
+      (last ∙ ap (λ (x : Total). latestOf (overNodes step noLone 1 n) (n + 1) (aloneScore s p x)) (row-node y h))
       (first-rows n (omega arith)))
 
   -- source and sink may be left out
-  pub rows-only : overNodes step noLone 1 (length sizes) ≡ oneToOne s sizes features partSizes partFeatures
-  rows-only = all-matched s sizes features partSizes partFeatures y (overNodes step noLone 1 (length sizes)) (length sizes) refl (first-rows (length sizes) (omega arith))
+  pub rows-only : overNodes step noLone 1 (length (t .sizes)) ≡ oneToOne s t p
+  rows-only = all-matched y refl (first-rows (length (t .sizes)) (omega arith))
 
   -- the answer names no row, or a row of the table: neither source nor sink
-  pub no-anchor : Below (length sizes) (loneRows (oneToOne s sizes features partSizes partFeatures))
-  no-anchor = subst (λ (x : Lone). Below (length sizes) (loneRows x)) rows-only (rows-below (length sizes) (omega arith))
+  pub no-anchor : Below (length (t .sizes)) (loneRows (oneToOne s t p))
+  no-anchor = subst (λ (x : Lone). Below (length (t .sizes)) (loneRows x)) rows-only (rows-below (length (t .sizes)) (omega arith))

@@ -1,17 +1,18 @@
 -- What a search, or a one-to-one match, ends with is the answer that document 01 gives. Assumes nothing.
 use mathlib.Core.Path.{_≡_, refl, sym, ap, _∙_}
-use Prim.Native.Nat.{ℕ, zero, suc, _+_, _≤_, min}
+use Prim.Native.Nat.{ℕ, zero, suc, _+_, _≤_}
 use native.Mathlib.Omega.{arith}
 use mathlib.Core.Bool.{true, false}
 use mathlib.Core.List.{List, _++_, reverse}
 use lib.Dec.{eqb}
 use lib.ListN.{length, drop}
 use Rattle.paths.specs.Queue.{chainAt}
-use Rattle.params.specs.Numbers.{Table, Parts, firstFault, searchMode}
+use Rattle.params.specs.Numbers.{Table, Parts, Call, callOf, firstFault, searchMode}
 use Rattle.kplib.specs.Score.{start}
 use Rattle.kplib.specs.OneToOne.{oneToOne, loneRowsAt}
+use Rattle.kplib.specs.Scoring.{unplaced}
 use Rattle.kplib.specs.Search.{rowsFor}
-use Rattle.kplib.specs.Answer.{searched, matchedAlone, foundAfter, answerWith, answerOf, rowsOf, placed, queueRoom, searches}
+use Rattle.kplib.specs.Answer.{searched, matchedAlone, inSearchMode, foundAfter, answerWith, answerOf, rowsOf, placed, queueRoom, searches}
 use Rattle.kplib.specs.SearchSteps.{answerParts, Gone, Startable}
 use Rattle.params.specs.declared.Settings.{Settings}
 use Rattle.kplib.specs.declared.pathscore.Scored.{Scored}
@@ -34,11 +35,11 @@ lone-few Whole r = omega arith
 lone-few (Partial n) r = omega arith
 
 -- what the one-to-one match answers
-pub alone-answers : (s : Settings) (t : Table) (p : Parts) (lone : Lone) (n : ℕ) (r : Answer) (rows rows' : List ℕ) → lone ≡ oneToOne s (t .sizes) (t .features) (p .sizes) (p .features)
+pub alone-answers : (s : Settings) (t : Table) (p : Parts) (lone : Lone) (n : ℕ) (r : Answer) (rows rows' : List ℕ) → lone ≡ oneToOne s (unplaced (t .sizes) (t .features)) p
     → (n ≡ length (loneRowsAt (lone .scored .target) (lone .row .0))) × (rows' ≡ placed rows (loneRowsAt (lone .scored .target) (lone .row .0)))
     → r ≡ answerParts 0 n (lone .scored) (length (t .starts) + 2) true
     → (r ≡ answerWith 0 (matchedAlone s t p)) × (rows' ≡ placed rows (matchedAlone s t p .rows))
-unfolding matchedAlone
+unfolding matchedAlone oneToOne
 alone-answers s t p lone n r rows rows' e h k = rw (← e) (k ∙ ap (λ (m : ℕ). answerParts 0 m (lone .scored) (length (t .starts) + 2) true) (h .0), h .1)
 
 -- what a search answers
@@ -58,55 +59,52 @@ search-few s t p parents lasts at n g e =
 
 -- ---- by the checks
 
-module _ (s : Settings) (t : Table) (p : Parts) (q a : ℕ) where
-  answer-at : (fault : ℕ) → fault ≡ firstFault s t p q a → answerWith fault (foundAfter fault s t p) ≡ answerOf s t p q a
+module _ (c : Call) where
+  answer-at : (fault : ℕ) → fault ≡ firstFault c → answerWith fault (foundAfter fault c) ≡ answerOf c
   unfolding answerOf
-  answer-at fault e = ap (λ (n : ℕ). answerWith n (foundAfter n s t p)) e
+  answer-at fault e = ap (λ (n : ℕ). answerWith n (foundAfter n c)) e
 
-  rows-at : (fault : ℕ) → fault ≡ firstFault s t p q a → foundAfter fault s t p .rows ≡ rowsOf s t p q a
+  rows-at : (fault : ℕ) → fault ≡ firstFault c → foundAfter fault c .rows ≡ rowsOf c
   unfolding rowsOf
-  rows-at fault e = ap (λ (n : ℕ). foundAfter n s t p .rows) e
+  rows-at fault e = ap (λ (n : ℕ). foundAfter n c .rows) e
 
-  pub refused-answers : (fault : ℕ) → fault ≡ firstFault s t p q a → (fault ≡ 0 → ⊥) → (x : Scored) → x ≡ start → (r : Answer) → r ≡ answerParts fault 0 x 0 false → (rows : List ℕ)
-      → (r ≡ answerOf s t p q a) × (rows ≡ placed rows (rowsOf s t p q a))
+  pub refused-answers : (fault : ℕ) → fault ≡ firstFault c → (fault ≡ 0 → ⊥) → (x : Scored) → x ≡ start → (r : Answer) → r ≡ answerParts fault 0 x 0 false → (rows : List ℕ)
+      → (r ≡ answerOf c) × (rows ≡ placed rows (rowsOf c))
   unfolding placed
   refused-answers zero e z x hx r hr rows = absurd (z refl)
   refused-answers (suc n) e z x hx r hr rows =
       (hr ∙ ap (λ (y : Scored). answerParts (suc n) 0 y 0 false) hx ∙ answer-at (suc n) e, ap (λ (l : List ℕ). l ++ drop (length l) rows) (rows-at (suc n) e))
 
-  module _ (e : firstFault s t p q a ≡ 0) where
-    with-rows : (r : Answer) (rows rows' : List ℕ) → (r ≡ answerWith 0 (foundAfter 0 s t p)) × (rows' ≡ placed rows (foundAfter 0 s t p .rows))
-        → (r ≡ answerOf s t p q a) × (rows' ≡ placed rows (rowsOf s t p q a))
+  module _ (e : firstFault c ≡ 0) where
+    with-rows : (r : Answer) (rows rows' : List ℕ) → (r ≡ answerWith 0 (foundAfter 0 c)) × (rows' ≡ placed rows (foundAfter 0 c .rows)) → (r ≡ answerOf c) × (rows' ≡ placed rows (rowsOf c))
     with-rows r rows rows' h = (h .0 ∙ answer-at 0 (sym e), h .1 ∙ ap (λ (l : List ℕ). placed rows l) (rows-at 0 (sym e)))
 
-    pub searched-accepted : (r : Answer) (rows rows' : List ℕ) → searchMode s (length (t .starts)) ≡ true → (r ≡ answerWith 0 (searched s t p)) × (rows' ≡ placed rows (searched s t p .rows))
-        → (r ≡ answerOf s t p q a) × (rows' ≡ placed rows (rowsOf s t p q a))
+    pub searched-accepted : (r : Answer) (rows rows' : List ℕ) → inSearchMode c ≡ true
+        → (r ≡ answerWith 0 (searched (c .settings) (c .table) (c .parts))) × (rows' ≡ placed rows (searched (c .settings) (c .table) (c .parts) .rows))
+        → (r ≡ answerOf c) × (rows' ≡ placed rows (rowsOf c))
     searched-accepted r rows rows' m h = with-rows r rows rows' (rw m h)
 
-    pub alone-accepted : (r : Answer) (rows rows' : List ℕ) → searchMode s (length (t .starts)) ≡ false → (r ≡ answerWith 0 (matchedAlone s t p)) × (rows' ≡ placed rows (matchedAlone s t p .rows))
-        → (r ≡ answerOf s t p q a) × (rows' ≡ placed rows (rowsOf s t p q a))
+    pub alone-accepted : (r : Answer) (rows rows' : List ℕ) → inSearchMode c ≡ false
+        → (r ≡ answerWith 0 (matchedAlone (c .settings) (c .table) (c .parts))) × (rows' ≡ placed rows (matchedAlone (c .settings) (c .table) (c .parts) .rows))
+        → (r ≡ answerOf c) × (rows' ≡ placed rows (rowsOf c))
     alone-accepted r rows rows' m h = with-rows r rows rows' (rw m h)
 
     -- a search is no job without one
-    pub did-search : {X : Type 0} → searchMode s (length (t .starts)) ≡ true → searches s t p q a ≡ false → X
+    pub did-search : {X : Type 0} → inSearchMode c ≡ true → searches c ≡ false → X
     unfolding searches
     did-search m h =
-        let n : searchMode s (length (t .starts)) ≡ false = rw e at h in
+        let n : inSearchMode c ≡ false = rw e at h in
         let z : _≡_ {A = ℕ} 0 1 = cc in
         absurd (omega arith)
 
-pub startable : (s : Settings) (t : Table) (p : Parts) (parents lasts keys : List ℕ) (a : ℕ) → firstFault s t p (queueRoom parents lasts keys) a ≡ 0 → searchMode s (length (t .starts)) ≡ true
+pub startable : {s : Settings} {t : Table} {p : Parts} (parents lasts keys : List ℕ) (a : ℕ) → firstFault (callOf s t p (queueRoom parents lasts keys) a) ≡ 0 → searchMode s (length (t .starts)) ≡ true
     → Startable s t p (length parents) (length lasts) (length keys)
-startable s t p parents lasts keys a e m =
-    let h = queue-suffices s t p (queueRoom parents lasts keys) a e m in
+startable {s} {t} {p} parents lasts keys a e m =
+    let c = callOf s t p (queueRoom parents lasts keys) a in
+    let h = queue-suffices c e m in
     record {
-      checked = accepted s t p (queueRoom parents lasts keys) a e;
+      checked = accepted c e;
       parent-room = omega (arith, h);
       last-room = omega (arith, h);
       key-room = omega (arith, h);
     }
-
--- the fault that the code finds, with the room that it computes: the shortest of the three
-pub fault-is : (s : Settings) (t : Table) (p : Parts) (parents lasts keys : List ℕ) (a : ℕ) {n m f : ℕ} → n ≡ min (length lasts) (length keys) → m ≡ min (length parents) n
-    → f ≡ firstFault s t p m a → f ≡ firstFault s t p (queueRoom parents lasts keys) a
-fault-is s t p parents lasts keys a e d h = h ∙ ap (λ (q : ℕ). firstFault s t p q a) (d ∙ ap (λ (k : ℕ). min (length parents) k) e)

@@ -15,7 +15,7 @@ use mir.Syntax.{w32}
 use mir.Val.{toZ, ofZ}
 use Rattle.metrics.specs.Similarity.{whole, sizesimValue, magnitudeSum, partD, sumD}
 use Rattle.metrics.proofs.Rows.{sum-le, d-le}
-use Rattle.params.specs.Numbers.{rowAt}
+use Rattle.params.specs.Numbers.{Table, Parts, rowAt}
 use Rattle.kplib.specs.Parts.{wholeOf}
 use Rattle.kplib.specs.Sums.{zeros, sizeOf, featuresOf, Total}
 use Rattle.kplib.specs.Score.{sign, gapOf, scoreValue, seqsimOfRows, listScore, greaterOf, afterList, start}
@@ -65,118 +65,119 @@ seqsim-low false false false true b5 x z q partial h r e g = rw e zero-not
 seqsim-low false false false false true x z q partial h r e g = rw (e, g) h
 seqsim-low false false false false false x z q partial h r e g = rw (e, g) zero-not
 
-module _ (s : Settings) (sizes features partSizes partFeatures : List ℤ) (y : Tables s sizes features partSizes partFeatures) where
+-- ---- the nodes one after another
+nodes-step : (f : Lone → ℕ → Lone) (best : Lone) (node n n' : ℕ) → n ≡ suc n' → overNodes f best node n ≡ overNodes f (f best node) (node + 1) n'
+unfolding overNodes
+nodes-step f best node n n' k = rw (add-one node, k)
+
+nodes-none : (f : Lone → ℕ → Lone) (best : Lone) (node n : ℕ) → n ≡ 0 → overNodes f best node n ≡ best
+unfolding overNodes
+nodes-none f best node n k = rw k
+
+module _ (s : Settings) (t : Table) (p : Parts) where
+  abbrev pub nodeStep : Lone → ℕ → Lone
+  nodeStep best node = latestOf best node (aloneScore s p (nodeTotal (4 ^ s .k) (t .sizes) (t .features) node))
+
+  -- the best after the source and the first r rows, with the nodes that are left, is the answer
+  abbrev pub Matched : Lone → ℕ → Type 0
+  Matched best r = overNodes nodeStep best (r + 1) (length (t .sizes) + 1 - r) ≡ oneToOne s t p
+
+module _ {s : Settings} {t : Table} {p : Parts} (y : Tables s t p) where
   abbrev e : ℕ
   e = 4 ^ s .k
 
   abbrev all : List ℕ
-  all = wholeOf (length partSizes)
+  all = wholeOf (length (p .sizes))
 
-  whole-sum : Summable e partFeatures all
-  whole-sum = summable (length partSizes) e partFeatures all (y .part-rows) (whole-below (length partSizes)) (omega (arith, whole-length (length partSizes), y .part-sized .few))
+  whole-sum : Summable e (p .features) all
+  whole-sum = summable (length (p .sizes)) e (p .features) all (y .part-rows) (whole-below (length (p .sizes))) (omega (arith, whole-length (length (p .sizes)), y .part-sized .few))
 
-  pub anchor-low : lt (whole 0) ((aloneScore s partSizes partFeatures (anchorTotal e)) .seqsim) ≡ false
+  pub anchor-low : lt (whole 0) ((aloneScore s p (anchorTotal e)) .seqsim) ≡ false
   unfolding aloneScore afterList listScore
   anchor-low =
-      let row = featuresOf e partFeatures all in
+      let row = featuresOf e (p .features) all in
       let q = seqsimOfRows (s .minkfreq) (zeros e) row in
       let d : sumD (s .minkfreq) (zeros e) row ≤ 16777216 =
-      omega (arith, sum-le (partD (s .minkfreq)) (d-le (s .minkfreq)) (zeros e) row, zeros-sum e, features-sum e partFeatures all whole-sum) in
-      let w = sizeOf partSizes all in
+      omega (arith, sum-le (partD (s .minkfreq)) (d-le (s .minkfreq)) (zeros e) row, zeros-sum e, features-sum e (p .features) all whole-sum) in
+      let w = sizeOf (p .sizes) all in
       let z = sizesimValue 0 (natAbs w) in
-      let partial = length partSizes - length all in
+      let partial = length (p .sizes) - length all in
       let x = scoreValue s q z partial (gapOf (s .squish) (length all) 1) in
       seqsim-low (s .squish && eqb 1 0) (not (eqb 1 (sign w))) (lt z (s .sizesim)) (lt q (s .seqsim)) (lt (whole 0) x) x z q partial
-      (anchor-seqsim (s .minkfreq) e row d) (aloneScore s partSizes partFeatures (anchorTotal e)) refl refl
+      (anchor-seqsim (s .minkfreq) e row d) (aloneScore s p (anchorTotal e)) refl refl
 
   -- the turn of source or sink leaves the best as it is, whatever it is
-  pub anchor-passed : (best : Lone) (node : ℕ) → latestOf best node (aloneScore s partSizes partFeatures (anchorTotal e)) ≡ best
-  anchor-passed best node = sym (no-candidate best node (aloneScore s partSizes partFeatures (anchorTotal e)) anchor-low)
+  pub anchor-passed : (best : Lone) (node : ℕ) → latestOf best node (aloneScore s p (anchorTotal e)) ≡ best
+  anchor-passed best node = sym (no-candidate best node (aloneScore s p (anchorTotal e)) anchor-low)
 
-  -- ---- the nodes one after another
-  abbrev pub nodeStep : Lone → ℕ → Lone
-  nodeStep best node = latestOf best node (aloneScore s partSizes partFeatures (nodeTotal e sizes features node))
-
-  pub row-node : (r : ℕ) → r < length sizes → nodeTotal e sizes features (r + 1) ≡ rowTotal e sizes features r
+  pub row-node : {r : ℕ} → r < length (t .sizes) → nodeTotal e (t .sizes) (t .features) (r + 1) ≡ rowTotal e (t .sizes) (t .features) r
   unfolding nodeTotal
-  row-node r h = rw (add-one r, lt-ltb r (length sizes) h)
+  row-node {r} h = rw (add-one r, lt-ltb r (length (t .sizes)) h)
 
-  pub source-step : (best : Lone) → nodeStep best 0 ≡ best
+  source-step : (best : Lone) → nodeStep s t p best 0 ≡ best
   unfolding nodeTotal
   source-step best = anchor-passed best 0
 
-  pub sink-step : (best : Lone) → nodeStep best (length sizes + 1) ≡ best
+  sink-step : (best : Lone) → nodeStep s t p best (length (t .sizes) + 1) ≡ best
   unfolding nodeTotal
-  sink-step best = rw (add-one (length sizes), le-ltb (length sizes) (length sizes) (omega arith)) (anchor-passed best (suc (length sizes)))
+  sink-step best = rw (add-one (length (t .sizes)), le-ltb (length (t .sizes)) (length (t .sizes)) (omega arith)) (anchor-passed best (suc (length (t .sizes))))
 
-  nodes-step : (best : Lone) (node n n' : ℕ) → n ≡ suc n' → overNodes nodeStep best node n ≡ overNodes nodeStep (nodeStep best node) (node + 1) n'
-  unfolding overNodes
-  nodes-step best node n n' k = rw (add-one node, k)
-
-  nodes-none : (best : Lone) (node n : ℕ) → n ≡ 0 → overNodes nodeStep best node n ≡ best
-  unfolding overNodes
-  nodes-none best node n k = rw k
-
-  -- the best after the source and the first r rows, with the nodes that are left, is the answer
-  abbrev pub Matched : Lone → ℕ → Type 0
-  Matched best r = overNodes nodeStep best (r + 1) (length sizes + 1 - r) ≡ oneToOne s sizes features partSizes partFeatures
-
-  pub none-matched : (none : Scored) → none ≡ start → Matched (record { row = rowNumbered 0; scored = none }) 0
+  pub none-matched : {none : Scored} → none ≡ start → Matched s t p (record { row = rowNumbered 0; scored = none }) 0
   unfolding oneToOne
-  none-matched none k =
-      let n : length sizes + 2 ≡ suc (length sizes + 1 - 0) = omega arith in
-      ap (λ (x : Scored). overNodes nodeStep (record { row = rowNumbered 0; scored = x }) (0 + 1) (length sizes + 1 - 0)) k
-      ∙ ap (λ (b : Lone). overNodes nodeStep b (0 + 1) (length sizes + 1 - 0)) (sym (source-step noLone))
-      ∙ sym (nodes-step noLone 0 (length sizes + 2) (length sizes + 1 - 0) n)
+  none-matched k =
+      let n : length (t .sizes) + 2 ≡ suc (length (t .sizes) + 1 - 0) = omega arith in
+      ap (λ (x : Scored). overNodes (nodeStep s t p) (record { row = rowNumbered 0; scored = x }) (0 + 1) (length (t .sizes) + 1 - 0)) k
+      ∙ ap (λ (b : Lone). overNodes (nodeStep s t p) b (0 + 1) (length (t .sizes) + 1 - 0)) (sym (source-step noLone))
+      ∙ sym (nodes-step (nodeStep s t p) noLone 0 (length (t .sizes) + 2) (length (t .sizes) + 1 - 0) n)
 
-  pub row-matched : (best best' : Lone) (x : Scored) (r : ℕ) → r < length sizes → x ≡ aloneScore s partSizes partFeatures (rowTotal e sizes features r)
-      → best' ≡ latestOf best (r + 1) x → Matched best r → Matched best' (r + 1)
-  row-matched best best' x r h f g v =
-      let n : length sizes + 1 - r ≡ suc (length sizes + 1 - (r + 1)) = omega arith in
-      let b : best' ≡ nodeStep best (r + 1) = g ∙ ap (λ (a : Scored). latestOf best (r + 1) a) (f ∙ ap (λ (t : Total). aloneScore s partSizes partFeatures t) (sym (row-node r h))) in
-      ap (λ (a : Lone). overNodes nodeStep a (r + 1 + 1) (length sizes + 1 - (r + 1))) b
-      ∙ sym (nodes-step best (r + 1) (length sizes + 1 - r) (length sizes + 1 - (r + 1)) n) ∙ v
+  pub row-matched : (best : Lone) {best' : Lone} {x : Scored} {r : ℕ} → r < length (t .sizes) → x ≡ aloneScore s p (rowTotal e (t .sizes) (t .features) r)
+      → best' ≡ latestOf best (r + 1) x → Matched s t p best r → Matched s t p best' (r + 1)
+  row-matched best {best'} {x} {r} h f g v =
+      let n : length (t .sizes) + 1 - r ≡ suc (length (t .sizes) + 1 - (r + 1)) = omega arith in
+      let b : best' ≡ nodeStep s t p best (r + 1) = g ∙ ap (λ (a : Scored). latestOf best (r + 1) a) (f ∙ ap (λ (x : Total). aloneScore s p x) (sym (row-node h))) in
+      ap (λ (a : Lone). overNodes (nodeStep s t p) a (r + 1 + 1) (length (t .sizes) + 1 - (r + 1))) b
+      ∙ sym (nodes-step (nodeStep s t p) best (r + 1) (length (t .sizes) + 1 - r) (length (t .sizes) + 1 - (r + 1)) n) ∙ v
 
-  pub all-matched : (best : Lone) (r : ℕ) → r ≡ length sizes → Matched best r → best ≡ oneToOne s sizes features partSizes partFeatures
-  all-matched best r h v =
-      let n : length sizes + 1 - length sizes ≡ suc 0 = omega arith in
+  pub all-matched : {best : Lone} {r : ℕ} → r ≡ length (t .sizes) → Matched s t p best r → best ≡ oneToOne s t p
+  all-matched {best} h v =
+      let n : length (t .sizes) + 1 - length (t .sizes) ≡ suc 0 = omega arith in
       let w = rw h at v in
-      sym (sink-step best) ∙ sym (nodes-none (nodeStep best (length sizes + 1)) (length sizes + 1 + 1) 0 refl)
-      ∙ sym (nodes-step best (length sizes + 1) (length sizes + 1 - length sizes) 0 n) ∙ w
+      sym (sink-step best) ∙ sym (nodes-none (nodeStep s t p) (nodeStep s t p best (length (t .sizes) + 1)) (length (t .sizes) + 1 + 1) 0 refl)
+      ∙ sym (nodes-step (nodeStep s t p) best (length (t .sizes) + 1) (length (t .sizes) + 1 - length (t .sizes)) 0 n) ∙ w
 
 -- ---- one row against the whole haplotype
-module _ (s : Settings) (sizes features partSizes partFeatures : List ℤ) (wholeRow : List ℤ) (wholeSize : ℤ) (y : Matching s sizes features partSizes partFeatures wholeRow wholeSize) where
+module _ {s : Settings} {t : Table} {p : Parts} {wholeRow : List ℤ} {wholeSize : ℤ} (y : Matching s t p wholeRow wholeSize) where
   pub width : length wholeRow ≡ 4 ^ s .k
-  width = ap length (y .row-is) ∙ features-length (4 ^ s .k) partFeatures (wholeOf (length partSizes)) (whole-sum s sizes features partSizes partFeatures (y .tables))
+  width = ap length (y .row-is) ∙ features-length (4 ^ s .k) (p .features) (wholeOf (length (p .sizes))) (whole-sum (y .tables))
 
   whole-few : natAbs wholeSize ≤ 8388608
   whole-few =
       subst (λ (z : ℤ). natAbs z ≤ 8388608) (sym (y .size-is))
-      (size-le partSizes (wholeOf (length partSizes)) (y .tables .part-sized) (omega (arith, whole-length (length partSizes), y .tables .part-sized .few)))
+      (size-le (p .sizes) (wholeOf (length (p .sizes))) (y .tables .part-sized) (omega (arith, whole-length (length (p .sizes)), y .tables .part-sized .few)))
 
   w-back : toZ w32 (ofZ w32 wholeSize) ≡ wholeSize
   w-back = back wholeSize (omega (arith, whole-few))
 
-  module _ (r : ℕ) (h : r < length sizes) where
-    pub row-room : (r * length wholeRow + length wholeRow ≤ length features) × (length features ≤ 262144)
+  module _ {r : ℕ} (h : r < length (t .sizes)) where
+    pub row-room : (r * length wholeRow + length wholeRow ≤ length (t .features)) × (length (t .features) ≤ 262144)
     row-room = rw width (
-      omega (arith, row-fits (length sizes) (4 ^ s .k) r h, y .tables .rows .flat),
+      omega (arith, row-fits (length (t .sizes)) (4 ^ s .k) r h, y .tables .rows .flat),
       omega (arith, y .tables .rows .flat, mul-le-mul-right (4 ^ s .k) (y .tables .rows .few), y .tables .rows .short),
     )
 
-    r-back : toZ w32 (ofZ w32 (getD sizes r (pos 0))) ≡ getD sizes r (pos 0)
-    r-back = back (getD sizes r (pos 0)) (omega (arith, y .tables .sized .sized r))
+    r-back : toZ w32 (ofZ w32 (getD (t .sizes) r (pos 0))) ≡ getD (t .sizes) r (pos 0)
+    r-back = back (getD (t .sizes) r (pos 0)) (omega (arith, y .tables .sized .sized r))
 
-    row-is : take (r * length wholeRow + length wholeRow - r * length wholeRow) (drop (r * length wholeRow) features) ≡ rowAt (4 ^ s .k) features r
-    row-is = rw width (slice-is (r * 4 ^ s .k) (4 ^ s .k) features)
+    row-is : take (r * length wholeRow + length wholeRow - r * length wholeRow) (drop (r * length wholeRow) (t .features)) ≡ rowAt (4 ^ s .k) (t .features) r
+    row-is = rw width (slice-is (r * 4 ^ s .k) (4 ^ s .k) (t .features))
 
-    pub row-comparable : Comparable s (toZ w32 (ofZ w32 (getD sizes r (pos 0)))) (take (r * length wholeRow + length wholeRow - r * length wholeRow) (drop (r * length wholeRow) features)) 1
-        (toZ w32 (ofZ w32 wholeSize)) wholeRow (length partSizes) 0
+    pub row-comparable : Comparable s (toZ w32 (ofZ w32 (getD (t .sizes) r (pos 0)))) (take (r * length wholeRow + length wholeRow - r * length wholeRow) (drop (r * length wholeRow) (t .features))) 1
+        (toZ w32 (ofZ w32 wholeSize)) wholeRow (length (p .sizes)) 0
     row-comparable = rw (r-back, w-back, row-is) (record {
       minkfreq = y .tables .minkfreq;
-      widths = row-length (4 ^ s .k) features r (omega (arith, row-fits (length sizes) (4 ^ s .k) r h, y .tables .rows .flat)) ∙ sym width;
+      widths = row-length (4 ^ s .k) (t .features) r (omega (arith, row-fits (length (t .sizes)) (4 ^ s .k) r h, y .tables .rows .flat)) ∙ sym width;
       chain-row = omega (arith, y .tables .rows .rowed r);
-      list-row = omega (arith, ap magnitudeSum (y .row-is), features-sum (4 ^ s .k) partFeatures (wholeOf (length partSizes)) (whole-sum s sizes features partSizes partFeatures (y .tables)));
+      list-row = omega (arith, ap magnitudeSum (y .row-is), features-sum (4 ^ s .k) (p .features) (wholeOf (length (p .sizes))) (whole-sum (y .tables)));
       chain-size = omega (arith, y .tables .sized .sized r);
       list-size = whole-few;
       chain-few = omega arith;
@@ -184,26 +185,26 @@ module _ (s : Settings) (sizes features partSizes partFeatures : List ℤ) (whol
       partial-few = omega arith;
     })
 
-    pub row-scored : (x none : Scored) (v : Verdict) → none ≡ start
-        → v ≡ listScore s (total (toZ w32 (ofZ w32 (getD sizes r (pos 0)))) (take (r * length wholeRow + length wholeRow - r * length wholeRow) (drop (r * length wholeRow) features)) 1)
-        (total (toZ w32 (ofZ w32 wholeSize)) wholeRow (length partSizes)) 0
-        → x ≡ greaterOf none 0 v → x ≡ aloneScore s partSizes partFeatures (rowTotal (4 ^ s .k) sizes features r)
+    pub row-scored : {x none : Scored} {v : Verdict} → none ≡ start
+        → v ≡ listScore s (total (toZ w32 (ofZ w32 (getD (t .sizes) r (pos 0)))) (take (r * length wholeRow + length wholeRow - r * length wholeRow) (drop (r * length wholeRow) (t .features))) 1)
+        (total (toZ w32 (ofZ w32 wholeSize)) wholeRow (length (p .sizes))) 0
+        → x ≡ greaterOf none 0 v → x ≡ aloneScore s p (rowTotal (4 ^ s .k) (t .sizes) (t .features) r)
     unfolding aloneScore afterList
-    row-scored x none v n f g =
-        let l = whole-length (length partSizes) in
-        let z : length partSizes - length partSizes ≡ 0 = omega arith in
+    row-scored n f g =
+        let l = whole-length (length (p .sizes)) in
+        let z : length (p .sizes) - length (p .sizes) ≡ 0 = omega arith in
         g ∙ rw (f, n, r-back, w-back, row-is, y .row-is, y .size-is, l, z)
 
 -- ---- the whole haplotype summed
-module _ (s : Settings) (sizes features partSizes partFeatures : List ℤ) (chosen : List ℕ) (wholeRow : List ℤ) (y : Matchable s sizes features partSizes partFeatures chosen wholeRow)
-    (list : List ℕ) (f : list ≡ wholeOf (length partSizes)) where
-  pub whole-ok : Summable (length wholeRow) partFeatures list
-  whole-ok = rw (f, y .whole-row) (whole-sum s sizes features partSizes partFeatures (y .tables))
+module _ {s : Settings} {t : Table} {p : Parts} {chosen : List ℕ} {wholeRow : List ℤ} (y : Matchable s t p chosen wholeRow)
+    {list : List ℕ} (f : list ≡ wholeOf (length (p .sizes))) where
+  pub whole-ok : Summable (length wholeRow) (p .features) list
+  whole-ok = rw (f, y .whole-row) (whole-sum (y .tables))
 
-  pub matching : (row : List ℤ) → row ≡ featuresOf (length wholeRow) partFeatures list → (size : ℤ) → size ≡ sizeOf partSizes (wholeOf (length partSizes))
-      → Matching s sizes features partSizes partFeatures row (toZ w32 (ofZ w32 size))
-  matching row g size h =
+  pub matching : {row : List ℤ} → row ≡ featuresOf (length wholeRow) (p .features) list → {size : ℤ} → size ≡ sizeOf (p .sizes) (wholeOf (length (p .sizes)))
+      → Matching s t p row (toZ w32 (ofZ w32 size))
+  matching g {size} h =
       let few : natAbs size ≤ 8388608 =
       subst (λ (z : ℤ). natAbs z ≤ 8388608) (sym h)
-      (size-le partSizes (wholeOf (length partSizes)) (y .tables .part-sized) (omega (arith, whole-length (length partSizes), y .tables .part-sized .few))) in
+      (size-le (p .sizes) (wholeOf (length (p .sizes))) (y .tables .part-sized) (omega (arith, whole-length (length (p .sizes)), y .tables .part-sized .few))) in
       record { tables = y .tables; row-is = g ∙ rw (f, y .whole-row); size-is = back size (omega arith) ∙ h }

@@ -22,8 +22,8 @@ use Rattle.params.specs.Checked.{Sized}
 use Rattle.params.specs.Numbers.{Table, Parts}
 use Rattle.kplib.specs.Parts.{wholeOf}
 use Rattle.kplib.specs.Sums.{sizeFrom, sizeOf}
-use Rattle.kplib.specs.Score.{start}
-use Rattle.kplib.specs.Scoring.{Below, LaidDown}
+use Rattle.kplib.specs.Score.{start, chainScore}
+use Rattle.kplib.specs.Scoring.{unplaced, Below, LaidDown}
 use Rattle.kplib.specs.Graph.{isChainIn}
 use Rattle.kplib.specs.Search.{distanceTo, haplotypeSize, resultWith, startResult, noLower, followsIn, distanceIn, resultOf}
 use Rattle.kplib.specs.SearchSteps.{laterOf, advanced, endAt, Extending, Weighable, WeighedAs, Searchable, Startable, Going, Gone}
@@ -85,9 +85,9 @@ module _ {s : Settings} {t : Table} {p : Parts} {target : ℤ} {codes : List ℕ
   }
 
   pub weighable : (e : ℕ) → e < at .used → {chainRow listRow : List ℤ} → length chainRow ≡ cr → length listRow ≡ lr
-      → Weighable s (t .sizes) (t .features) (p .sizes) (p .features) codes listSizes count parents lasts e chainRow listRow
+      → Weighable s (unplaced (t .sizes) (t .features)) p codes listSizes count parents lasts e chainRow listRow
   weighable e l u v = record {
-    tables = tables-of s (t .starts) (t .ends) (t .sizes) (t .features) (p .sizes) (p .features) (h .checked);
+    tables = tables-of (h .checked);
     laid = h .laid;
     walk = walk-at e l;
     within = rw (h .checked .sizes-are) (chain-below (followsIn s t p) (length (t .starts)) (chainAt parents lasts e) (good e l));
@@ -148,13 +148,13 @@ module _ {s : Settings} {t : Table} {p : Parts} {target : ℤ} {codes : List ℕ
     module _ {parents' lasts' : List ℕ} (keys'' : List ℕ) {added : ℕ} {w : Weighed} {to : Progress}
         (q : Queued (followsIn s t p) (length (t .starts)) (distanceTo (t .sizes) (toZ w32 (ofZ w32 target))) parents lasts (take (at .queued - 1) keys') (at .used) e parents' lasts' (take (at .queued - 1 + added) keys'') added)
         (within : at .queued - 1 + added ≤ length keys'')
-        (hw : WeighedAs s (t .sizes) (t .features) (p .sizes) (p .features) (reverse (chainAt parents lasts e)) w)
+        (hw : WeighedAs s (unplaced (t .sizes) (t .features)) p (reverse (chainAt parents lasts e)) w)
         (hr : to ≡ advanced at e (w .scored) added) where
       queued : Queued (followsIn s t p) (length (t .starts)) (distanceIn s t p) parents lasts (take (at .queued - 1) keys') (at .used) e parents' lasts' (take (at .queued - 1 + added) keys'') added
       queued = rw (back target (omega (arith, target-small)), h .target-is) at q
 
       result-is : resultOf s t p (chainAt parents lasts e) ≡ resultWith (reverse (chainAt parents lasts e)) (w .scored)
-      unfolding resultOf
+      unfolding resultOf chainScore
       result-is = rw (hw .scored-is)
 
       on : (r : Leader) → r ≡ laterOf (at .best) (record { entry = e; scored = w .scored })

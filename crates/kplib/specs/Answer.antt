@@ -5,7 +5,7 @@ use mathlib.Core.List.{List, [], _++_}
 use lib.Dec.{eqb}
 use lib.ListN.{length, drop}
 use Rattle.paths.specs.Search.{none}
-use Rattle.params.specs.Numbers.{Table, Parts, firstFault, searchMode}
+use Rattle.params.specs.Numbers.{Table, Parts, Call, firstFault, searchMode}
 use Rattle.kplib.specs.Score.{start}
 use Rattle.kplib.specs.OneToOne.{oneToOne, loneRows}
 use Rattle.kplib.specs.Search.{scoredIn, leftIn, bestIn}
@@ -32,17 +32,20 @@ searched s t p = record {
 -- one-to-one: count V + 2, complete yes
 unfoldable pub matchedAlone : Settings → Table → Parts → Found
 matchedAlone s t p =
-    let lone = oneToOne s (t .sizes) (t .features) (p .sizes) (p .features) in
+    let lone = oneToOne s t p in
     record { rows = loneRows lone; scored = lone .scored; count = length (t .starts) + 2; complete = true }
 
 -- a refusal: no rows, no part list, three zeros, count 0, complete no
 abbrev pub noneFound : Found
 noneFound = record { rows = []; scored = start; count = 0; complete = false }
 
+abbrev pub inSearchMode : Call → Bool
+inSearchMode c = searchMode (c .settings) (length (c .table .starts))
+
 -- what is found where the checks gave this number
-abbrev pub foundAfter : ℕ → Settings → Table → Parts → Found
-foundAfter zero s t p = cond (searchMode s (length (t .starts))) (searched s t p) (matchedAlone s t p)
-foundAfter (suc n) s t p = noneFound
+abbrev pub foundAfter : ℕ → Call → Found
+foundAfter zero c = cond (inSearchMode c) (searched (c .settings) (c .table) (c .parts)) (matchedAlone (c .settings) (c .table) (c .parts))
+foundAfter (suc n) c = noneFound
 
 abbrev pub answerWith : ℕ → Found → Answer
 answerWith refusal f = record {
@@ -56,13 +59,11 @@ answerWith refusal f = record {
   complete = f .complete;
 }
 
-unfoldable pub answerOf : Settings → Table → Parts → ℕ → ℕ → Answer
-answerOf s t p queueRoom answerRoom =
-    let refusal = firstFault s t p queueRoom answerRoom in
-    answerWith refusal (foundAfter refusal s t p)
+unfoldable pub answerOf : Call → Answer
+answerOf c = answerWith (firstFault c) (foundAfter (firstFault c) c)
 
-unfoldable pub rowsOf : Settings → Table → Parts → ℕ → ℕ → List ℕ
-rowsOf s t p queueRoom answerRoom = foundAfter (firstFault s t p queueRoom answerRoom) s t p .rows
+unfoldable pub rowsOf : Call → List ℕ
+rowsOf c = foundAfter (firstFault c) c .rows
 
 -- rows at the front of a buffer, its rest unchanged
 unfoldable pub placed : List ℕ → List ℕ → List ℕ
@@ -73,5 +74,5 @@ abbrev pub queueRoom : List ℕ → List ℕ → List ℕ → ℕ
 queueRoom parents lastRows keys = min (length parents) (min (length lastRows) (length keys))
 
 -- the queue's slices are written by a search only
-unfoldable pub searches : Settings → Table → Parts → ℕ → ℕ → Bool
-searches s t p queueRoom answerRoom = eqb (firstFault s t p queueRoom answerRoom) 0 && searchMode s (length (t .starts))
+unfoldable pub searches : Call → Bool
+searches c = eqb (firstFault c) 0 && inSearchMode c

@@ -1,13 +1,13 @@
 -- Document 01, "One-to-one": each of the V + 2 nodes alone against the whole haplotype only.
 use Prim.Native.Nat.{ℕ, zero, suc, _+_, _^_}
-use mathlib.Core.Bool.{cond}
+use mathlib.Core.Bool.{Bool, cond}
 use mathlib.Core.List.{List, [], _∷_}
 use lib.Dec.{ltb}
 use lib.IntN.{ℤ, pos}
 use lib.ListN.{length, getD}
 use lib.Ieee.{lt}
 use Rattle.metrics.specs.Similarity.{whole}
-use Rattle.params.specs.Numbers.{rowAt}
+use Rattle.params.specs.Numbers.{Table, Parts, rowAt}
 use Rattle.kplib.specs.Parts.{positionsFrom, wholeOf}
 use Rattle.kplib.specs.Sums.{zeros, Total}
 use Rattle.kplib.specs.Score.{afterList, start}
@@ -34,17 +34,21 @@ nodeTotal e sizes features zero = anchorTotal e
 nodeTotal e sizes features (suc r) = cond (ltb r (length sizes)) (rowTotal e sizes features r) (anchorTotal e)
 
 -- a node alone, scored against the whole haplotype
-unfoldable pub aloneScore : Settings → List ℤ → List ℤ → Total → Scored
+unfoldable pub aloneScore : Settings → Parts → Total → Scored
 unfolding afterList positionsFrom
-aloneScore s partSizes partFeatures node = afterList s (4 ^ s .k) partSizes partFeatures node start (wholeOf (length partSizes))
+aloneScore s p node = afterList s p node start (wholeOf (length (p .sizes)))
 
 abbrev pub rowNumbered : ℕ → Row
 rowNumbered r = record { 0 = r }
 
--- a candidate has seqsim above 0 (what the scoring does not accept has 0.0); the highest score, the latest node among equals
+-- a candidate has seqsim above 0 (what the scoring does not accept has 0.0)
+abbrev pub isCandidate : Scored → Bool
+isCandidate x = lt (whole 0) (x .seqsim)
+
+-- the highest score, the latest node among equals
 unfoldable pub latestOf : Lone → ℕ → Scored → Lone
 latestOf best node x =
-    cond (lt (whole 0) (x .seqsim)) (cond (lt (x .score) (best .scored .score)) best (record { row = rowNumbered (rowOf node); scored = x })) best
+    cond (isCandidate x) (cond (lt (x .score) (best .scored .score)) best (record { row = rowNumbered (rowOf node); scored = x })) best
 
 -- so many nodes, from one on
 unfoldable pub overNodes : (Lone → ℕ → Lone) → Lone → ℕ → ℕ → Lone
@@ -54,11 +58,11 @@ overNodes step best node (suc more) = overNodes step (step best node) (suc node)
 abbrev pub noLone : Lone
 noLone = record { row = rowNumbered 0; scored = start }
 
-unfoldable pub oneToOne : Settings → List ℤ → List ℤ → List ℤ → List ℤ → Lone
+unfoldable pub oneToOne : Settings → Table → Parts → Lone
 unfolding latestOf overNodes nodeTotal aloneScore
-oneToOne s sizes features partSizes partFeatures =
-    overNodes (λ best node. latestOf best node (aloneScore s partSizes partFeatures (nodeTotal (4 ^ s .k) sizes features node)))
-    noLone 0 (length sizes + 2)
+oneToOne s t p =
+    overNodes (λ best node. latestOf best node (aloneScore s p (nodeTotal (4 ^ s .k) (t .sizes) (t .features) node)))
+    noLone 0 (length (t .sizes) + 2)
 
 -- the rows of the answer: none where nothing matched, else the row alone
 abbrev pub loneRowsAt : Target → ℕ → List ℕ

@@ -7,7 +7,7 @@ use mathlib.Core.List.{List}
 use lib.IntN.{ℤ}
 use lib.ListN.{length}
 use Rattle.params.specs.declared.Settings.{Settings}
-use Rattle.params.specs.Numbers.{Table, Parts, tableOf, partsOf}
+use Rattle.params.specs.Numbers.{Call, tableOf, partsOf, callOf}
 use Rattle.kplib.specs.Graph.{cappedCount}
 use Rattle.kplib.specs.Answer.{answerOf, rowsOf, placed, queueRoom, searches}
 use Rattle.kplib.specs.declared.vargraph.ChainCount.{ChainCount}
@@ -16,18 +16,21 @@ use Rattle.kplib.specs.declared.traverse.Answer.{Answer}
 abbrev pub CountChainsPromise : List ℕ → List ℕ → Bool → ℕ → ChainCount → Type 0
 CountChainsPromise starts ends full cap r = r ≡ cappedCount starts ends full cap
 
+-- the call that the settings and the lent slices make
+abbrev pub callLent : Settings → List ℕ → List ℕ → List ℤ → List ℤ → List ℤ → List ℤ → List ℕ → List ℕ → List ℕ → List ℕ → Call
+callLent s starts ends sizes features partSizes partFeatures parents lastRows keys rows =
+    callOf s (tableOf starts ends sizes features) (partsOf partSizes partFeatures) (queueRoom parents lastRows keys) (length rows)
+
 -- a slice of the queue, which only a search may write
-abbrev pub QueueKept : Settings → Table → Parts → ℕ → ℕ → List ℕ → List ℕ → Type 0
-QueueKept s t p queue answer old new = searches s t p queue answer ≡ false → new ≡ old
+abbrev pub QueueKept : Call → List ℕ → List ℕ → Type 0
+QueueKept c old new = searches c ≡ false → new ≡ old
 
 abbrev pub ApplyHaplotypePromise : Settings → List ℕ → List ℕ → List ℤ → List ℤ → List ℤ → List ℤ → List ℕ → List ℕ → List ℕ → List ℕ
     → List ℕ → List ℕ → List ℕ → List ℕ → Answer → Type 0
 ApplyHaplotypePromise s starts ends sizes features partSizes partFeatures parents lastRows keys rows parents' lastRows' keys' rows' r =
-    let t = tableOf starts ends sizes features in
-    let p = partsOf partSizes partFeatures in
-    let room = queueRoom parents lastRows keys in
-    (r ≡ answerOf s t p room (length rows))
-    × ((rows' ≡ placed rows (rowsOf s t p room (length rows)))
-    × (QueueKept s t p room (length rows) parents parents'
-    × (QueueKept s t p room (length rows) lastRows lastRows'
-    × QueueKept s t p room (length rows) keys keys')))
+    let c = callLent s starts ends sizes features partSizes partFeatures parents lastRows keys rows in
+    (r ≡ answerOf c)
+    × ((rows' ≡ placed rows (rowsOf c))
+    × (QueueKept c parents parents'
+    × (QueueKept c lastRows lastRows'
+    × QueueKept c keys keys')))

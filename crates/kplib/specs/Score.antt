@@ -7,6 +7,7 @@ use lib.IntN.{ℤ, pos, negsuc, natAbs}
 use lib.ListN.{length}
 use lib.Ieee.{Float, binary32, add, sub, mul, div, lt}
 use Rattle.metrics.specs.Similarity.{whole, sizesimValue, seqsimValue, sumD, sumN}
+use Rattle.params.specs.Numbers.{Table, Parts}
 use Rattle.kplib.specs.Parts.{partLists}
 use Rattle.kplib.specs.Sums.{sizeOf, featuresOf, Total, totalOf}
 use Rattle.params.specs.declared.Settings.{Settings}
@@ -70,21 +71,23 @@ greaterOf best partial (Scores x size seq) =
     cond (lt (best .score) x) (record { target = targetOf partial; score = x; sizesim = size; seqsim = seq }) best
 
 -- the best after one more part list, a list of positions among the parts
-unfoldable pub afterList : Settings → ℕ → List ℤ → List ℤ → Total → Scored → List ℕ → Scored
+unfoldable pub afterList : Settings → Parts → Total → Scored → List ℕ → Scored
 unfolding listScore greaterOf sizeOf featuresOf
-afterList s e partSizes partFeatures chain best list =
-    let partial = length partSizes - length list in
-    greaterOf best partial (listScore s chain (totalOf e partSizes partFeatures list) partial)
+afterList s p chain best list =
+    let partial = length (p .sizes) - length list in
+    greaterOf best partial (listScore s chain (totalOf (4 ^ s .k) (p .sizes) (p .features) list) partial)
 
 -- and after a list of them, in order
 unfoldable pub afterLists : (Scored → List ℕ → Scored) → Scored → List (List ℕ) → Scored
 afterLists after best [] = best
 afterLists after best (list ∷ lists) = afterLists after (after best list) lists
 
--- a chain, a list of rows, against every part list
-unfoldable pub chainScore : Settings → List ℤ → List ℤ → List ℤ → List ℤ → List ℕ → Scored
-unfolding afterLists afterList partLists sizeOf featuresOf
-chainScore s sizes features partSizes partFeatures chain =
-    let e = 4 ^ s .k in
-    afterLists (afterList s e partSizes partFeatures (totalOf e sizes features chain)) start
-    (partLists (length partSizes) (s .fnmax) (s .pileupmax))
+-- against every part list
+unfoldable pub totalScore : Settings → Parts → Total → Scored
+unfolding afterLists afterList partLists
+totalScore s p chain = afterLists (afterList s p chain) start (partLists (length (p .sizes)) (s .fnmax) (s .pileupmax))
+
+-- a chain, a list of rows
+unfoldable pub chainScore : Settings → Table → Parts → List ℕ → Scored
+unfolding totalScore sizeOf featuresOf
+chainScore s t p chain = totalScore s p (totalOf (4 ^ s .k) (t .sizes) (t .features) chain)

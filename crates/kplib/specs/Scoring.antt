@@ -9,7 +9,7 @@ use lib.ListN.{length, getD, take}
 use lib.Ieee.{Float, lt, le}
 use Rattle.metrics.specs.Similarity.{whole, sizesimValue, magnitudeSum}
 use Rattle.params.specs.Checked.{Flat, Sized}
-use Rattle.params.specs.Numbers.{rowAt}
+use Rattle.params.specs.Numbers.{Table, Parts, tableOf, rowAt}
 use Rattle.kplib.specs.Parts.{positionsFrom, wholeOf, choices, fallingLists, partLists}
 use Rattle.kplib.specs.Sums.{sizeOf, featuresOf, Total}
 use Rattle.kplib.specs.Score.{sign, gapOf, scoreValue, start, afterList}
@@ -17,13 +17,17 @@ use Rattle.params.specs.declared.Settings.{Settings}
 use Rattle.kplib.specs.declared.pathscore.Scored.{Scored}
 use Rattle.kplib.specs.declared.pathscore.Best.{Best}
 
+-- a table whose rows stand nowhere: a score, and one-to-one, ask only for sizes and features
+abbrev pub unplaced : List ℤ → List ℤ → Table
+unplaced sizes features = tableOf [] [] sizes features
+
 -- what the checks give of the two tables
-pub record Tables (s : Settings) (sizes features partSizes partFeatures : List ℤ) : Type 0 where
+pub record Tables (s : Settings) (t : Table) (p : Parts) : Type 0 where
   pub minkfreq : s .minkfreq ≤ 16777216
-  pub sized : Sized sizes
-  pub rows : Flat (length sizes) (4 ^ s .k) features
-  pub part-sized : Sized partSizes
-  pub part-rows : Flat (length partSizes) (4 ^ s .k) partFeatures
+  pub sized : Sized (t .sizes)
+  pub rows : Flat (length (t .sizes)) (4 ^ s .k) (t .features)
+  pub part-sized : Sized (p .sizes)
+  pub part-rows : Flat (length (p .sizes)) (4 ^ s .k) (p .features)
 
 -- every row of the list is below n
 abbrev pub Below : ℕ → List ℕ → Type 0
@@ -154,20 +158,20 @@ mayWin s chainSize chainLen listSize listLen partial best =
     && (not (lt size (s .sizesim)) && not (le (scoreValue s (whole 1) size partial (gapOf (s .squish) listLen chainLen)) best))
 
 -- one laid list about to be tried against a chain, with the scratch
-pub record Attempt (s : Settings) (features : List ℤ) (chain : List ℕ) (chainSize : ℤ) (partSizes partFeatures : List ℤ) (code : ℕ) (size : ℤ) (chosen : List ℕ) (chainRow listRow : List ℤ) (summed : Bool) : Type 0 where
+pub record Attempt (s : Settings) (features : List ℤ) (chain : List ℕ) (chainSize : ℤ) (p : Parts) (code : ℕ) (size : ℤ) (chosen : List ℕ) (chainRow listRow : List ℤ) (summed : Bool) : Type 0 where
   pub minkfreq : s .minkfreq ≤ 16777216
   pub chained : Summable (4 ^ s .k) features chain
   pub chain-size : natAbs chainSize ≤ 8388608
-  pub part-sized : Sized partSizes
-  pub part-rows : Flat (length partSizes) (4 ^ s .k) partFeatures
-  pub listed : LaidList partSizes code size (listOfCode (length partSizes) code)
+  pub part-sized : Sized (p .sizes)
+  pub part-rows : Flat (length (p .sizes)) (4 ^ s .k) (p .features)
+  pub listed : LaidList (p .sizes) code size (listOfCode (length (p .sizes)) code)
   pub room : 64 ≤ length chosen
   pub chain-row : length chainRow ≡ 4 ^ s .k
   pub list-row : length listRow ≡ 4 ^ s .k
   pub ready : Ready summed chainRow (featuresOf (4 ^ s .k) features chain)
 
-pub record Attempted (s : Settings) (features : List ℤ) (chain : List ℕ) (chainSize : ℤ) (partSizes partFeatures : List ℤ) (list : List ℕ) (best : Scored) (r : Best) (chainRow : List ℤ) : Type 0 where
-  pub best-is : r .scored ≡ afterList s (4 ^ s .k) partSizes partFeatures (chainTotal (4 ^ s .k) features chain chainSize) best list
+pub record Attempted (s : Settings) (features : List ℤ) (chain : List ℕ) (chainSize : ℤ) (p : Parts) (list : List ℕ) (best : Scored) (r : Best) (chainRow : List ℤ) : Type 0 where
+  pub best-is : r .scored ≡ afterList s p (chainTotal (4 ^ s .k) features chain chainSize) best list
   pub ready : Ready (r .summed) chainRow (featuresOf (4 ^ s .k) features chain)
 
 -- ---- a chain, and one-to-one
@@ -176,24 +180,25 @@ pub record Attempted (s : Settings) (features : List ℤ) (chain : List ℕ) (ch
 abbrev pub noneTried : Best
 noneTried = record { scored = start; summed = false }
 
--- what scoring a chain asks: the tables, the chain's rows and size, the lists laid down, and the scratch
-pub record Scorable (s : Settings) (sizes features : List ℤ) (chain : List ℕ) (chainSize : ℤ) (partSizes partFeatures : List ℤ) (codes : List ℕ) (listSizes : List ℤ) (count : ℕ) (chosen : List ℕ) (chainRow listRow : List ℤ) : Type 0 where
-  pub tables : Tables s sizes features partSizes partFeatures
-  pub within : Below (length sizes) chain
-  pub most : length chain ≤ 64
-  pub chain-size : chainSize ≡ sizeOf sizes chain
-  pub laid : LaidDown s partSizes codes listSizes count
+-- what scoring a chain asks: its rows and size, the parts, the lists laid down, and the scratch
+pub record Scorable (s : Settings) (features : List ℤ) (chain : List ℕ) (chainSize : ℤ) (p : Parts) (codes : List ℕ) (listSizes : List ℤ) (count : ℕ) (chosen : List ℕ) (chainRow listRow : List ℤ) : Type 0 where
+  pub minkfreq : s .minkfreq ≤ 16777216
+  pub chained : Summable (4 ^ s .k) features chain
+  pub chain-size : natAbs chainSize ≤ 8388608
+  pub part-sized : Sized (p .sizes)
+  pub part-rows : Flat (length (p .sizes)) (4 ^ s .k) (p .features)
+  pub laid : LaidDown s (p .sizes) codes listSizes count
   pub room : 64 ≤ length chosen
   pub chain-row : length chainRow ≡ 4 ^ s .k
   pub list-row : length listRow ≡ 4 ^ s .k
 
-pub record Matchable (s : Settings) (sizes features partSizes partFeatures : List ℤ) (chosen : List ℕ) (wholeRow : List ℤ) : Type 0 where
-  pub tables : Tables s sizes features partSizes partFeatures
+pub record Matchable (s : Settings) (t : Table) (p : Parts) (chosen : List ℕ) (wholeRow : List ℤ) : Type 0 where
+  pub tables : Tables s t p
   pub room : 64 ≤ length chosen
   pub whole-row : length wholeRow ≡ 4 ^ s .k
 
 -- the whole haplotype summed, before the rows are gone through
-pub record Matching (s : Settings) (sizes features partSizes partFeatures : List ℤ) (wholeRow : List ℤ) (wholeSize : ℤ) : Type 0 where
-  pub tables : Tables s sizes features partSizes partFeatures
-  pub row-is : wholeRow ≡ featuresOf (4 ^ s .k) partFeatures (wholeOf (length partSizes))
-  pub size-is : wholeSize ≡ sizeOf partSizes (wholeOf (length partSizes))
+pub record Matching (s : Settings) (t : Table) (p : Parts) (wholeRow : List ℤ) (wholeSize : ℤ) : Type 0 where
+  pub tables : Tables s t p
+  pub row-is : wholeRow ≡ featuresOf (4 ^ s .k) (p .features) (wholeOf (length (p .sizes)))
+  pub size-is : wholeSize ≡ sizeOf (p .sizes) (wholeOf (length (p .sizes)))

@@ -62,7 +62,7 @@ module _ (s : Settings) (t : Table) (p : Parts) where
 
   -- the scoring's result for a chain
   unfoldable pub resultOf : List ℕ → Result
-  resultOf c = resultWith (reverse c) (chainScore s (t .sizes) (t .features) (p .sizes) (p .features) (reverse c))
+  resultOf c = resultWith (reverse c) (chainScore s t p (reverse c))
 
   -- the best of them, beginning with the scoring's start
   abbrev pub bestIn : Result

@@ -85,22 +85,22 @@ pub record Extending (starts ends : List ℕ) (sizes : List ℤ) (full : Bool) (
   pub queue : Queue (mayFollowIn starts ends full) (length starts) (distanceTo sizes target) parents lasts (take queued keys) used
 
 -- an entry whose chain is to be scored
-pub record Weighable (s : Settings) (sizes features partSizes partFeatures : List ℤ) (codes : List ℕ) (listSizes : List ℤ) (count : ℕ) (parents lasts : List ℕ) (entry : ℕ) (chainRow listRow : List ℤ) : Type 0 where
-  pub tables : Tables s sizes features partSizes partFeatures
-  pub laid : LaidDown s partSizes codes listSizes count
+pub record Weighable (s : Settings) (t : Table) (p : Parts) (codes : List ℕ) (listSizes : List ℤ) (count : ℕ) (parents lasts : List ℕ) (entry : ℕ) (chainRow listRow : List ℤ) : Type 0 where
+  pub tables : Tables s t p
+  pub laid : LaidDown s (p .sizes) codes listSizes count
   pub walk : Walk parents lasts entry 64
-  pub within : Below (length sizes) (reverse (chainAt parents lasts entry))
+  pub within : Below (length (t .sizes)) (reverse (chainAt parents lasts entry))
   pub most : length (reverse (chainAt parents lasts entry)) ≤ 64
   pub chain-row : length chainRow ≡ 4 ^ s .k
   pub list-row : length listRow ≡ 4 ^ s .k
 
-pub record WeighedAs (s : Settings) (sizes features partSizes partFeatures : List ℤ) (rows : List ℕ) (r : Weighed) : Type 0 where
-  pub size-is : r .size ≡ sizeOf sizes rows
-  pub scored-is : r .scored ≡ chainScore s sizes features partSizes partFeatures rows
+pub record WeighedAs (s : Settings) (t : Table) (p : Parts) (rows : List ℕ) (r : Weighed) : Type 0 where
+  pub size-is : r .size ≡ sizeOf (t .sizes) rows
+  pub scored-is : r .scored ≡ chainScore s t p rows
 
 -- what does not change in a search
 pub record Searchable (s : Settings) (t : Table) (p : Parts) (target : ℤ) (codes : List ℕ) (listSizes : List ℤ) (count parentRoom lastRoom keyRoom chainRoom listRoom : ℕ) : Type 0 where
-  pub checked : Checked s (t .starts) (t .ends) (t .sizes) (t .features) (p .sizes) (p .features)
+  pub checked : Checked s t p
   pub laid : LaidDown s (p .sizes) codes listSizes count
   pub target-is : target ≡ haplotypeSize (p .sizes)
   pub parent-room : 1 + (s .maxpaths + 1) * length (t .starts) ≤ parentRoom
@@ -126,7 +126,7 @@ pub record Gone (s : Settings) (t : Table) (p : Parts) (parents lasts : List ℕ
 
 -- what a search is begun with
 pub record Startable (s : Settings) (t : Table) (p : Parts) (parentRoom lastRoom keyRoom : ℕ) : Type 0 where
-  pub checked : Checked s (t .starts) (t .ends) (t .sizes) (t .features) (p .sizes) (p .features)
+  pub checked : Checked s t p
   pub parent-room : 1 + (s .maxpaths + 1) * length (t .starts) ≤ parentRoom
   pub last-room : 1 + (s .maxpaths + 1) * length (t .starts) ≤ lastRoom
   pub key-room : 1 + (s .maxpaths + 1) * length (t .starts) ≤ keyRoom

@@ -1,9 +1,10 @@
 // The one-to-one match: each row alone against the whole haplotype (traverse.rs, one_to_one).
 ghost use mathlib.Core.Path.{_≡_};
 ghost use Prim.Native.Nat.{_+_, _≤_};
+ghost use Rattle.params.specs.Numbers.{partsOf};
 ghost use Rattle.kplib.specs.Graph.{nodeOf};
 ghost use Rattle.kplib.specs.OneToOne.{latestOf, oneToOne};
-ghost use Rattle.kplib.specs.Scoring.{Matchable, Matching};
+ghost use Rattle.kplib.specs.Scoring.{unplaced, Matchable, Matching};
 use crate::haplotype::all_positions;
 use crate::haplotype::whole_size;
 use crate::pathscore::Scored;
@@ -45,8 +46,8 @@ fn match_rows(
     whole_row: &[i32],
     whole_size: i32,
 ) -> Lone
-    requires { ⌜ Matching s (now sizes) (now features) (now «part_sizes») (now «part_features») (now «whole_row») «whole_size» ⌝ }
-    ensures { λ r. ⌜ r ≡ oneToOne s (now (sizes .entry)) (now (features .entry)) (now («part_sizes» .entry)) (now («part_features» .entry)) ⌝ }
+    requires { ⌜ Matching s (unplaced (now sizes) (now features)) (partsOf (now «part_sizes») (now «part_features»)) (now «whole_row») «whole_size» ⌝ }
+    ensures { λ r. ⌜ r ≡ oneToOne s (unplaced (now (sizes .entry)) (now (features .entry))) (partsOf (now («part_sizes» .entry)) (now («part_features» .entry))) ⌝ }
 {
     let none = nothing();
     let mut best = Lone {
@@ -77,8 +78,8 @@ pub(crate) fn one_to_one(
     chosen: &mut [u32],
     whole_row: &mut [i32],
 ) -> Lone
-    requires { ⌜ Matchable s (now sizes) (now features) (now «part_sizes») (now «part_features») (now chosen) (now «whole_row») ⌝ }
-    ensures { λ r. ⌜ r ≡ oneToOne s (now (sizes .entry)) (now (features .entry)) (now («part_sizes» .entry)) (now («part_features» .entry)) ⌝ }
+    requires { ⌜ Matchable s (unplaced (now sizes) (now features)) (partsOf (now «part_sizes») (now «part_features»)) (now chosen) (now «whole_row») ⌝ }
+    ensures { λ r. ⌜ r ≡ oneToOne s (unplaced (now (sizes .entry)) (now (features .entry))) (partsOf (now («part_sizes» .entry)) (now («part_features» .entry))) ⌝ }
 {
     let m = part_sizes.len();
     all_positions(m, chosen);

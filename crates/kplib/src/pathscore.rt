@@ -1,14 +1,15 @@
 // The score of a chain against the part lists of a haplotype (pathscore.rs).
 ghost use mathlib.Core.Path.{_≡_};
 ghost use mathlib.Core.Bool.{_&&_};
-ghost use Prim.Native.Nat.{_≤_};
+ghost use Prim.Native.Nat.{_^_, _≤_};
+ghost use Rattle.params.specs.Numbers.{partsOf};
 ghost use lib.Dec.{eqb};
 ghost use lib.IntN.{natAbs};
 ghost use lib.ListN.{length};
 ghost use Rattle.metrics.specs.Similarity.{sizesimValue, magnitudeSum};
 ghost use Rattle.kplib.specs.Sums.{rowPlus, zeros, featuresFrom, featuresOf};
-ghost use Rattle.kplib.specs.Score.{sign, seqsimOfRows, gapOf, scoreValue, listScore, start, targetOf, greaterOf, chainScore};
-ghost use Rattle.kplib.specs.Scoring.{Summable, Ready, Comparable, mayWin, total, listOfCode, Attempt, Attempted, noneTried, Scorable};
+ghost use Rattle.kplib.specs.Score.{sign, seqsimOfRows, gapOf, scoreValue, listScore, start, targetOf, greaterOf, totalScore};
+ghost use Rattle.kplib.specs.Scoring.{Summable, Ready, Comparable, mayWin, total, chainTotal, listOfCode, Attempt, Attempted, noneTried, Scorable};
 use crate::haplotype::positions;
 use metrics::Sim;
 use metrics::lanes::magnitude;
@@ -269,8 +270,11 @@ fn try_list(
     list_row: &mut [i32],
     best: Best,
 ) -> Best
-    requires { ⌜ Attempt s (now features) (now chain) «chain_size» (now «part_sizes») (now «part_features») code size (now chosen) (now «chain_row») (now «list_row») (best .summed) ⌝ }
-    ensures { λ r. ⌜ Attempted s (now (features .entry)) (now (chain .entry)) «chain_size» (now («part_sizes» .entry)) (now («part_features» .entry)) (listOfCode (length (now («part_sizes» .entry))) code) (best .scored) r (now («chain_row» .exit)) ⌝ }
+    requires { let p = partsOf (now «part_sizes») (now «part_features») in
+        ⌜ Attempt s (now features) (now chain) «chain_size» p code size (now chosen) (now «chain_row») (now «list_row») (best .summed) ⌝ }
+    ensures { λ r.
+        let p = partsOf (now («part_sizes» .entry)) (now («part_features» .entry)) in
+        ⌜ Attempted s (now (features .entry)) (now (chain .entry)) «chain_size» p (listOfCode (length (p .sizes)) code) (best .scored) r (now («chain_row» .exit)) ⌝ }
 {
     let m = part_sizes.len();
     let n = (code / 65536) as usize;
@@ -301,11 +305,9 @@ fn none_tried() -> Best
     }
 }
 
-// The score of a chain. The scratch is lent, so that nothing is cleared for a chain that no list passes the tests with;
-// `sizes` stands in the contract alone.
+// The score of a chain of this size. The scratch is lent, so that nothing is cleared for a chain that no list passes the tests with.
 pub(crate) fn score_chain(
     s: Settings,
-    sizes: &[i32],
     features: &[i32],
     chain: &[u32],
     chain_size: i32,
@@ -318,8 +320,11 @@ pub(crate) fn score_chain(
     chain_row: &mut [i32],
     list_row: &mut [i32],
 ) -> Scored
-    requires { ⌜ Scorable s (now sizes) (now features) (now chain) «chain_size» (now «part_sizes») (now «part_features») (now codes) (now «list_sizes») count (now chosen) (now «chain_row») (now «list_row») ⌝ }
-    ensures { λ r. ⌜ r ≡ chainScore s (now (sizes .entry)) (now (features .entry)) (now («part_sizes» .entry)) (now («part_features» .entry)) (now (chain .entry)) ⌝ }
+    requires { let p = partsOf (now «part_sizes») (now «part_features») in
+        ⌜ Scorable s (now features) (now chain) «chain_size» p (now codes) (now «list_sizes») count (now chosen) (now «chain_row») (now «list_row») ⌝ }
+    ensures { λ r.
+        let p = partsOf (now («part_sizes» .entry)) (now («part_features» .entry)) in
+        ⌜ r ≡ totalScore s p (chainTotal (4 ^ s .k) (now (features .entry)) (now (chain .entry)) «chain_size») ⌝ }
 {
     let mut best = none_tried();
     let mut i: usize = 0;

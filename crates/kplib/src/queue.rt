@@ -162,7 +162,11 @@ pub(crate) fn queue_extensions(
     size: i32,
 ) -> usize
     requires { ⌜ Extending (now starts) (now ends) (now sizes) full target (now parents) (now lasts) (now keys) used queued entry (end .0) size ⌝ }
-    ensures { λ r. ⌜ Queued (mayFollowIn (now (starts .entry)) (now (ends .entry)) full) (length (now (starts .entry))) (distanceTo (now (sizes .entry)) target) (now (parents .entry)) (now (lasts .entry)) (take queued (now (keys .entry))) used entry (now (parents .exit)) (now (lasts .exit)) (take (queued + r) (now (keys .exit))) r ⌝ }
+    ensures { λ r.
+        let follows = mayFollowIn (now (starts .entry)) (now (ends .entry)) full in
+        let distance = distanceTo (now (sizes .entry)) target in
+        ⌜ Queued follows (length (now (starts .entry))) distance (now (parents .entry)) (now (lasts .entry)) (take queued (now (keys .entry))) used entry
+        (now (parents .exit)) (now (lasts .exit)) (take (queued + r) (now (keys .exit))) r ⌝ }
     ensures { λ r. ⌜ queued + r ≤ length (now (keys .exit)) ⌝ }
 {
     let mut added: usize = 0;

@@ -8,7 +8,7 @@ ghost use Rattle.paths.specs.Queue.{chainAt, Walk};
 ghost use Rattle.params.specs.Checked.{Checked};
 ghost use Rattle.params.specs.Numbers.{tableOf, partsOf};
 ghost use Rattle.kplib.specs.OneToOne.{oneToOne, loneRowsAt};
-ghost use Rattle.kplib.specs.Scoring.{Tables};
+ghost use Rattle.kplib.specs.Scoring.{unplaced, Tables};
 ghost use Rattle.kplib.specs.Search.{rowsFor};
 ghost use Rattle.kplib.specs.Answer.{searched, matchedAlone, answerWith, placed};
 ghost use Rattle.kplib.specs.SearchSteps.{answerParts, laterOf, advanced, matchedBy, Weighable, WeighedAs, Searchable, Going, Gone, Startable};
@@ -80,8 +80,13 @@ fn weigh(
     chain_row: &mut [i32],
     list_row: &mut [i32],
 ) -> Weighed
-    requires { ⌜ Weighable s (now sizes) (now features) (now «part_sizes») (now «part_features») (now codes) (now «list_sizes») count (now parents) (now lasts) entry (now «chain_row») (now «list_row») ⌝ }
-    ensures { λ r. ⌜ WeighedAs s (now (sizes .entry)) (now (features .entry)) (now («part_sizes» .entry)) (now («part_features» .entry)) (reverse (chainAt (now (parents .entry)) (now (lasts .entry)) entry)) r ⌝ }
+    requires { let t = unplaced (now sizes) (now features) in
+        let p = partsOf (now «part_sizes») (now «part_features») in
+        ⌜ Weighable s t p (now codes) (now «list_sizes») count (now parents) (now lasts) entry (now «chain_row») (now «list_row») ⌝ }
+    ensures { λ r.
+        let t = unplaced (now (sizes .entry)) (now (features .entry)) in
+        let p = partsOf (now («part_sizes» .entry)) (now («part_features» .entry)) in
+        ⌜ WeighedAs s t p (reverse (chainAt (now (parents .entry)) (now (lasts .entry)) entry)) r ⌝ }
 {
     let mut chain = [0u32; 64];
     let mut chosen = [0u32; 64];
@@ -89,7 +94,6 @@ fn weigh(
     let size = rows_size(sizes, &chain[at..]);
     let scored = score_chain(
         s,
-        sizes,
         features,
         &chain[at..],
         size,
@@ -148,10 +152,15 @@ fn step(
     list_row: &mut [i32],
     at: Progress,
 ) -> Progress
-    requires { ⌜ Searchable s (tableOf (now starts) (now ends) (now sizes) (now features)) (partsOf (now «part_sizes») (now «part_features»)) target (now codes) (now «list_sizes») count (length (now parents)) (length (now lasts)) (length (now keys)) (length (now «chain_row»)) (length (now «list_row»)) ⌝ }
-    requires { ⌜ (0 < at .queued) × (at .count < s .maxpaths + 1) × (Going s (tableOf (now starts) (now ends) (now sizes) (now features)) (partsOf (now «part_sizes») (now «part_features»)) (now parents) (now lasts) (now keys) at) ⌝ }
-    ensures { λ r. ⌜ Going s (tableOf (now (starts .entry)) (now (ends .entry)) (now (sizes .entry)) (now (features .entry))) (partsOf (now («part_sizes» .entry)) (now («part_features» .entry))) (now (parents .exit)) (now (lasts .exit)) (now (keys .exit)) r ⌝ }
-    ensures { λ r. ⌜ r .count ≡ at .count + 1 ⌝ }
+    requires { let t = tableOf (now starts) (now ends) (now sizes) (now features) in
+        let p = partsOf (now «part_sizes») (now «part_features») in
+        ⌜ (Searchable s t p target (now codes) (now «list_sizes») count (length (now parents)) (length (now lasts)) (length (now keys))
+        (length (now «chain_row»)) (length (now «list_row»)))
+        × ((0 < at .queued) × (at .count < s .maxpaths + 1) × (Going s t p (now parents) (now lasts) (now keys) at)) ⌝ }
+    ensures { λ r.
+        let t = tableOf (now (starts .entry)) (now (ends .entry)) (now (sizes .entry)) (now (features .entry)) in
+        let p = partsOf (now («part_sizes» .entry)) (now («part_features» .entry)) in
+        ⌜ (Going s t p (now (parents .exit)) (now (lasts .exit)) (now (keys .exit)) r) × (r .count ≡ at .count + 1) ⌝ }
 {
     let entry = take_next(keys, at.queued);
     let weighed = weigh(
@@ -209,9 +218,15 @@ fn run(
     list_row: &mut [i32],
     from: Progress,
 ) -> Progress
-    requires { ⌜ Searchable s (tableOf (now starts) (now ends) (now sizes) (now features)) (partsOf (now «part_sizes») (now «part_features»)) target (now codes) (now «list_sizes») count (length (now parents)) (length (now lasts)) (length (now keys)) (length (now «chain_row»)) (length (now «list_row»)) ⌝ }
-    requires { ⌜ Going s (tableOf (now starts) (now ends) (now sizes) (now features)) (partsOf (now «part_sizes») (now «part_features»)) (now parents) (now lasts) (now keys) from ⌝ }
-    ensures { λ r. ⌜ Gone s (tableOf (now (starts .entry)) (now (ends .entry)) (now (sizes .entry)) (now (features .entry))) (partsOf (now («part_sizes» .entry)) (now («part_features» .entry))) (now (parents .exit)) (now (lasts .exit)) r ⌝ }
+    requires { let t = tableOf (now starts) (now ends) (now sizes) (now features) in
+        let p = partsOf (now «part_sizes») (now «part_features») in
+        ⌜ (Searchable s t p target (now codes) (now «list_sizes») count (length (now parents)) (length (now lasts)) (length (now keys))
+        (length (now «chain_row»)) (length (now «list_row»)))
+        × (Going s t p (now parents) (now lasts) (now keys) from) ⌝ }
+    ensures { λ r.
+        let t = tableOf (now (starts .entry)) (now (ends .entry)) (now (sizes .entry)) (now (features .entry)) in
+        let p = partsOf (now («part_sizes» .entry)) (now («part_features» .entry)) in
+        ⌜ Gone s t p (now (parents .exit)) (now (lasts .exit)) r ⌝ }
 {
     let steps = s.maxpaths as usize + 1;
     let mut at = from;
@@ -270,7 +285,9 @@ fn put_rows(from: &[u32], rows: &mut [u32])
 // Writes the rows of an entry's chain to the front of the answer buffer. Returns how many.
 fn copy_chain(parents: &[u32], lasts: &[u32], entry: usize, rows: &mut [u32]) -> usize
     requires { ⌜ (Walk (now parents) (now lasts) entry 64) × (length (chainAt (now parents) (now lasts) entry) ≤ length (now rows)) ⌝ }
-    ensures { λ r. ⌜ (r ≡ length (reverse (chainAt (now (parents .entry)) (now (lasts .entry)) entry))) × (now (rows .exit) ≡ placed (now (rows .entry)) (reverse (chainAt (now (parents .entry)) (now (lasts .entry)) entry))) ⌝ }
+    ensures { λ r.
+        let chain = reverse (chainAt (now (parents .entry)) (now (lasts .entry)) entry) in
+        ⌜ (r ≡ length chain) × (now (rows .exit) ≡ placed (now (rows .entry)) chain) ⌝ }
 {
     let mut chain = [0u32; 64];
     let at = read_chain(parents, lasts, entry, &mut chain);
@@ -287,7 +304,9 @@ fn place_chain(
     rows: &mut [u32],
 ) -> usize
     requires { ⌜ (Walk (now parents) (now lasts) entry 64) × (length (chainAt (now parents) (now lasts) entry) ≤ length (now rows)) ⌝ }
-    ensures { λ r. ⌜ (r ≡ length (rowsFor target (reverse (chainAt (now (parents .entry)) (now (lasts .entry)) entry)))) × (now (rows .exit) ≡ placed (now (rows .entry)) (rowsFor target (reverse (chainAt (now (parents .entry)) (now (lasts .entry)) entry)))) ⌝ }
+    ensures { λ r.
+        let chain = rowsFor target (reverse (chainAt (now (parents .entry)) (now (lasts .entry)) entry)) in
+        ⌜ (r ≡ length chain) × (now (rows .exit) ≡ placed (now (rows .entry)) chain) ⌝ }
 {
     if matched(target) {
         return copy_chain(parents, lasts, entry, rows);
@@ -345,8 +364,13 @@ fn search(
     lasts: &mut [u32],
     keys: &mut [u64],
 ) -> Progress
-    requires { ⌜ Startable s (tableOf (now starts) (now ends) (now sizes) (now features)) (partsOf (now «part_sizes») (now «part_features»)) (length (now parents)) (length (now lasts)) (length (now keys)) ⌝ }
-    ensures { λ r. ⌜ Gone s (tableOf (now (starts .entry)) (now (ends .entry)) (now (sizes .entry)) (now (features .entry))) (partsOf (now («part_sizes» .entry)) (now («part_features» .entry))) (now (parents .exit)) (now (lasts .exit)) r ⌝ }
+    requires { let t = tableOf (now starts) (now ends) (now sizes) (now features) in
+        let p = partsOf (now «part_sizes») (now «part_features») in
+        ⌜ Startable s t p (length (now parents)) (length (now lasts)) (length (now keys)) ⌝ }
+    ensures { λ r.
+        let t = tableOf (now (starts .entry)) (now (ends .entry)) (now (sizes .entry)) (now (features .entry)) in
+        let p = partsOf (now («part_sizes» .entry)) (now («part_features» .entry)) in
+        ⌜ Gone s t p (now (parents .exit)) (now (lasts .exit)) r ⌝ }
 {
     let mut codes = [0u32; 2047];
     let mut list_sizes = [0i32; 2047];
@@ -399,10 +423,13 @@ fn answer_search(
     keys: &mut [u64],
     rows: &mut [u32],
 ) -> Answer
-    requires { ⌜ Startable s (tableOf (now starts) (now ends) (now sizes) (now features)) (partsOf (now «part_sizes») (now «part_features»)) (length (now parents)) (length (now lasts)) (length (now keys)) ⌝ }
-    requires { ⌜ length (now starts) ≤ length (now rows) ⌝ }
-    ensures { λ r. ⌜ r ≡ answerWith 0 (searched s (tableOf (now (starts .entry)) (now (ends .entry)) (now (sizes .entry)) (now (features .entry))) (partsOf (now («part_sizes» .entry)) (now («part_features» .entry)))) ⌝ }
-    ensures { λ _. ⌜ now (rows .exit) ≡ placed (now (rows .entry)) (searched s (tableOf (now (starts .entry)) (now (ends .entry)) (now (sizes .entry)) (now (features .entry))) (partsOf (now («part_sizes» .entry)) (now («part_features» .entry))) .rows) ⌝ }
+    requires { let t = tableOf (now starts) (now ends) (now sizes) (now features) in
+        let p = partsOf (now «part_sizes») (now «part_features») in
+        ⌜ (Startable s t p (length (now parents)) (length (now lasts)) (length (now keys))) × (length (now starts) ≤ length (now rows)) ⌝ }
+    ensures { λ r.
+        let t = tableOf (now (starts .entry)) (now (ends .entry)) (now (sizes .entry)) (now (features .entry)) in
+        let p = partsOf (now («part_sizes» .entry)) (now («part_features» .entry)) in
+        ⌜ (r ≡ answerWith 0 (searched s t p)) × (now (rows .exit) ≡ placed (now (rows .entry)) (searched s t p .rows)) ⌝ }
 {
     let end = search(
         s,
@@ -431,8 +458,8 @@ fn alone(
     part_sizes: &[i32],
     part_features: &[i32],
 ) -> Lone
-    requires { ⌜ (1 ≤ s .k) × (s .k ≤ 6) × (Tables s (now sizes) (now features) (now «part_sizes») (now «part_features»)) ⌝ }
-    ensures { λ r. ⌜ r ≡ (oneToOne s (now (sizes .entry)) (now (features .entry)) (now («part_sizes» .entry)) (now («part_features» .entry))) ⌝ }
+    requires { ⌜ (1 ≤ s .k) × (s .k ≤ 6) × (Tables s (unplaced (now sizes) (now features)) (partsOf (now «part_sizes») (now «part_features»))) ⌝ }
+    ensures { λ r. ⌜ r ≡ oneToOne s (unplaced (now (sizes .entry)) (now (features .entry))) (partsOf (now («part_sizes» .entry)) (now («part_features» .entry))) ⌝ }
 {
     let mut chosen = [0u32; 64];
     let mut whole_row = [0i32; 4096];
@@ -459,10 +486,12 @@ fn answer_alone(
     part_features: &[i32],
     rows: &mut [u32],
 ) -> Answer
-    requires { ⌜ Checked s (now starts) (now ends) (now sizes) (now features) (now «part_sizes») (now «part_features») ⌝ }
+    requires { ⌜ Checked s (tableOf (now starts) (now ends) (now sizes) (now features)) (partsOf (now «part_sizes») (now «part_features»)) ⌝ }
     requires { ⌜ length (now starts) ≤ length (now rows) ⌝ }
-    ensures { λ r. ⌜ r ≡ answerWith 0 (matchedAlone s (tableOf (now (starts .entry)) (now (ends .entry)) (now (sizes .entry)) (now (features .entry))) (partsOf (now («part_sizes» .entry)) (now («part_features» .entry)))) ⌝ }
-    ensures { λ _. ⌜ now (rows .exit) ≡ placed (now (rows .entry)) (matchedAlone s (tableOf (now (starts .entry)) (now (ends .entry)) (now (sizes .entry)) (now (features .entry))) (partsOf (now («part_sizes» .entry)) (now («part_features» .entry))) .rows) ⌝ }
+    ensures { λ r.
+        let t = tableOf (now (starts .entry)) (now (ends .entry)) (now (sizes .entry)) (now (features .entry)) in
+        let p = partsOf (now («part_sizes» .entry)) (now («part_features» .entry)) in
+        ⌜ (r ≡ answerWith 0 (matchedAlone s t p)) × (now (rows .exit) ≡ placed (now (rows .entry)) (matchedAlone s t p .rows)) ⌝ }
 {
     let lone = alone(s, sizes, features, part_sizes, part_features);
     let scored = lone.scored;

@@ -54,7 +54,10 @@ pub(crate) fn extends(starts: &[u64], ends: &[u64], full: bool, end: Node, row: 
 // How many chains go on from a chain that ends at this node by this row or a later one; at most cap.
 fn count_rows(starts: &[u64], ends: &[u64], end: Node, row: Row, cap: u32) -> u32
     requires { ⌜ Walk (now starts) (now ends) (end .0) (row .0) cap ⌝ }
-    ensures { λ r. ⌜ r ≡ min cap (sumRowsFrom (extendsAt (edge (now (starts .entry)) (now (ends .entry))) true (end .0)) (rowCount (edge (now (starts .entry)) (now (ends .entry))) (length (now (starts .entry)))) (length (now (starts .entry)) - row .0) (row .0)) ⌝ }
+    ensures { λ r.
+        let linked = edge (now (starts .entry)) (now (ends .entry)) in
+        let v = length (now (starts .entry)) in
+        ⌜ r ≡ min cap (sumRowsFrom (extendsAt linked true (end .0)) (rowCount linked v) (v - row .0) (row .0)) ⌝ }
 {
     if cap == 0 {
         return 0;

@@ -14,7 +14,7 @@ use Rattle.metrics.specs.Similarity.{magnitudeSum}
 use Rattle.metrics.proofs.Entries.{few-entries}
 use Rattle.params.specs.declared.Settings.{Settings}
 use Rattle.params.specs.Checked.{Flat, Checked}
-use Rattle.params.specs.Numbers.{Table, Parts, badK, badNumber, badSize, badRow, searchMode, queueNeeds, littleQueueRoom, settingsRules, lengthRules, roomRules, callRules, firstFault, rowAt}
+use Rattle.params.specs.Numbers.{Table, Parts, Call, badK, badNumber, badSize, badRow, searchMode, queueNeeds, littleQueueRoom, settingsRules, lengthRules, roomRules, callRules, firstFault, rowAt}
 use Rattle.params.proofs.CheckLaws.{Passed, none-given, or-no, and-yes, any-where}
 
 agreed : (a b : ℕ) → not (eqb a b) ≡ false → a ≡ b
@@ -104,12 +104,21 @@ row-within e n features flat none r = go (ltb r n) refl
 flat-of : (n e : ℕ) (features : List ℤ) → n ≤ 64 → e ≤ 4096 → length features ≡ n * e → badRow e n features ≡ false → Flat n e features
 flat-of n e features few short flat none = record { few = few; short = short; flat = flat; rowed = row-within e n features flat none }
 
-module _ (s : Settings) (t : Table) (p : Parts) (queueRoom answerRoom : ℕ) (zeroFault : firstFault s t p queueRoom answerRoom ≡ 0) where
-  all-passed : Passed (callRules s t p queueRoom answerRoom)
-  unfolding firstFault
-  all-passed = none-given (callRules s t p queueRoom answerRoom) refl zeroFault
+module _ (c : Call) (zeroFault : firstFault c ≡ 0) where
+  abbrev s : Settings
+  s = c .settings
 
-  pub accepted : Checked s (t .starts) (t .ends) (t .sizes) (t .features) (p .sizes) (p .features)
+  abbrev t : Table
+  t = c .table
+
+  abbrev p : Parts
+  p = c .parts
+
+  all-passed : Passed (callRules c)
+  unfolding firstFault
+  all-passed = none-given (callRules c) refl zeroFault
+
+  pub accepted : Checked s t p
   accepted =
       let a = all-passed in
       let q = a .1 .1 .1 in
@@ -132,14 +141,14 @@ module _ (s : Settings) (t : Table) (p : Parts) (queueRoom answerRoom : ℕ) (ze
         part-rows = flat-of (length (p .sizes)) (4 ^ s .k) (p .features) (m .part-few) (few-entries (s .k) (h .k-high)) (m .part-rows) (limits .1 .1 .1 .0);
       }
 
-  abbrev rooms : Passed (roomRules s (length (t .starts)) queueRoom answerRoom)
+  abbrev rooms : Passed (roomRules s (length (t .starts)) (c .queueRoom) (c .answerRoom))
   rooms = all-passed .1 .1 .1 .1 .1 .1 .1 .1 .1 .1 .1 .1 .1 .1
 
-  pub queue-suffices : searchMode s (length (t .starts)) ≡ true → queueNeeds s (length (t .starts)) ≤ queueRoom
+  pub queue-suffices : searchMode s (length (t .starts)) ≡ true → queueNeeds s (length (t .starts)) ≤ c .queueRoom
   unfolding littleQueueRoom
   queue-suffices mode =
-      let full : ltb queueRoom (queueNeeds s (length (t .starts))) ≡ false = rw mode at (rooms .0) in
-      ltb-false queueRoom (queueNeeds s (length (t .starts))) full
+      let full : ltb (c .queueRoom) (queueNeeds s (length (t .starts))) ≡ false = rw mode at (rooms .0) in
+      ltb-false (c .queueRoom) (queueNeeds s (length (t .starts))) full
 
-  pub answer-suffices : length (t .starts) ≤ answerRoom
-  answer-suffices = ltb-false answerRoom (length (t .starts)) (rooms .1 .0)
+  pub answer-suffices : length (t .starts) ≤ c .answerRoom
+  answer-suffices = ltb-false (c .answerRoom) (length (t .starts)) (rooms .1 .0)

@@ -27,25 +27,28 @@ pub record Parts : Type 0 where
 abbrev pub partsOf : List ℤ → List ℤ → Parts
 partsOf a b = record { sizes = a; features = b }
 
+-- a call: the settings, what is lent, and the room for queue entries and for the rows of an answer
+pub record Call : Type 0 where
+  pub settings : Settings
+  pub table : Table
+  pub parts : Parts
+  pub queueRoom : ℕ
+  pub answerRoom : ℕ
+
+abbrev pub callOf : Settings → Table → Parts → ℕ → ℕ → Call
+callOf s t p queueRoom answerRoom = record { settings = s; table = t; parts = p; queueRoom = queueRoom; answerRoom = answerRoom }
+
 -- row r of a table that holds rows of e entries one behind the other
 abbrev pub rowAt : ℕ → List ℤ → ℕ → List ℤ
 rowAt e table r = take e (drop (r * e) table)
 
--- whom a row of the table of refusals concerns
-pub data Concern : Type 0 where
-  settings : Concern
-  table : Concern
-  parts : Concern
-  room : Concern
-
--- a row of the table of refusals: its number, whom it concerns, and whether it is to be given
+-- a row of the table of refusals: its number, and whether it is to be given
 pub record Rule : Type 0 where
   pub number : ℕ
-  pub concern : Concern
   pub given : Bool
 
-abbrev pub rule : ℕ → Concern → Bool → Rule
-rule n c t = record { number = n; concern = c; given = t }
+abbrev pub rule : ℕ → Bool → Rule
+rule n t = record { number = n; given = t }
 
 -- the rows are tried in order; 0 is an accepted call
 abbrev pub firstOf : List Rule → ℕ
@@ -130,51 +133,51 @@ littleAnswerRoom v answerRoom = ltb answerRoom v
 
 -- the rows of the table, each over all variants and then all parts; e is 4^k
 abbrev pub settingsRules : Settings → List Rule
-settingsRules s = rule 1 settings (badK s) ∷ (rule 2 settings (badFloat s) ∷ (rule 3 settings (badNumber s) ∷ []))
+settingsRules s = rule 1 (badK s) ∷ (rule 2 (badFloat s) ∷ (rule 3 (badNumber s) ∷ []))
 
 abbrev pub lengthRules : ℕ → Table → Parts → List Rule
 lengthRules e t p =
-    rule 4 table (noVariants (t .starts))
-    ∷ (rule 5 table (tooMany (length (t .starts)))
-    ∷ (rule 5 parts (tooMany (length (p .sizes)))
-    ∷ (rule 6 table (tableDisagrees e t)
-    ∷ (rule 6 parts (partsDisagree e p)
+    rule 4 (noVariants (t .starts))
+    ∷ (rule 5 (tooMany (length (t .starts)))
+    ∷ (rule 5 (tooMany (length (p .sizes)))
+    ∷ (rule 6 (tableDisagrees e t)
+    ∷ (rule 6 (partsDisagree e p)
     ∷ []))))
 
 abbrev pub boundRules : List ℕ → List ℕ → List Rule
-boundRules starts ends = rule 7 table (startAfterEnd starts ends) ∷ (rule 8 table (fallingStart starts) ∷ [])
+boundRules starts ends = rule 7 (startAfterEnd starts ends) ∷ (rule 8 (fallingStart starts) ∷ [])
 
 abbrev pub limitRules : ℕ → Table → Parts → List Rule
 limitRules e t p =
-    rule 9 table (badSize (t .sizes))
-    ∷ (rule 9 parts (badSize (p .sizes))
-    ∷ (rule 10 table (badRow e (length (t .starts)) (t .features))
-    ∷ (rule 10 parts (badRow e (length (p .sizes)) (p .features))
+    rule 9 (badSize (t .sizes))
+    ∷ (rule 9 (badSize (p .sizes))
+    ∷ (rule 10 (badRow e (length (t .starts)) (t .features))
+    ∷ (rule 10 (badRow e (length (p .sizes)) (p .features))
     ∷ [])))
 
 abbrev pub roomRules : Settings → ℕ → ℕ → ℕ → List Rule
 roomRules s v queueRoom answerRoom =
-    rule 11 room (littleQueueRoom s v queueRoom) ∷ (rule 12 room (littleAnswerRoom v answerRoom) ∷ [])
+    rule 11 (littleQueueRoom s v queueRoom) ∷ (rule 12 (littleAnswerRoom v answerRoom) ∷ [])
 
 -- checked in this order
-abbrev pub callRules : Settings → Table → Parts → ℕ → ℕ → List Rule
-callRules s t p queueRoom answerRoom =
-    settingsRules s
-    ++ (lengthRules (4 ^ s .k) t p
-    ++ (boundRules (t .starts) (t .ends)
-    ++ (limitRules (4 ^ s .k) t p
-    ++ roomRules s (length (t .starts)) queueRoom answerRoom)))
+abbrev pub callRules : Call → List Rule
+callRules c =
+    settingsRules (c .settings)
+    ++ (lengthRules (4 ^ c .settings .k) (c .table) (c .parts)
+    ++ (boundRules (c .table .starts) (c .table .ends)
+    ++ (limitRules (4 ^ c .settings .k) (c .table) (c .parts)
+    ++ roomRules (c .settings) (length (c .table .starts)) (c .queueRoom) (c .answerRoom))))
 
-unfoldable pub firstFault : Settings → Table → Parts → ℕ → ℕ → ℕ
-firstFault s t p queueRoom answerRoom = firstOf (callRules s t p queueRoom answerRoom)
+unfoldable pub firstFault : Call → ℕ
+firstFault c = firstOf (callRules c)
 
 -- the chain count asked for by itself: cap at most 4,096, else 3; also 4 to 8
 abbrev pub chainCountRules : ℕ → List ℕ → List ℕ → List Rule
 chainCountRules cap starts ends =
-    rule 3 settings (ltb 4096 cap)
-    ∷ (rule 4 table (noVariants starts)
-    ∷ (rule 5 table (tooMany (length starts))
-    ∷ (rule 6 table (disagrees (length ends) (length starts))
+    rule 3 (ltb 4096 cap)
+    ∷ (rule 4 (noVariants starts)
+    ∷ (rule 5 (tooMany (length starts))
+    ∷ (rule 6 (disagrees (length ends) (length starts))
     ∷ boundRules starts ends)))
 
 unfoldable pub chainCountFault : ℕ → List ℕ → List ℕ → ℕ

@@ -6,14 +6,14 @@ use mathlib.Core.Bool.{Bool}
 use mathlib.Core.List.{List}
 use lib.IntN.{ℤ}
 use Rattle.params.specs.declared.Settings.{Settings}
-use Rattle.params.specs.Numbers.{tableOf, partsOf, searchMode, firstFault, chainCountFault}
+use Rattle.params.specs.Numbers.{tableOf, partsOf, callOf, searchMode, firstFault, chainCountFault}
 
 abbrev pub SearchModePromise : Settings → ℕ → Bool → Type 0
 SearchModePromise s v r = r ≡ searchMode s v
 
 abbrev pub CallFaultPromise : Settings → List ℕ → List ℕ → List ℤ → List ℤ → List ℤ → List ℤ → ℕ → ℕ → ℕ → Type 0
 CallFaultPromise s starts ends sizes features partSizes partFeatures queueRoom answerRoom r =
-    r ≡ firstFault s (tableOf starts ends sizes features) (partsOf partSizes partFeatures) queueRoom answerRoom
+    r ≡ firstFault (callOf s (tableOf starts ends sizes features) (partsOf partSizes partFeatures) queueRoom answerRoom)
 
 abbrev pub CountFaultPromise : List ℕ → List ℕ → ℕ → ℕ → Type 0
 CountFaultPromise starts ends cap r = r ≡ chainCountFault cap starts ends

@@ -19,7 +19,8 @@ use metrics::refusals::TOO_MANY;
 ghost use mathlib.Core.Path.{_≡_};
 ghost use Prim.Native.Nat.{_*_, _≤_};
 ghost use lib.ListN.{length};
-ghost use Rattle.params.specs.Numbers.{tableOf, partsOf, firstOf, startAfterEnd, fallingStart, badSize, badRow, littleQueueRoom, lengthRules, boundRules, limitRules, roomRules};
+ghost use Rattle.params.specs.Numbers.{tableOf, partsOf, firstOf, startAfterEnd, fallingStart, badSize, badRow, littleQueueRoom};
+ghost use Rattle.params.specs.Numbers.{lengthRules, boundRules, limitRules, roomRules};
 ghost use Rattle.params.specs.CheckSteps.{Shaped};
 ghost use Rattle.params.specs.Promises.{CallFaultPromise, CountFaultPromise};
 
@@ -34,7 +35,10 @@ fn length_fault(
     part_features: &[i32],
 ) -> u32
     requires { ⌜ e ≤ 4096 ⌝ }
-    ensures { λ r. ⌜ r ≡ firstOf (lengthRules e (tableOf (now (starts .entry)) (now (ends .entry)) (now (sizes .entry)) (now (features .entry))) (partsOf (now («part_sizes» .entry)) (now («part_features» .entry)))) ⌝ }
+    ensures { λ r.
+        let t = tableOf (now (starts .entry)) (now (ends .entry)) (now (sizes .entry)) (now (features .entry)) in
+        let p = partsOf (now («part_sizes» .entry)) (now («part_features» .entry)) in
+        ⌜ r ≡ firstOf (lengthRules e t p) ⌝ }
 {
     if starts.len() == 0 {
         return NO_VARIANTS;
@@ -143,7 +147,10 @@ fn limit_fault(
     part_features: &[i32],
 ) -> u32
     requires { ⌜ Shaped e (now starts) (now features) (now «part_sizes») (now «part_features») ⌝ }
-    ensures { λ r. ⌜ r ≡ firstOf (limitRules e (tableOf (now (starts .entry)) (now (ends .entry)) (now (sizes .entry)) (now (features .entry))) (partsOf (now («part_sizes» .entry)) (now («part_features» .entry)))) ⌝ }
+    ensures { λ r.
+        let t = tableOf (now (starts .entry)) (now (ends .entry)) (now (sizes .entry)) (now (features .entry)) in
+        let p = partsOf (now («part_sizes» .entry)) (now («part_features» .entry)) in
+        ⌜ r ≡ firstOf (limitRules e t p) ⌝ }
 {
     if bad_size(sizes) {
         return BAD_SIZE;

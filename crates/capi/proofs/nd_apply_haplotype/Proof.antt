@@ -19,7 +19,7 @@ apply-haplotype-requires c κs = search needs
 put-report-requires : tie.Need-put-report-requires
 put-report-requires c κs =
     let applied = c .before .before .before .before .before .before .before .before .before .apply-haplotype in
-    rw (applied .ensures .0) (target-within _ _ _ _ _)
+    rw (applied .ensures .0) (target-within _)
 
 -- src/lib.rt:93:1
 same-length : tie.Need-same-length

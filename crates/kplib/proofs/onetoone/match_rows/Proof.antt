@@ -3,20 +3,15 @@ use native.Mathlib.Omega.{arith}
 use borrow.Author.Needs.{needs}
 use Prim.Native.Nat.{_-_, _≤_}
 use lib.ListN.{length}
-use Rattle.kplib.specs.Scoring.{Tables}
+use Rattle.params.specs.Numbers.{partsOf}
+use Rattle.kplib.specs.Scoring.{unplaced}
 use Rattle.kplib.proofs.OneToOneLaws.{Matched, none-matched, row-matched, all-matched, row-room, row-comparable, row-scored}
 use Rattle.kplib.proofs.onetoone.match_rows.Statement.{statement}
 use Rattle.kplib.proofs.onetoone.match_rows.Tie as tie
-use Rattle.kplib.proofs.onetoone.match_rows.Reads as reads
-use Rattle.kplib.proofs.onetoone.match_rows.Lts as lts
-use Rattle.kplib.proofs.onetoone.latest_of.Reads as latest-of-reads
-use Rattle.kplib.proofs.pathscore.greater_of.Reads as greater-of-reads
-use Rattle.kplib.proofs.pathscore.list_score.Reads as list-score-reads
-use Rattle.kplib.proofs.pathscore.nothing.Reads as nothing-reads
 
 abbrev Inv-loop : tie.InvT-loop
 Inv-loop s sizes features part-sizes part-features whole-row whole-size best₀ width m r₀ best r =
-    (r ≤ length sizes) × ((y : Tables s sizes features part-sizes part-features) → Matched s sizes features part-sizes part-features y best r)
+    (r ≤ length sizes) × Matched s (unplaced sizes features) (partsOf part-sizes part-features) best r
 
 abbrev μ-loop : tie.MeasureT-loop
 μ-loop s sizes features part-sizes part-features whole-row whole-size best₀ width m r₀ best r = length sizes - r
@@ -26,18 +21,17 @@ nothing-requires c κs = search needs
 
 loop-holds : tie.Need-loop-holds Inv-loop μ-loop
 loop-holds c =
-    let s = c .before in
-    (omega arith, λ y. none-matched (s .args .s) (s .args .sizes .now) (s .args .features .now) (s .args .part-sizes .now) (s .args .part-features .now) y _ (c .nothing .ensures))
+    (omega arith, none-matched (c .before .pre .tables) (c .nothing .ensures))
 
 mul-a : tie.Need-mul-a Inv-loop μ-loop
 mul-a c =
     let s = c .before .before .before in
-    omega (arith, row-room (s .args .s) (s .args .sizes .now) (s .args .features .now) (s .args .part-sizes .now) (s .args .part-features .now) (s .args .whole-row .now) (s .args .whole-size) (s .pre) (c .before .loop .r) (c .loop-test .taken))
+    omega (arith, row-room (s .pre) (c .loop-test .taken))
 
 add-e : tie.Need-add-e Inv-loop μ-loop
 add-e c =
     let s = c .before .before .before in
-    omega (arith, row-room (s .args .s) (s .args .sizes .now) (s .args .features .now) (s .args .part-sizes .now) (s .args .part-features .now) (s .args .whole-row .now) (s .args .whole-size) (s .pre) (c .before .loop .r) (c .loop-test .taken))
+    omega (arith, row-room (s .pre) (c .loop-test .taken))
 
 mul-list-score : tie.Need-mul-list-score Inv-loop μ-loop
 mul-list-score c = search needs
@@ -48,12 +42,12 @@ shared-slice-copy-out-list-score c = search needs
 mul-list-score-2 : tie.Need-mul-list-score-2 Inv-loop μ-loop
 mul-list-score-2 c =
     let s = c .before .before .before .before in
-    omega (arith, row-room (s .args .s) (s .args .sizes .now) (s .args .features .now) (s .args .part-sizes .now) (s .args .part-features .now) (s .args .whole-row .now) (s .args .whole-size) (s .pre) (c .before .before .loop .r) (c .before .loop-test .taken))
+    omega (arith, row-room (s .pre) (c .before .loop-test .taken))
 
 sub-list-score : tie.Need-sub-list-score Inv-loop μ-loop
 sub-list-score c =
     let s = c .before .before .before .before in
-    omega (arith, row-room (s .args .s) (s .args .sizes .now) (s .args .features .now) (s .args .part-sizes .now) (s .args .part-features .now) (s .args .whole-row .now) (s .args .whole-size) (s .pre) (c .before .before .loop .r) (c .before .loop-test .taken))
+    omega (arith, row-room (s .pre) (c .before .loop-test .taken))
 
 part-list-score-start : tie.Need-part-list-score-start Inv-loop μ-loop
 part-list-score-start c = search needs
@@ -61,12 +55,12 @@ part-list-score-start c = search needs
 part-list-score-end : tie.Need-part-list-score-end Inv-loop μ-loop
 part-list-score-end c =
     let s = c .before .before .before .before in
-    row-room (s .args .s) (s .args .sizes .now) (s .args .features .now) (s .args .part-sizes .now) (s .args .part-features .now) (s .args .whole-row .now) (s .args .whole-size) (s .pre) (c .before .before .loop .r) (c .before .loop-test .taken) .0
+    row-room (s .pre) (c .before .loop-test .taken) .0
 
 list-score-requires : tie.Need-list-score-requires Inv-loop μ-loop
 list-score-requires c κs =
     let s = c .before .before .before .before .before in
-    row-comparable (s .args .s) (s .args .sizes .now) (s .args .features .now) (s .args .part-sizes .now) (s .args .part-features .now) (s .args .whole-row .now) (s .args .whole-size) (s .pre) (c .before .before .before .loop .r) (c .before .before .loop-test .taken)
+    row-comparable (s .pre) (c .before .before .loop-test .taken)
 
 nothing-requires-2 : tie.Need-nothing-requires-2 Inv-loop μ-loop
 nothing-requires-2 c κs = search needs
@@ -90,12 +84,12 @@ loop-again : tie.Need-loop-again Inv-loop μ-loop
 loop-again c =
     let s = c .before .before .before .before .before .before .before .before .before in
     let l = c .before .before .before .before .before .before .before in
-    (omega (arith, c .before .before .before .before .before .before .loop-test .taken), λ y. row-matched (s .args .s) (s .args .sizes .now) (s .args .features .now) (s .args .part-sizes .now) (s .args .part-features .now) y (l .loop .best) _ _ (l .loop .r) (c .before .before .before .before .before .before .loop-test .taken) (row-scored (s .args .s) (s .args .sizes .now) (s .args .features .now) (s .args .part-sizes .now) (s .args .part-features .now) (s .args .whole-row .now) (s .args .whole-size) (s .pre) (l .loop .r) (c .before .before .before .before .before .before .loop-test .taken) _ _ _ (c .before .before .nothing2 .ensures) (c .before .before .before .list-score .ensures) (c .before .greater-of .ensures)) (c .latest-of .ensures) (l .loop .inv .1 y))
+    (omega (arith, c .before .before .before .before .before .before .loop-test .taken), row-matched (s .pre .tables) (l .loop .best) (c .before .before .before .before .before .before .loop-test .taken) (row-scored (s .pre) (c .before .before .before .before .before .before .loop-test .taken) (c .before .before .nothing2 .ensures) (c .before .before .before .list-score .ensures) (c .before .greater-of .ensures)) (c .latest-of .ensures) (l .loop .inv .1))
 
 returns : tie.Need-returns Inv-loop μ-loop
 returns c =
     let s = c .before .before .before in
-    all-matched (s .args .s) (s .args .sizes .now) (s .args .features .now) (s .args .part-sizes .now) (s .args .part-features .now) (s .pre .tables) (c .before .loop .best) (c .before .loop .r) (omega (arith, c .before .loop .inv .0, c .loop-test .left)) (c .before .loop .inv .1 (s .pre .tables))
+    all-matched (s .pre .tables) (omega (arith, c .before .loop .inv .0, c .loop-test .left)) (c .before .loop .inv .1)
 
 pub match-rows-spec : {M : Type 1} → statement M
 match-rows-spec =

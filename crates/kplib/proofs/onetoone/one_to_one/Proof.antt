@@ -7,12 +7,6 @@ use Rattle.kplib.proofs.OneToOneLaws.{whole-ok, matching}
 use borrow.Author.Needs.{needs}
 use Rattle.kplib.proofs.onetoone.one_to_one.Statement.{statement}
 use Rattle.kplib.proofs.onetoone.one_to_one.Tie as tie
-use Rattle.kplib.proofs.onetoone.one_to_one.Reads as reads
-use Rattle.kplib.proofs.onetoone.one_to_one.Lts as lts
-use Rattle.kplib.proofs.haplotype.all_positions.Reads as all-positions-reads
-use Rattle.kplib.proofs.haplotype.whole_size.Reads as whole-size-reads
-use Rattle.kplib.proofs.onetoone.match_rows.Reads as match-rows-reads
-use Rattle.kplib.proofs.pathscore.sum_rows.Reads as sum-rows-reads
 
 all-positions-requires : tie.Need-all-positions-requires
 all-positions-requires c κs = search needs
@@ -28,7 +22,7 @@ slice-aggregate-sum-rows c =
 sum-rows-requires : tie.Need-sum-rows-requires
 sum-rows-requires c κs =
     let s = c .before .before .before .before .before .before .before in
-    whole-ok (s .args .s) (s .args .sizes .now) (s .args .features .now) (s .args .part-sizes .now) (s .args .part-features .now) (s .args .chosen .now) (s .args .whole-row .now) (s .pre) _ (c .before .before .before .before .all-positions .ensures)
+    whole-ok (s .pre) (c .before .before .before .before .all-positions .ensures)
 
 whole-size-requires : tie.Need-whole-size-requires
 whole-size-requires c κs = search needs
@@ -36,7 +30,7 @@ whole-size-requires c κs = search needs
 match-rows-requires : tie.Need-match-rows-requires
 match-rows-requires c κs =
     let s = c .before .before .before .before .before .before .before .before .before .before .before in
-    matching (s .args .s) (s .args .sizes .now) (s .args .features .now) (s .args .part-sizes .now) (s .args .part-features .now) (s .args .chosen .now) (s .args .whole-row .now) (s .pre) _ (c .before .before .before .before .before .before .before .before .all-positions .ensures) _ (c .before .before .before .sum-rows .ensures) _ (c .before .whole-size .ensures)
+    matching (s .pre) (c .before .before .before .before .before .before .before .before .all-positions .ensures) (c .before .before .before .sum-rows .ensures) (c .before .whole-size .ensures)
 
 same-length : tie.Need-same-length
 same-length c = search needs

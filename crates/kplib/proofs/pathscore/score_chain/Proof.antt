@@ -6,29 +6,25 @@ use Prim.Native.Nat.{_-_, _≤_}
 use lib.ListN.{length}
 use mir.Syntax.{w32}
 use mir.Val.{toZ}
+use Rattle.params.specs.Numbers.{partsOf}
 use Rattle.kplib.proofs.ChainScoreLaws.{Tried, none-tried, attempt, one-more, all-tried}
 use Rattle.kplib.proofs.pathscore.score_chain.Statement.{statement}
 use Rattle.kplib.proofs.pathscore.score_chain.Tie as tie
-use Rattle.kplib.proofs.pathscore.score_chain.Reads as reads
-use Rattle.kplib.proofs.pathscore.score_chain.Lts as lts
-use Rattle.kplib.proofs.pathscore.none_tried.Reads as none-tried-reads
-use Rattle.kplib.proofs.pathscore.try_list.Reads as try-list-reads
 
 abbrev Inv-loop : tie.InvT-loop
-Inv-loop s sizes features chain chain-size part-sizes part-features codes list-sizes count chosen₀ chain-row₀ list-row₀ best₀ i₀ chosen chain-row list-row best i =
+Inv-loop s features chain chain-size part-sizes part-features codes list-sizes count chosen₀ chain-row₀ list-row₀ best₀ i₀ chosen chain-row list-row best i =
     (i ≤ count) × (length chosen ≡ length chosen₀) × (length chain-row ≡ length chain-row₀) × (length list-row ≡ length list-row₀)
-    × Tried s features chain (toZ w32 chain-size) part-sizes part-features best chain-row i
+    × Tried s features chain (toZ w32 chain-size) (partsOf part-sizes part-features) best chain-row i
 
 abbrev μ-loop : tie.MeasureT-loop
-μ-loop s sizes features chain chain-size part-sizes part-features codes list-sizes count chosen₀ chain-row₀ list-row₀ best₀ i₀ chosen chain-row list-row best i = count - i
+μ-loop s features chain chain-size part-sizes part-features codes list-sizes count chosen₀ chain-row₀ list-row₀ best₀ i₀ chosen chain-row list-row best i = count - i
 
 none-tried-requires : tie.Need-none-tried-requires Inv-loop μ-loop
 none-tried-requires c κs = search needs
 
 loop-holds : tie.Need-loop-holds Inv-loop μ-loop
 loop-holds c =
-    let s = c .before .before .before .before in
-    (omega arith, refl, refl, refl, none-tried (s .args .s) (s .args .features .now) (s .args .chain .now) _ (s .args .part-sizes .now) (s .args .part-features .now) (s .args .chain-row .now) _ (c .none-tried .ensures))
+    (omega arith, refl, refl, refl, none-tried _ _ _ _ _ _ (c .none-tried .ensures))
 
 mul-try-list : tie.Need-mul-try-list Inv-loop μ-loop
 mul-try-list c = search needs
@@ -46,7 +42,7 @@ try-list-requires : tie.Need-try-list-requires Inv-loop μ-loop
 try-list-requires c κs =
     let s = c .before .before .before .before .before .before .before .before .before .before .before in
     let l = c .before .before .before .before .before .before in
-    attempt (s .args .s) (s .args .sizes .now) (s .args .features .now) (s .args .chain .now) (s .args .chain-size) (s .args .part-sizes .now) (s .args .part-features .now) (s .args .codes .now) (s .args .list-sizes .now) (s .args .count) (s .args .chosen .now) (s .args .chain-row .now) (s .args .list-row .now) (s .pre) (l .loop .i) (c .before .before .before .before .before .loop-test .taken) (l .loop .chosen) (l .loop .chain-row) (l .loop .list-row) (l .loop .best .summed) (l .loop .inv .1) (l .loop .inv .2) (l .loop .inv .3) (l .loop .inv .4 .0)
+    attempt (s .pre) (c .before .before .before .before .before .loop-test .taken) (l .loop .inv .1) (l .loop .inv .2) (l .loop .inv .3) (l .loop .inv .4 .0)
 
 add-i : tie.Need-add-i Inv-loop μ-loop
 add-i c = search needs
@@ -63,7 +59,7 @@ loop-again c =
       _∙_ {b = length (l .loop .chosen)} (k .kept .1 .1 .1 .1 .1 .1 .1 .1 .0) (l .loop .inv .1),
       _∙_ {b = length (l .loop .chain-row)} (k .kept .1 .1 .1 .1 .1 .1 .1 .1 .1 .0) (l .loop .inv .2),
       _∙_ {b = length (l .loop .list-row)} (k .kept .1 .1 .1 .1 .1 .1 .1 .1 .1 .1 .0) (l .loop .inv .3),
-      one-more (s .args .s) (s .args .sizes .now) (s .args .features .now) (s .args .chain .now) (s .args .chain-size) (s .args .part-sizes .now) (s .args .part-features .now) (s .args .codes .now) (s .args .list-sizes .now) (s .args .count) (s .args .chosen .now) (s .args .chain-row .now) (s .args .list-row .now) (s .pre) (l .loop .i) (c .before .before .before .before .before .before .before .before .before .before .loop-test .taken) (l .loop .best) _ (l .loop .chain-row) _ (l .loop .inv .4) (k .ensures),
+      one-more (s .pre) (c .before .before .before .before .before .before .before .before .before .before .loop-test .taken) (l .loop .best) _ (l .loop .chain-row) _ (l .loop .inv .4) (k .ensures),
     )
 
 same-length : tie.Need-same-length Inv-loop μ-loop
@@ -79,7 +75,7 @@ returns : tie.Need-returns Inv-loop μ-loop
 returns c =
     let s = c .before .before .before .before .before .before .before in
     let l = c .before .before in
-    all-tried (s .args .s) (s .args .sizes .now) (s .args .features .now) (s .args .chain .now) (s .args .chain-size) (s .args .part-sizes .now) (s .args .part-features .now) (s .args .codes .now) (s .args .list-sizes .now) (s .args .count) (s .args .chosen .now) (s .args .chain-row .now) (s .args .list-row .now) (s .pre) (l .loop .i) (c .before .loop-test .left) (l .loop .best) (l .loop .chain-row) (l .loop .inv .4)
+    all-tried (s .pre) (c .before .loop-test .left) (l .loop .best) (l .loop .chain-row) (l .loop .inv .4)
 
 pub score-chain-spec : {M : Type 1} → statement M
 score-chain-spec =

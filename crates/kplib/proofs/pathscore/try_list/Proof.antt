@@ -7,14 +7,6 @@ use Rattle.kplib.proofs.AttemptLaws.{may-ok, attempt-lost, ready-ok, li
 use borrow.Author.Needs.{needs}
 use Rattle.kplib.proofs.pathscore.try_list.Statement.{statement}
 use Rattle.kplib.proofs.pathscore.try_list.Tie as tie
-use Rattle.kplib.proofs.pathscore.try_list.Reads as reads
-use Rattle.kplib.proofs.pathscore.try_list.Lts as lts
-use Rattle.kplib.proofs.haplotype.positions.Reads as positions-reads
-use Rattle.kplib.proofs.pathscore.greater_of.Reads as greater-of-reads
-use Rattle.kplib.proofs.pathscore.list_score.Reads as list-score-reads
-use Rattle.kplib.proofs.pathscore.may_win.Reads as may-win-reads
-use Rattle.kplib.proofs.pathscore.ready.Reads as ready-reads
-use Rattle.kplib.proofs.pathscore.sum_rows.Reads as sum-rows-reads
 
 cast-n : tie.Need-cast-n
 cast-n c = search needs
@@ -25,12 +17,12 @@ sub-may-win c = search needs
 may-win-requires : tie.Need-may-win-requires
 may-win-requires c κs =
     let s = c .before .before .before in
-    may-ok (s .args .s) (s .args .features .now) (s .args .chain .now) (s .args .chain-size) (s .args .part-sizes .now) (s .args .part-features .now) (s .args .code) (s .args .size) (s .args .chosen .now) (s .args .chain-row .now) (s .args .list-row .now) (s .args .best .summed) (s .pre)
+    may-ok (s .pre)
 
 returns : tie.Need-returns
 returns c =
     let s = c .before .before .before .before .before in
-    attempt-lost (s .args .s) (s .args .features .now) (s .args .chain .now) (s .args .chain-size) (s .args .part-sizes .now) (s .args .part-features .now) (s .args .code) (s .args .size) (s .args .chosen .now) (s .args .chain-row .now) (s .args .list-row .now) (s .args .best .summed) (s .pre) (c .before .may-win .result) (s .args .best) (c .before .may-win .ensures) (not-true (c .before .may-win .result) (c .if1 .taken)) (s .pre .ready)
+    attempt-lost (s .pre) (c .before .may-win .result) (s .args .best) (c .before .may-win .ensures) (not-true (c .before .may-win .result) (c .if1 .taken)) (s .pre .ready)
 
 positions-requires : tie.Need-positions-requires
 positions-requires c κs = search needs
@@ -38,7 +30,7 @@ positions-requires c κs = search needs
 ready-requires : tie.Need-ready-requires
 ready-requires c κs =
     let s = c .before .before .before .before .before .before .before .before .before .before in
-    ready-ok (s .args .s) (s .args .features .now) (s .args .chain .now) (s .args .chain-size) (s .args .part-sizes .now) (s .args .part-features .now) (s .args .code) (s .args .size) (s .args .chosen .now) (s .args .chain-row .now) (s .args .list-row .now) (s .args .best .summed) (s .pre)
+    ready-ok (s .pre)
 
 slice-reshare-prefix-sum-rows : tie.Need-slice-reshare-prefix-sum-rows
 slice-reshare-prefix-sum-rows c = search needs
@@ -51,7 +43,7 @@ slice-aggregate-sum-rows c =
 sum-rows-requires : tie.Need-sum-rows-requires
 sum-rows-requires c κs =
     let s = c .before .before .before .before .before .before .before .before .before .before .before .before .before .before in
-    list-ok (s .args .s) (s .args .features .now) (s .args .chain .now) (s .args .chain-size) (s .args .part-sizes .now) (s .args .part-features .now) (s .args .code) (s .args .size) (s .args .chosen .now) (s .args .chain-row .now) (s .args .list-row .now) (s .args .best .summed) (s .pre) _ (c .before .before .before .before .before .before .before .positions .ensures .1)
+    list-ok (s .pre) _ (c .before .before .before .before .before .before .before .positions .ensures .1)
 
 sub-list-score : tie.Need-sub-list-score
 sub-list-score c = search needs
@@ -59,7 +51,7 @@ sub-list-score c = search needs
 list-score-requires : tie.Need-list-score-requires
 list-score-requires c κs =
     let s = c .before .before .before .before .before .before .before .before .before .before .before .before .before .before .before .before .before .before in
-    compare-ok (s .args .s) (s .args .features .now) (s .args .chain .now) (s .args .chain-size) (s .args .part-sizes .now) (s .args .part-features .now) (s .args .code) (s .args .size) (s .args .chosen .now) (s .args .chain-row .now) (s .args .list-row .now) (s .args .best .summed) (s .pre) _ _ _ (c .before .before .before .before .before .before .before .ready .ensures) (c .before .before .before .before .before .before .before .before .before .before .before .positions .ensures .1) (c .before .before .before .sum-rows .ensures)
+    compare-ok (s .pre) _ _ _ (c .before .before .before .before .before .before .before .ready .ensures) (c .before .before .before .before .before .before .before .before .before .before .before .positions .ensures .1) (c .before .before .before .sum-rows .ensures)
 
 sub-greater-of : tie.Need-sub-greater-of
 sub-greater-of c = search needs
@@ -79,7 +71,7 @@ same-length-3 c = c .before .before .before .before .before .sum-rows .kept .1 .
 returns-2 : tie.Need-returns-2
 returns-2 c =
     let s = c .before .before .before .before .before .before .before .before .before .before .before .before .before .before .before .before .before .before .before .before in
-    attempt-scored (s .args .s) (s .args .features .now) (s .args .chain .now) (s .args .chain-size) (s .args .part-sizes .now) (s .args .part-features .now) (s .args .code) (s .args .size) (s .args .chosen .now) (s .args .chain-row .now) (s .args .list-row .now) (s .args .best .summed) (s .pre) _ _ _ (c .before .before .before .before .before .before .before .before .before .ready .ensures) (c .before .before .before .before .before .before .before .before .before .before .before .before .before .positions .ensures .1) (c .before .before .before .before .before .sum-rows .ensures) (s .args .best .scored) _ _ (c .before .list-score .ensures) (c .greater-of .ensures)
+    attempt-scored (s .pre) _ _ _ (c .before .before .before .before .before .before .before .before .before .ready .ensures) (c .before .before .before .before .before .before .before .before .before .before .before .before .before .positions .ensures .1) (c .before .before .before .before .before .sum-rows .ensures) (s .args .best .scored) _ _ (c .before .list-score .ensures) (c .greater-of .ensures)
 
 pub try-list-spec : {M : Type 1} → statement M
 try-list-spec =

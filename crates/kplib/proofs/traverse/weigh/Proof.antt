@@ -27,8 +27,7 @@ part-rows-size-end c = search needs
 
 rows-size-requires : tie.Need-rows-size-requires
 rows-size-requires c κs =
-    let h = c .before .before .before .before .before .before .before .before .pre in
-    rowed-as (cut _ 64 _ (omega arith) (c .before .before .before .read-chain .ensures)) (h .tables .sized) (h .within) (h .most)
+    rowed-as (c .before .before .before .before .before .before .before .before .pre) (cut _ 64 _ (omega arith) (c .before .before .before .read-chain .ensures))
 
 mul-score-chain : tie.Need-mul-score-chain
 mul-score-chain c = search needs
@@ -48,16 +47,20 @@ slice-aggregate-score-chain c = search needs
 score-chain-requires : tie.Need-score-chain-requires
 score-chain-requires c κs =
     let h = c .before .before .before .before .before .before .before .before .before .before .before .before .before .before .pre in
-    scorable-as (cut _ 64 _ (omega arith) (c .before .before .before .before .before .before .before .before .before .read-chain .ensures)) (h .tables) (h .within) (h .most) (read-back _ (c .before .before .before .before .before .rows-size .ok) ∙ c .before .before .before .before .before .rows-size .ensures) (h .laid) (omega arith) (h .chain-row) (h .list-row)
+    scorable-as h (cut _ 64 _ (omega arith) (c .before .before .before .before .before .before .before .before .before .read-chain .ensures))
+    (read-back _ (c .before .before .before .before .before .rows-size .ok) ∙ c .before .before .before .before .before .rows-size .ensures) (omega arith)
 
 same-length : tie.Need-same-length
-same-length c = c .before .before .before .score-chain .kept .1 .1 .1 .1 .1 .1 .1 .1 .1 .1 .1 .0
+same-length c = c .before .before .before .score-chain .kept .1 .1 .1 .1 .1 .1 .1 .1 .1 .1 .0
 
 same-length-2 : tie.Need-same-length-2
-same-length-2 c = c .before .before .before .score-chain .kept .1 .1 .1 .1 .1 .1 .1 .1 .1 .1 .1 .1 .0
+same-length-2 c = c .before .before .before .score-chain .kept .1 .1 .1 .1 .1 .1 .1 .1 .1 .1 .1 .0
 
 returns : tie.Need-returns
-returns c = weighed-as _ _ _ _ _ (cut _ 64 _ (omega arith) (c .before .before .before .before .before .before .before .before .before .before .before .before .before .read-chain .ensures)) _ (read-back _ (c .before .before .before .before .before .before .before .before .before .rows-size .ok) ∙ c .before .before .before .before .before .before .before .before .before .rows-size .ensures) (c .before .before .before .score-chain .ensures)
+returns c =
+    let read = c .before .before .before .before .before .before .before .before .before .before .before .before .before in
+    let size = c .before .before .before .before .before .before .before .before .before .rows-size in
+    weighed-as (read .before .before .before .before .before .pre) (cut _ 64 _ (omega arith) (read .read-chain .ensures)) (read-back _ (size .ok) ∙ size .ensures) (c .before .before .before .score-chain .ensures)
 
 pub weigh-spec : {M : Type 1} → statement M
 weigh-spec =

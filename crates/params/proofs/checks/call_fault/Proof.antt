@@ -67,7 +67,7 @@ settings-fault-requires : tie.Need-settings-fault-requires
 settings-fault-requires c κs = search needs
 
 returns : tie.Need-returns
-returns c = by-settings _ _ _ _ _ _ (c .before .settings-fault .ensures) (c .if1 .taken)
+returns c = by-settings _ _ (c .before .settings-fault .ensures) (c .if1 .taken)
 
 entries-requires : tie.Need-entries-requires
 entries-requires c κs = search needs
@@ -78,7 +78,7 @@ length-fault-requires c κs = rw (c .entries .ensures) (never-more _)
 returns-2 : tie.Need-returns-2
 returns-2 c =
     let w = c .before .before in
-    by-lengths _ _ _ _ _ _ (settings-passed (w .before)) (rw (width w) at (c .before .length-fault .ensures)) (c .if2 .taken)
+    by-lengths _ _ (settings-passed (w .before)) (rw (width w) at (c .before .length-fault .ensures)) (c .if2 .taken)
 
 bound-fault-requires : tie.Need-bound-fault-requires
 bound-fault-requires c κs = let m = shaped c in (m .some, m .ends-are)
@@ -86,7 +86,7 @@ bound-fault-requires c κs = let m = shaped c in (m .some, m .ends-are)
 returns-3 : tie.Need-returns-3
 returns-3 c =
     let b = c .before .before in
-    by-bounds _ _ _ _ _ _ (settings-passed (wide2 b .before)) (lengths-passed b) (c .before .bound-fault .ensures) (c .if3 .taken)
+    by-bounds _ _ (settings-passed (wide2 b .before)) (lengths-passed b) (c .before .bound-fault .ensures) (c .if3 .taken)
 
 limit-fault-requires : tie.Need-limit-fault-requires
 limit-fault-requires c κs =
@@ -97,7 +97,7 @@ limit-fault-requires c κs =
 returns-4 : tie.Need-returns-4
 returns-4 c =
     let b = c .before .before .before .before in
-    by-limits _ _ _ _ _ _ (settings-passed (wide2 b .before)) (lengths-passed b) (bounds-passed (c .before .before))
+    by-limits _ _ (settings-passed (wide2 b .before)) (lengths-passed b) (bounds-passed (c .before .before))
     (rw (width (wide2 b)) at (c .before .limit-fault .ensures)) (c .if4 .taken)
 
 room-fault-requires : tie.Need-room-fault-requires
@@ -106,7 +106,7 @@ room-fault-requires c κs = (known (wide2 (at4 c) .before) .maxpaths, shaped (at
 returns-5 : tie.Need-returns-5
 returns-5 c =
     let b = at4 (c .before) in
-    by-rooms _ _ _ _ _ _ (settings-passed (wide2 b .before)) (lengths-passed b) (bounds-passed (c .before .before .before)) (limits-passed (c .before))
+    by-rooms _ _ (settings-passed (wide2 b .before)) (lengths-passed b) (bounds-passed (c .before .before .before)) (limits-passed (c .before))
     (c .room-fault .ensures)
 
 pub call-fault-spec : {M : Type 1} → statement M
