@@ -1,7 +1,7 @@
 -- The entries of a counted row sum to plus or minus the number of windows kept, and their magnitudes to that number. Each window adds one to one
 -- entry of the row, so the sum over the entries is the length of the list of windows; document 01 keeps all length - k + 1. Assumes nothing.
 use mathlib.Core.Path.{_≡_, refl, ap, _∙_}
-use mathlib.Core.Bool.{Bool, true, false, cond, not, _&&_}
+use mathlib.Core.Bool.{Bool, true, false, cond, _&&_}
 use mathlib.Core.List.{List, [], _∷_, _++_}
 use mathlib.Core.Logic.{⊎-elim}
 use Prim.Native.Nat.{ℕ, zero, suc, _+_, _-_, _^_, _≤_, _<_, zero-le}
@@ -12,7 +12,7 @@ use lib.ListN.{length, take}
 use lib.IntN.{ℤ, pos, _+ℤ_, +ℤ-idl, +ℤ-idr}
 use lib.Seq.{length-take-le}
 use borrow.Author.Tests.{leb-true, leb-false, ltb-false, eq-eqb, ne-eqb, le-leb, le-ltb}
-use Rattle.metrics.specs.declared.kmer.Counted.the-variants.{Done, Refused}
+use Rattle.metrics.specs.declared.kmer.Counted.the-variants.{Done}
 use Rattle.metrics.specs.Similarity.{magnitudeSum}
 use Rattle.metrics.specs.Letters.{numberOf, everyByte, allRead, firstWindow, windowsReading, timesIn, signed, tableFrom}
 use Rattle.metrics.specs.Letters.{countsReading, countsOf, counterAnswer, countedNumber, entriesOf, EntriesSum, EntriesSumToLength, RowWithinLimit}
