@@ -39,7 +39,7 @@ unfoldable pub windowsReading : (ℕ → Bool) → ℕ → List ℕ → List ℕ
 windowsReading reads k [] = []
 windowsReading reads k (x ∷ xs) = firstWindow reads k (x ∷ xs) ++ windowsReading reads k xs
 
--- document 01's windows; a proof that unfolds them, or its counts, sees through all that they are made of
+-- document 01's windows: every byte is read
 unfoldable pub windowsOf : ℕ → List ℕ → List ℕ
 unfolding windowsReading firstWindow allRead
 windowsOf = windowsReading everyByte
@@ -67,7 +67,7 @@ entryCount k = cond (leb k 6) (4 ^ k) 0
 unfoldable pub countsReading : (ℕ → Bool) → ℕ → Bool → List ℕ → List ℤ
 countsReading reads k negative letters = tableFrom (λ i. signed negative (timesIn i (windowsReading reads k letters))) 0 (4 ^ k)
 
--- document 01's counts
+-- document 01's counts, of these windows
 unfoldable pub countsOf : ℕ → Bool → List ℕ → List ℤ
 unfolding countsReading windowsOf
 countsOf = countsReading everyByte
