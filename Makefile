@@ -23,6 +23,8 @@ test:
 	$(MAKE) --no-print-directory --jobs=2 proofs packages
 	tools/promises
 	tools/test_promises
+	tools/uses
+	tools/test_uses
 	rt fmt --check
 	tools/run-examples
 	SHEET_NEEDS_PROGRAM=1 SHEET_WRITER=target/bin/copy_job tools/test_sheet

@@ -1,5 +1,5 @@
 -- Source and sink have zero features, whose similarity to any row is 0.0 (kplib, AnchorLaws): their turns leave the best as it is, so the walk may begin at node 1 and end at V.
-use Prim.Native.Nat.{ℕ, _+_, _^_}
+use Prim.Native.Nat.{_+_, _^_}
 use native.Mathlib.Omega.{arith}
 use native.Mathlib.Numerals.{add-one}
 use mathlib.Core.Path.{_≡_, refl, sym}

@@ -5,9 +5,8 @@ use mathlib.Core.List.{List}
 use Prim.Native.Nat.{ℕ}
 use Rattle.metrics.specs.Letters.{countsOf, rowAfter}
 use Rattle.job.specs.Job.{jobBytes}
-use Rattle.job.specs.Reading.{Lent}
 use Rattle.job.specs.Writing.{jobFrom, outAfter}
-use Rattle.audit.specs.Unique.{Left, Agree, Unique}
+use Rattle.audit.specs.Unique.{Agree, Unique}
 
 one : {A : Type 0} {z : A} (x y : A) → x ≡ z → y ≡ z → x ≡ y
 one x y p q = p ∙ sym q

@@ -70,7 +70,7 @@ lines =
     ++ bytesOf "scored 4\n"
     ++ bytesOf "complete yes\n"
 
--- with just the room that it needs: 1 + (maxpaths + 1) × V queue entries and V rows
+-- the job as a call with just the room that it needs: 1 + (maxpaths + 1) × V queue entries and V rows
 abbrev pub call : Call
 call = callOf settings variants part 23 2
 

@@ -17,7 +17,6 @@ use Rattle.params.specs.Numbers.{tableOf, partsOf}
 use Rattle.job.specs.declared.form.Counts.{Counts}
 use Rattle.job.specs.declared.reader.Reading.{Reading}
 use Rattle.job.specs.declared.reader.Reading.the-variants.{Refused as Declined, Job as Given}
-use Rattle.job.specs.Form.{start}
 use Rattle.job.specs.Job.{Variant, Part, Job, readJob}
 use Rattle.job.specs.Reading.{Lent, lent, variantLetters, partLetters, lettersOf, five, three, hasRoom, placed, lentWith, readingOf, lentAfter}
 use Rattle.job.specs.Reading.{jobCounts}

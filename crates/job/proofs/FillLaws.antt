@@ -73,6 +73,9 @@ module _ {T A : Type 0} (put : T → ℕ → A → T) where
   keeps g h t v [] = refl
   keeps g h t v (x ∷ xs) = keeps g h (put t v x) (suc v) xs ∙ h t v x
 
+  pub stays : (g : T → ℕ) → ((t : T) (v : ℕ) (x : A) → g (put t v x) ≡ g t) → {u : T} (t : T) (v : ℕ) (xs : List A) → u ≡ stores put t v xs → g u ≡ g t
+  stays g h t v xs e = ap g e ∙ keeps g h t v xs
+
   module _ (here : ℕ → List ℕ → List A) (s : List ℕ) (at : ℕ) where
     pub put-done : (t : T) (v : ℕ) → length s ≤ at → stores put t v (gather here (drop at s) 0) ≡ t
     unfolding stores

@@ -29,16 +29,16 @@ part-stored l a d at size negative count z same p q =
     join l a d at (at + 1) (3 ∷ []) (partBody size negative count) refl p (q ∙ ap (λ (y : ℤ). sets a (at + 1) (partBody y negative count)) same)
 
 -- the loop's end: nothing is left to write
-pub rows-put : (t u : List ℕ) (at r : ℕ) (first rest whole : List ℕ) → rest ≡ [] → first ≡ whole
+pub rows-put : {t u : List ℕ} {at r : ℕ} {first rest whole : List ℕ} → rest ≡ [] → first ≡ whole
     → sets u r rest ≡ sets t at first → r + length rest ≡ at + length first → Put t u at r whole
-rows-put t u at r first rest whole e f p q =
+rows-put {t} {u} {at} {r} {first} {rest} {whole} e f p q =
     let n : length rest ≡ 0 = ap length e in
     let m : length first ≡ length whole = ap length f in
     record { is = ap (sets u r) (sym e) ∙ p ∙ ap (sets t at) f; next = omega (arith, n, m, q) }
 
-pub rows-written : (t u : List ℕ) (at r : ℕ) (first rest whole counts : List ℕ) (p i n : ℕ) → rest ≡ [] → first ≡ whole
-    → sets u r rest ≡ sets t at first → r + length rest ≡ at + length first → length counts ≤ i → p + sum (drop i counts) ≡ n → Put t u at r whole × (p ≡ n)
+-- and all letters are written
+pub sum-done : (counts : List ℕ) (p i n : ℕ) → length counts ≤ i → p + sum (drop i counts) ≡ n → p ≡ n
 unfolding sum
-rows-written t u at r first rest whole counts p i n e f h k g q =
+sum-done counts p i n g q =
     let z : sum (drop i counts) ≡ 0 = ap sum (drop-of-length-le counts {i = i} g) in
-    (rows-put t u at r first rest whole e f h k, omega (arith, z, q))
+    omega (arith, z, q)

@@ -192,6 +192,19 @@ module _ (s : Settings) (t : Lent) where
           }
 
 -- ---- the answer
+module _ (t : Lent) where
+  abbrev rowsAgree : Bool
+  rowsAgree = four (length (t .starts)) (length (t .ends)) (length (t .sizes)) (length (t .negatives)) (length (t .counts))
+
+  abbrev partsAgree : Bool
+  partsAgree = two (length (t .partSizes)) (length (t .partNegatives)) (length (t .partCounts))
+
+  abbrev lettersAgree : Bool
+  lettersAgree = eqb (sum (t .counts) + sum (t .partCounts)) (length (t .letters))
+
+  pub all-agree : rowsAgree ≡ true → partsAgree ≡ true → lettersAgree ≡ true → agree t ≡ true
+  all-agree f g h = rw (f, g, h)
+
 module _ (s : Settings) (t : Lent) (out : List ℕ) where
   abbrev bytes : List ℕ
   bytes = jobBytes (jobFrom s t)
@@ -200,57 +213,47 @@ module _ (s : Settings) (t : Lent) (out : List ℕ) where
   unfolding writingOf outAfter
   six h = (sym (rw h), refl)
 
-  module _ (f : Bool) (f-is : f ≡ four (length (t .starts)) (length (t .ends)) (length (t .sizes)) (length (t .negatives)) (length (t .counts))) where
-    pub write-rows : f ≡ false → (Refused 6 ≡ writingOf s t (length out)) × (out ≡ outAfter (Refused 6) bytes out)
-    write-rows h = six (rw (sym f-is, h))
+  pub write-rows : rowsAgree t ≡ false → (Refused 6 ≡ writingOf s t (length out)) × (out ≡ outAfter (Refused 6) bytes out)
+  write-rows h = six (rw h)
 
-    module _ (f-true : f ≡ true) (g : Bool) (g-is : g ≡ two (length (t .partSizes)) (length (t .partNegatives)) (length (t .partCounts))) where
-      pub write-parts : g ≡ false → (Refused 6 ≡ writingOf s t (length out)) × (out ≡ outAfter (Refused 6) bytes out)
-      write-parts h = six (rw (sym f-is, f-true, sym g-is, h))
+  pub write-parts : rowsAgree t ≡ true → partsAgree t ≡ false → (Refused 6 ≡ writingOf s t (length out)) × (out ≡ outAfter (Refused 6) bytes out)
+  write-parts f h = six (rw (f, h))
 
-      module _ (g-true : g ≡ true) (l : Bool) (l-is : l ≡ eqb (sum (t .counts) + sum (t .partCounts)) (length (t .letters))) where
-        pub write-letters : l ≡ false → (Refused 6 ≡ writingOf s t (length out)) × (out ≡ outAfter (Refused 6) bytes out)
-        write-letters h = six (rw (sym f-is, f-true, sym g-is, g-true, sym l-is, h))
+  pub write-letters : rowsAgree t ≡ true → partsAgree t ≡ true → lettersAgree t ≡ false → (Refused 6 ≡ writingOf s t (length out)) × (out ≡ outAfter (Refused 6) bytes out)
+  write-letters f g h = six (rw (f, g, h))
 
-        module _ (l-true : l ≡ true) (o : Bool) (o-is : o ≡ anyOver (t .counts)) where
-          pub all-agree : agree t ≡ true
-          all-agree = rw (sym f-is, f-true, sym g-is, g-true, sym l-is, l-true)
+  module _ (agrees : agree t ≡ true) where
+    pub write-over : anyOver (t .counts) ≡ true → (Refused 13 ≡ writingOf s t (length out)) × (out ≡ outAfter (Refused 13) bytes out)
+    unfolding writingOf outAfter
+    write-over h = (sym (rw (agrees, h)), refl)
 
-          pub write-over : o ≡ true → (Refused 13 ≡ writingOf s t (length out)) × (out ≡ outAfter (Refused 13) bytes out)
-          unfolding writingOf outAfter
-          write-over h = (sym (rw (all-agree, sym o-is, h)), refl)
+    module _ (few : anyOver (t .counts) ≡ false) where
+      pub write-part-over : anyOver (t .partCounts) ≡ true → (Refused 13 ≡ writingOf s t (length out)) × (out ≡ outAfter (Refused 13) bytes out)
+      unfolding writingOf outAfter
+      write-part-over h = (sym (rw (agrees, few, h)), refl)
 
-          module _ (o-false : o ≡ false) (q : Bool) (q-is : q ≡ anyOver (t .partCounts)) where
-            pub write-part-over : q ≡ true → (Refused 13 ≡ writingOf s t (length out)) × (out ≡ outAfter (Refused 13) bytes out)
-            unfolding writingOf outAfter
-            write-part-over h = (sym (rw (all-agree, sym o-is, o-false, sym q-is, h)), refl)
+      module _ (part-few : anyOver (t .partCounts) ≡ false) where
+        pub write-short : Short ≡ leftOf (42 + (total 2 (t .counts) + total 3 (t .partCounts))) (length out)
+            → (Refused 30 ≡ writingOf s t (length out)) × (out ≡ outAfter (Refused 30) bytes out)
+        unfolding writingOf outAfter
+        write-short e =
+            let h = short-had _ _ e in
+            let k = job-total s t (agreed t agrees) in
+            let g : length out < length bytes = omega (arith, h, k) in
+            (sym (rw (agrees, few, part-few, lt-ltb _ _ g)), refl)
 
-            module _ (q-false : q ≡ false) where
-              pub write-short : Short ≡ leftOf (42 + (total 2 (t .counts) + total 3 (t .partCounts))) (length out)
-                  → (Refused 30 ≡ writingOf s t (length out)) × (out ≡ outAfter (Refused 30) bytes out)
-              unfolding writingOf outAfter
-              write-short e =
-                  let h = short-had _ _ e in
-                  let k = job-total s t (agreed t all-agree) in
-                  let g : length out < length bytes = omega (arith, h, k) in
-                  (sym (rw (all-agree, sym o-is, o-false, sym q-is, q-false, lt-ltb _ _ g)), refl)
+        pub wrote : JobFits s t (length out) → {r : ℕ} {u : List ℕ} → Put out u 0 r bytes → (Wrote r ≡ writingOf s t (length out)) × (u ≡ outAfter (Wrote r) bytes out)
+        unfolding writingOf outAfter
+        wrote fit {r} {u} p =
+            let z : 0 + length bytes ≡ length bytes = omega arith in
+            let h = fit .fits in
+            let e : r ≡ length bytes = p .next ∙ z in (
+              sym (rw (agrees, few, part-few, le-ltb _ _ h, e)),
+              p .is ∙ sets-eq bytes out 0 (rw z h) ∙ ap (λ (k : ℕ). bytes ++ drop k out) z,
+            )
 
-              module _ (n : ℕ) (enough : Enough n ≡ leftOf (42 + (total 2 (t .counts) + total 3 (t .partCounts))) (length out)) where
-                room-there : length bytes ≤ length out
-                room-there =
-                    let h = enough-had _ _ _ enough in
-                    let k = job-total s t (agreed t all-agree) in
-                    omega (arith, h .fits, k)
-
-                pub write-fits : JobFits s t (length out)
-                write-fits = record { agrees = all-agree; fits = room-there }
-
-                pub wrote : (r : ℕ) (u : List ℕ) → Put out u 0 r bytes → (Wrote r ≡ writingOf s t (length out)) × (u ≡ outAfter (Wrote r) bytes out)
-                unfolding writingOf outAfter
-                wrote r u p =
-                    let z : 0 + length bytes ≡ length bytes = omega arith in
-                    let h = room-there in
-                    let e : r ≡ length bytes = p .next ∙ z in (
-                      sym (rw (all-agree, sym o-is, o-false, sym q-is, q-false, le-ltb _ _ h, e)),
-                      p .is ∙ sets-eq bytes out 0 (rw z h) ∙ ap (λ (k : ℕ). bytes ++ drop k out) z,
-                    )
+    pub write-fits : {n : ℕ} → Enough n ≡ leftOf (42 + (total 2 (t .counts) + total 3 (t .partCounts))) (length out) → JobFits s t (length out)
+    write-fits enough =
+        let h = enough-had _ _ _ enough in
+        let k = job-total s t (agreed t agrees) in
+        record { agrees = agrees; fits = omega (arith, h .fits, k) }

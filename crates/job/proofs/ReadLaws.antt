@@ -5,7 +5,7 @@ use native.Mathlib.Omega.{arith}
 use mathlib.Core.Path.{_≡_, refl, sym, ap, subst, _∙_}
 use mathlib.Core.Bool.{Bool, true, false, cond, _&&_}
 use mathlib.Core.List.{List, [], _∷_, _++_, map}
-use mathlib.Core.Logic.{_⊎_, ⊎-elim}
+use mathlib.Core.Logic.{⊎-elim}
 use lib.Dec.{eqb}
 use lib.ListN.{length, take, drop, set, length-drop, length-map}
 use lib.Seq.{take-all, sets-eq}
@@ -87,23 +87,25 @@ parts-fit n t h =
     let a = both _ _ h in let b = both _ _ (a .1) in
     record { sizes = leb-true _ _ (a .0); negatives = leb-true _ _ (b .0); counts = leb-true _ _ (b .1) }
 
-module _ (s : List ℕ) (t : Lent) (v : Scan) (is : v ≡ run s 0 start) where
-  pub read-refused : (n : ℕ) → v ≡ Refused n → (Declined n ≡ readingOf (readJob s) t) × (t ≡ lentAfter (readJob s) t)
-  unfolding readJob readingOf lentAfter
-  read-refused n e =
-      let at : run s 0 start ≡ Refused n = sym is ∙ e in
-      (sym (ap (λ (w : Scan). readingOf (readOf w (jobOf s)) t) at), sym (ap (λ (w : Scan). lentAfter (readOf w (jobOf s)) t) at))
+abbrev pub rowsRoom : Counts → Lent → Bool
+rowsRoom c t = five (c .variants) (length (t .starts)) (length (t .ends)) (length (t .sizes)) (length (t .negatives)) (length (t .counts))
 
-  module _ (c : Counts) (e : v ≡ Good c) where
-    at : run s 0 start ≡ Good c
-    at = sym is ∙ e
+abbrev pub partsRoom : Counts → Lent → Bool
+partsRoom c t = three (c .parts) (length (t .partSizes)) (length (t .partNegatives)) (length (t .partCounts))
 
-    pub settings-there : 41 ≤ length s
-    settings-there = good-long s c at
+pub read-refused : (s : List ℕ) (t : Lent) {n : ℕ} → run s 0 start ≡ Refused n → (Declined n ≡ readingOf (readJob s) t) × (t ≡ lentAfter (readJob s) t)
+unfolding readJob readingOf lentAfter
+read-refused s t e =
+    (sym (ap (λ (w : Scan). readingOf (readOf w (jobOf s)) t) e), sym (ap (λ (w : Scan). lentAfter (readOf w (jobOf s)) t) e))
 
-    are : c ≡ jobCounts (jobOf s)
-    are = counts-are s c at
+module _ (s : List ℕ) {c : Counts} (at : run s 0 start ≡ Good c) where
+  pub settings-there : 41 ≤ length s
+  settings-there = good-long s c at
 
+  are : c ≡ jobCounts (jobOf s)
+  are = counts-are s c at
+
+  module _ (t : Lent) where
     reading-at : readingOf (readJob s) t ≡ cond (hasRoom c t) (Given (settingsOf (drop 1 s)) c) (Declined 30)
     unfolding readJob readingOf jobOf
     reading-at = ap (λ (w : Scan). readingOf (readOf w (jobOf s)) t) at ∙ ap (λ (d : Counts). cond (hasRoom d t) (Given (settingsOf (drop 1 s)) d) (Declined 30)) (sym are)
@@ -115,68 +117,67 @@ module _ (s : List ℕ) (t : Lent) (v : Scan) (is : v ≡ run s 0 start) where
     crowded : hasRoom c t ≡ false → (Declined 30 ≡ readingOf (readJob s) t) × (t ≡ lentAfter (readJob s) t)
     crowded h = (sym (reading-at ∙ rw h), sym (lent-at ∙ rw h))
 
-    module _ (f : Bool) (f-is : f ≡ five (c .variants) (length (t .starts)) (length (t .ends)) (length (t .sizes)) (length (t .negatives)) (length (t .counts))) where
-      pub crowded-rows : f ≡ false → (Declined 30 ≡ readingOf (readJob s) t) × (t ≡ lentAfter (readJob s) t)
-      crowded-rows h = crowded (rw (sym f-is, h))
+    pub crowded-rows : rowsRoom c t ≡ false → (Declined 30 ≡ readingOf (readJob s) t) × (t ≡ lentAfter (readJob s) t)
+    crowded-rows h = crowded (rw h)
 
-      module _ (f-true : f ≡ true) (g : Bool) (g-is : g ≡ three (c .parts) (length (t .partSizes)) (length (t .partNegatives)) (length (t .partCounts))) where
-        pub crowded-parts : g ≡ false → (Declined 30 ≡ readingOf (readJob s) t) × (t ≡ lentAfter (readJob s) t)
-        crowded-parts h = crowded (rw (sym f-is, f-true, sym g-is, h))
+    module _ (rows-room : rowsRoom c t ≡ true) where
+      pub crowded-parts : partsRoom c t ≡ false → (Declined 30 ≡ readingOf (readJob s) t) × (t ≡ lentAfter (readJob s) t)
+      crowded-parts h = crowded (rw (rows-room, h))
 
-        module _ (g-true : g ≡ true) where
-          pub crowded-letters : length (t .letters) < c .letters → (Declined 30 ≡ readingOf (readJob s) t) × (t ≡ lentAfter (readJob s) t)
-          crowded-letters h = crowded (rw (sym f-is, f-true, sym g-is, g-true, lt-leb _ _ h))
+      module _ (parts-room : partsRoom c t ≡ true) where
+        pub crowded-letters : length (t .letters) < c .letters → (Declined 30 ≡ readingOf (readJob s) t) × (t ≡ lentAfter (readJob s) t)
+        crowded-letters h = crowded (rw (rows-room, parts-room, lt-leb _ _ h))
 
-          module _ (enough : c .letters ≤ length (t .letters)) where
-            has-room : hasRoom c t ≡ true
-            has-room = rw (sym f-is, f-true, sym g-is, g-true, le-leb _ _ enough)
+        module _ (enough : c .letters ≤ length (t .letters)) where
+          has-room : hasRoom c t ≡ true
+          has-room = rw (rows-room, parts-room, le-leb _ _ enough)
 
-            kinds : List ℕ
-            kinds = gather (lettersHere 2) s 0 ++ gather (lettersHere 3) s 0
+          kinds : List ℕ
+          kinds = gather (lettersHere 2) s 0 ++ gather (lettersHere 3) s 0
 
-            kinds-are : lettersOf (jobOf s) ≡ kinds
-            unfolding jobOf kinds
-            kinds-are = rw (letters-of-variants s 0, letters-of-parts s 0)
+          kinds-are : lettersOf (jobOf s) ≡ kinds
+          unfolding jobOf kinds
+          kinds-are = rw (letters-of-variants s 0, letters-of-parts s 0)
 
-            pub letters-fit : length (gather (lettersHere 2) s 0 ++ gather (lettersHere 3) s 0) ≤ length (t .letters)
-            unfolding jobCounts kinds
-            letters-fit =
-                let h : c .letters ≡ length (lettersOf (jobOf s)) = ap (λ (d : Counts). d .letters) are in
-                let g : length (lettersOf (jobOf s)) ≡ length kinds = ap length kinds-are in
-                omega (arith, h, g, enough)
+          pub letters-fit : length (gather (lettersHere 2) s 0 ++ gather (lettersHere 3) s 0) ≤ length (t .letters)
+          unfolding jobCounts kinds
+          letters-fit =
+              let h : c .letters ≡ length (lettersOf (jobOf s)) = ap (λ (d : Counts). d .letters) are in
+              let g : length (lettersOf (jobOf s)) ≡ length kinds = ap length kinds-are in
+              omega (arith, h, g, enough)
 
-            module _ (u : Lent) (vs : rows (u .starts) (u .ends) (u .sizes) (u .negatives) (u .counts)
-                ≡ stores putRow (rows (t .starts) (t .ends) (t .sizes) (t .negatives) (t .counts)) 0 (gather variantHere s 0))
-                (ps : partRows (u .partSizes) (u .partNegatives) (u .partCounts)
-                ≡ stores putPart (partRows (t .partSizes) (t .partNegatives) (t .partCounts)) 0 (gather partHere s 0))
-                (ls : u .letters ≡ stores set (t .letters) 0 (gather (lettersHere 2) s 0 ++ gather (lettersHere 3) s 0)) where
-              laid-job : u ≡ lentWith (jobOf s) t
-              unfolding lentWith jobOf jobCounts kinds
-              laid-job =
-                  let xs : List Variant = gather variantHere s 0 in
-                  let ys : List Part = gather partHere s 0 in
-                  let t5 : Rows = rows (t .starts) (t .ends) (t .sizes) (t .negatives) (t .counts) in
-                  let u5 : Rows = rows (u .starts) (u .ends) (u .sizes) (u .negatives) (u .counts) in
-                  let t3 : PartRows = partRows (t .partSizes) (t .partNegatives) (t .partCounts) in
-                  let u3 : PartRows = partRows (u .partSizes) (u .partNegatives) (u .partCounts) in
-                  let n : c .variants ≡ length xs = ap (λ (d : Counts). d .variants) are in
-                  let m : c .parts ≡ length ys = ap (λ (d : Counts). d .parts) are in
-                  let r : RowsFit (length xs) t = subst (λ (k : ℕ). RowsFit k t) n (rows-fit (c .variants) t (sym f-is ∙ f-true)) in
-                  let p : PartsFit (length ys) t = subst (λ (k : ℕ). PartsFit k t) m (parts-fit (c .parts) t (sym g-is ∙ g-true)) in
-                  let e1 = front putRow (λ (w : Rows). w .starts) (λ (x : Variant). x .start) (λ (w : Rows) (i : ℕ) (x : Variant). refl) t5 u5 xs (r .starts) vs in
-                  let e2 = front putRow (λ (w : Rows). w .ends) (λ (x : Variant). x .end) (λ (w : Rows) (i : ℕ) (x : Variant). refl) t5 u5 xs (r .ends) vs in
-                  let e3 = front putRow (λ (w : Rows). w .sizes) (λ (x : Variant). x .size) (λ (w : Rows) (i : ℕ) (x : Variant). refl) t5 u5 xs (r .sizes) vs in
-                  let e4 = front putRow (λ (w : Rows). w .negatives) (λ (x : Variant). x .negative) (λ (w : Rows) (i : ℕ) (x : Variant). refl) t5 u5 xs (r .negatives) vs in
-                  let e5 = front putRow (λ (w : Rows). w .counts) (λ (x : Variant). length (x .letters)) (λ (w : Rows) (i : ℕ) (x : Variant). refl) t5 u5 xs (r .counts) vs in
-                  let e6 = front putPart (λ (w : PartRows). w .sizes) (λ (x : Part). x .size) (λ (w : PartRows) (i : ℕ) (x : Part). refl) t3 u3 ys (p .sizes) ps in
-                  let e7 = front putPart (λ (w : PartRows). w .negatives) (λ (x : Part). x .negative) (λ (w : PartRows) (i : ℕ) (x : Part). refl) t3 u3 ys (p .negatives) ps in
-                  let e8 = front putPart (λ (w : PartRows). w .counts) (λ (x : Part). length (x .letters)) (λ (w : PartRows) (i : ℕ) (x : Part). refl) t3 u3 ys (p .counts) ps in
-                  let e9 : u .letters ≡ placed (t .letters) (lettersOf (jobOf s)) =
-                  ls ∙ laid (t .letters) kinds letters-fit ∙ ap (placed (t .letters)) (sym kinds-are) in
-                  λ i. record { starts = e1 i; ends = e2 i; sizes = e3 i; negatives = e4 i; counts = e5 i; partSizes = e6 i; partNegatives = e7 i; partCounts = e8 i; letters = e9 i }
+          module _ (u : Lent) (vs : rows (u .starts) (u .ends) (u .sizes) (u .negatives) (u .counts)
+              ≡ stores putRow (rows (t .starts) (t .ends) (t .sizes) (t .negatives) (t .counts)) 0 (gather variantHere s 0))
+              (ps : partRows (u .partSizes) (u .partNegatives) (u .partCounts)
+              ≡ stores putPart (partRows (t .partSizes) (t .partNegatives) (t .partCounts)) 0 (gather partHere s 0))
+              (ls : u .letters ≡ stores set (t .letters) 0 (gather (lettersHere 2) s 0 ++ gather (lettersHere 3) s 0)) where
+            laid-job : u ≡ lentWith (jobOf s) t
+            unfolding lentWith jobOf jobCounts kinds
+            laid-job =
+                let xs : List Variant = gather variantHere s 0 in
+                let ys : List Part = gather partHere s 0 in
+                let t5 : Rows = rows (t .starts) (t .ends) (t .sizes) (t .negatives) (t .counts) in
+                let u5 : Rows = rows (u .starts) (u .ends) (u .sizes) (u .negatives) (u .counts) in
+                let t3 : PartRows = partRows (t .partSizes) (t .partNegatives) (t .partCounts) in
+                let u3 : PartRows = partRows (u .partSizes) (u .partNegatives) (u .partCounts) in
+                let n : c .variants ≡ length xs = ap (λ (d : Counts). d .variants) are in
+                let m : c .parts ≡ length ys = ap (λ (d : Counts). d .parts) are in
+                let r : RowsFit (length xs) t = subst (λ (k : ℕ). RowsFit k t) n (rows-fit (c .variants) t rows-room) in
+                let p : PartsFit (length ys) t = subst (λ (k : ℕ). PartsFit k t) m (parts-fit (c .parts) t parts-room) in
+                let e1 = front putRow (λ (w : Rows). w .starts) (λ (x : Variant). x .start) (λ (w : Rows) (i : ℕ) (x : Variant). refl) t5 u5 xs (r .starts) vs in
+                let e2 = front putRow (λ (w : Rows). w .ends) (λ (x : Variant). x .end) (λ (w : Rows) (i : ℕ) (x : Variant). refl) t5 u5 xs (r .ends) vs in
+                let e3 = front putRow (λ (w : Rows). w .sizes) (λ (x : Variant). x .size) (λ (w : Rows) (i : ℕ) (x : Variant). refl) t5 u5 xs (r .sizes) vs in
+                let e4 = front putRow (λ (w : Rows). w .negatives) (λ (x : Variant). x .negative) (λ (w : Rows) (i : ℕ) (x : Variant). refl) t5 u5 xs (r .negatives) vs in
+                let e5 = front putRow (λ (w : Rows). w .counts) (λ (x : Variant). length (x .letters)) (λ (w : Rows) (i : ℕ) (x : Variant). refl) t5 u5 xs (r .counts) vs in
+                let e6 = front putPart (λ (w : PartRows). w .sizes) (λ (x : Part). x .size) (λ (w : PartRows) (i : ℕ) (x : Part). refl) t3 u3 ys (p .sizes) ps in
+                let e7 = front putPart (λ (w : PartRows). w .negatives) (λ (x : Part). x .negative) (λ (w : PartRows) (i : ℕ) (x : Part). refl) t3 u3 ys (p .negatives) ps in
+                let e8 = front putPart (λ (w : PartRows). w .counts) (λ (x : Part). length (x .letters)) (λ (w : PartRows) (i : ℕ) (x : Part). refl) t3 u3 ys (p .counts) ps in
+                let e9 : u .letters ≡ placed (t .letters) (lettersOf (jobOf s)) =
+                ls ∙ laid (t .letters) kinds letters-fit ∙ ap (placed (t .letters)) (sym kinds-are) in
+                λ i. record { starts = e1 i; ends = e2 i; sizes = e3 i; negatives = e4 i; counts = e5 i; partSizes = e6 i; partNegatives = e7 i; partCounts = e8 i; letters = e9 i }
 
-              pub read-job : (head : Settings) → head ≡ settingsOf (take (length s - 1) (drop 1 s))
-                  → (Given head c ≡ readingOf (readJob s) t) × (u ≡ lentAfter (readJob s) t)
-              read-job head h =
-                  let x : take (length s - 1) (drop 1 s) ≡ drop 1 s = take-all (length s - 1) (drop 1 s) (simp length-drop (omega arith)) in
-                  (sym (reading-at ∙ rw has-room (ap (λ (y : Settings). Given y c) (sym (h ∙ ap settingsOf x)))), laid-job ∙ sym (lent-at ∙ rw has-room))
+            pub read-job : (head : Settings) → head ≡ settingsOf (take (length s - 1) (drop 1 s))
+                → (Given head c ≡ readingOf (readJob s) t) × (u ≡ lentAfter (readJob s) t)
+            read-job head h =
+                let x : take (length s - 1) (drop 1 s) ≡ drop 1 s = take-all (length s - 1) (drop 1 s) (simp length-drop (omega arith)) in
+                (sym (reading-at ∙ rw has-room (ap (λ (y : Settings). Given y c) (sym (h ∙ ap settingsOf x)))), laid-job ∙ sym (lent-at ∙ rw has-room))

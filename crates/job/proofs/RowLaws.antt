@@ -40,11 +40,11 @@ module _ (out m u : List ℕ) (a b h : ℕ) (xs ys rest : List ℕ) (long : leng
   item-long = let e = length-append (xs ++ ys) rest in omega (arith, e, behind)
 
 -- what holds before a row is written
-pub record Turn (letters : List ℕ) (room a p c sums restSums h : ℕ) : Type 0 where
-  pub letters-there : p + c ≤ length letters
-  pub room-there : a + h + 17 * recordsFor c ≤ room
-  pub room-again : a + h + 17 * recordsFor (p + c - p) ≤ room
-  pub sums-are : p + c + restSums ≡ sums
+pub record Turn (counts letters : List ℕ) (room a p r whole h : ℕ) : Type 0 where
+  pub letters-there : p + getD counts r 0 ≤ length letters
+  pub room-there : a + h + 17 * recordsFor (getD counts r 0) ≤ room
+  pub room-again : a + h + 17 * recordsFor (p + getD counts r 0 - p) ≤ room
+  pub sums-are : p + getD counts r 0 + sum (drop (r + 1) counts) ≡ whole
 
 module _ (starts ends : List ℕ) (sizes : List ℤ) (negatives : List Bool) (counts letters : List ℕ) where
   abbrev pub variantsAt : ℕ → ℕ → List ℕ
@@ -86,7 +86,7 @@ module _ (starts ends : List ℕ) (sizes : List ℤ) (negatives : List Bool) (co
 
   pub variants-turn : (at room a p r : ℕ) → VariantsFit starts ends sizes negatives counts letters at room → r < length starts
       → a + length (variantsAt r p) ≡ at + length (variantsAt 0 0) → p + sum (drop r counts) ≡ sum counts
-      → Turn letters room a p (getD counts r 0) (sum counts) (sum (drop (r + 1) counts)) 26
+      → Turn counts letters room a p r (sum counts) 26
   variants-turn at room a p r fit h long sums =
       let c : ℕ = getD counts r 0 in
       let g : r < length counts = omega (arith, fit .counts-are, h) in
@@ -142,7 +142,7 @@ module _ (sizes : List ℤ) (negatives : List Bool) (counts letters : List ℕ) 
 
   pub parts-turn : (from at room a p r : ℕ) → PartsFit sizes negatives counts letters from at room → r < length sizes
       → a + length (partsAt r p) ≡ at + length (partsAt 0 from) → p + sum (drop r counts) ≡ from + sum counts
-      → Turn letters room a p (getD counts r 0) (from + sum counts) (sum (drop (r + 1) counts)) 10
+      → Turn counts letters room a p r (from + sum counts) 10
   parts-turn from at room a p r fit h long sums =
       let c : ℕ = getD counts r 0 in
       let g : r < length counts = omega (arith, fit .counts-are, h) in

@@ -1,5 +1,5 @@
 -- Document 01, "Job form": what reading a job into lent slices answers, and what the slices hold then.
-use Prim.Native.Nat.{ℕ, _+_}
+use Prim.Native.Nat.{ℕ}
 use mathlib.Core.List.{List, [], _∷_, _++_, map}
 use mathlib.Core.Bool.{Bool, _&&_, cond}
 use lib.IntN.{ℤ}

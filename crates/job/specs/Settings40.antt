@@ -1,6 +1,6 @@
 -- Document 01, "Job form": the 40 bytes of a settings record's body, a code of their own.
 -- A float is its pattern; there is one NaN, which every NaN's pattern gives and whose own pattern is 0x7fc00000.
-use Prim.Native.Nat.{ℕ, _+_}
+use Prim.Native.Nat.{ℕ}
 use mathlib.Core.List.{List, _∷_, _++_}
 use lib.ListN.{getD}
 use lib.Dec.{eqb}

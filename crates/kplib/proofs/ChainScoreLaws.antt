@@ -22,7 +22,7 @@ use Rattle.kplib.specs.declared.pathscore.Best.{Best}
 use Rattle.kplib.proofs.WordLaws.{back}
 use Rattle.kplib.proofs.SizeSumLaws.{size-le}
 
--- what an accepted job gives the scoring, and that this is all of it
+-- what an accepted job gives the scoring
 pub tables-of : {s : Settings} {t : Table} {p : Parts} → Checked s t p → Tables s (unplaced (t .sizes) (t .features)) p
 tables-of c = record { minkfreq = c .minkfreq; sized = c .sized; rows = c .rows; part-sized = c .part-sized; part-rows = c .part-rows }
 

@@ -35,26 +35,25 @@ lone-few Whole r = omega arith
 lone-few (Partial n) r = omega arith
 
 -- what the one-to-one match answers
-pub alone-answers : (s : Settings) (t : Table) (p : Parts) (lone : Lone) (n : ℕ) (r : Answer) (rows rows' : List ℕ) → lone ≡ oneToOne s (unplaced (t .sizes) (t .features)) p
+pub alone-answers : (s : Settings) (t : Table) (p : Parts) (rows : List ℕ) {rows' : List ℕ} {lone : Lone} {n : ℕ} {r : Answer} → lone ≡ oneToOne s (unplaced (t .sizes) (t .features)) p
     → (n ≡ length (loneRowsAt (lone .scored .target) (lone .row .0))) × (rows' ≡ placed rows (loneRowsAt (lone .scored .target) (lone .row .0)))
     → r ≡ answerParts 0 n (lone .scored) (length (t .starts) + 2) true
     → (r ≡ answerWith 0 (matchedAlone s t p)) × (rows' ≡ placed rows (matchedAlone s t p .rows))
 unfolding matchedAlone oneToOne
-alone-answers s t p lone n r rows rows' e h k = rw (← e) (k ∙ ap (λ (m : ℕ). answerParts 0 m (lone .scored) (length (t .starts) + 2) true) (h .0), h .1)
+alone-answers s t p rows {lone = lone} e h k = rw (← e) (k ∙ ap (λ (m : ℕ). answerParts 0 m (lone .scored) (length (t .starts) + 2) true) (h .0), h .1)
 
 -- what a search answers
-pub search-answers : (s : Settings) (t : Table) (p : Parts) (parents lasts : List ℕ) (at : Progress) (n : ℕ) (r : Answer) (rows rows' : List ℕ) → Gone s t p parents lasts at
+pub search-answers : {s : Settings} {t : Table} {p : Parts} {parents lasts : List ℕ} {at : Progress} (rows : List ℕ) {rows' : List ℕ} {n : ℕ} {r : Answer} → Gone s t p parents lasts at
     → (n ≡ length (rowsFor (at .best .scored .target) (reverse (chainAt parents lasts (at .best .entry))))) × (rows' ≡ placed rows (rowsFor (at .best .scored .target) (reverse (chainAt parents lasts (at .best .entry)))))
     → r ≡ answerParts 0 n (at .best .scored) (at .count) (eqb (at .queued) 0)
     → (r ≡ answerWith 0 (searched s t p)) × (rows' ≡ placed rows (searched s t p .rows))
 unfolding searched
-search-answers s t p parents lasts at n r rows rows' g h k =
+search-answers {at = at} rows g h k =
     rw (← g .ended .best-is, ← g .ended .count-is, ← g .ended .complete-is) (k ∙ ap (λ (m : ℕ). answerParts 0 m (at .best .scored) (at .count) (eqb (at .queued) 0)) (h .0), h .1)
 
-pub search-few : (s : Settings) (t : Table) (p : Parts) (parents lasts : List ℕ) (at : Progress) (n : ℕ) → Gone s t p parents lasts at
+pub search-few : {s : Settings} {t : Table} {p : Parts} {parents lasts : List ℕ} {at : Progress} {n : ℕ} → Gone s t p parents lasts at
     → n ≡ length (rowsFor (at .best .scored .target) (reverse (chainAt parents lasts (at .best .entry)))) → (n ≤ 64) × (at .count ≤ 4096)
-search-few s t p parents lasts at n g e =
-    let c = chainAt parents lasts (at .best .entry) in
+search-few {parents = parents} {lasts} {at} g e =
     (omega (arith, e, rows-few (at .best .scored .target) (reverse (chainAt parents lasts (at .best .entry))), reverse-length (chainAt parents lasts (at .best .entry)), g .walk .fits), g .few)
 
 -- ---- by the checks
@@ -68,26 +67,26 @@ module _ (c : Call) where
   unfolding rowsOf
   rows-at fault e = ap (λ (n : ℕ). foundAfter n c .rows) e
 
-  pub refused-answers : (fault : ℕ) → fault ≡ firstFault c → (fault ≡ 0 → ⊥) → (x : Scored) → x ≡ start → (r : Answer) → r ≡ answerParts fault 0 x 0 false → (rows : List ℕ)
+  pub refused-answers : {fault : ℕ} → fault ≡ firstFault c → (fault ≡ 0 → ⊥) → {x : Scored} → x ≡ start → {r : Answer} → r ≡ answerParts fault 0 x 0 false → (rows : List ℕ)
       → (r ≡ answerOf c) × (rows ≡ placed rows (rowsOf c))
   unfolding placed
-  refused-answers zero e z x hx r hr rows = absurd (z refl)
-  refused-answers (suc n) e z x hx r hr rows =
+  refused-answers {fault = zero} e z hx hr rows = absurd (z refl)
+  refused-answers {fault = suc n} e z hx hr rows =
       (hr ∙ ap (λ (y : Scored). answerParts (suc n) 0 y 0 false) hx ∙ answer-at (suc n) e, ap (λ (l : List ℕ). l ++ drop (length l) rows) (rows-at (suc n) e))
 
   module _ (e : firstFault c ≡ 0) where
-    with-rows : (r : Answer) (rows rows' : List ℕ) → (r ≡ answerWith 0 (foundAfter 0 c)) × (rows' ≡ placed rows (foundAfter 0 c .rows)) → (r ≡ answerOf c) × (rows' ≡ placed rows (rowsOf c))
-    with-rows r rows rows' h = (h .0 ∙ answer-at 0 (sym e), h .1 ∙ ap (λ (l : List ℕ). placed rows l) (rows-at 0 (sym e)))
+    with-rows : {r : Answer} (rows : List ℕ) {rows' : List ℕ} → (r ≡ answerWith 0 (foundAfter 0 c)) × (rows' ≡ placed rows (foundAfter 0 c .rows)) → (r ≡ answerOf c) × (rows' ≡ placed rows (rowsOf c))
+    with-rows rows h = (h .0 ∙ answer-at 0 (sym e), h .1 ∙ ap (λ (l : List ℕ). placed rows l) (rows-at 0 (sym e)))
 
-    pub searched-accepted : (r : Answer) (rows rows' : List ℕ) → inSearchMode c ≡ true
+    pub searched-accepted : {r : Answer} (rows : List ℕ) {rows' : List ℕ} → inSearchMode c ≡ true
         → (r ≡ answerWith 0 (searched (c .settings) (c .table) (c .parts))) × (rows' ≡ placed rows (searched (c .settings) (c .table) (c .parts) .rows))
         → (r ≡ answerOf c) × (rows' ≡ placed rows (rowsOf c))
-    searched-accepted r rows rows' m h = with-rows r rows rows' (rw m h)
+    searched-accepted rows m h = with-rows rows (rw m h)
 
-    pub alone-accepted : (r : Answer) (rows rows' : List ℕ) → inSearchMode c ≡ false
+    pub alone-accepted : {r : Answer} (rows : List ℕ) {rows' : List ℕ} → inSearchMode c ≡ false
         → (r ≡ answerWith 0 (matchedAlone (c .settings) (c .table) (c .parts))) × (rows' ≡ placed rows (matchedAlone (c .settings) (c .table) (c .parts) .rows))
         → (r ≡ answerOf c) × (rows' ≡ placed rows (rowsOf c))
-    alone-accepted r rows rows' m h = with-rows r rows rows' (rw m h)
+    alone-accepted rows m h = with-rows rows (rw m h)
 
     -- a search is no job without one
     pub did-search : {X : Type 0} → inSearchMode c ≡ true → searches c ≡ false → X

@@ -39,6 +39,7 @@ matchedAlone s t p =
 abbrev pub noneFound : Found
 noneFound = record { rows = []; scored = start; count = 0; complete = false }
 
+-- any job that is not matched one to one is in search mode; V is the number of starts
 abbrev pub inSearchMode : Call → Bool
 inSearchMode c = searchMode (c .settings) (length (c .table .starts))
 

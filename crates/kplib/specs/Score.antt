@@ -82,12 +82,12 @@ unfoldable pub afterLists : (Scored → List ℕ → Scored) → Scored → List
 afterLists after best [] = best
 afterLists after best (list ∷ lists) = afterLists after (after best list) lists
 
--- against every part list
+-- a chain, by its total, against every part list
 unfoldable pub totalScore : Settings → Parts → Total → Scored
 unfolding afterLists afterList partLists
 totalScore s p chain = afterLists (afterList s p chain) start (partLists (length (p .sizes)) (s .fnmax) (s .pileupmax))
 
--- a chain, a list of rows
+-- and by its rows
 unfoldable pub chainScore : Settings → Table → Parts → List ℕ → Scored
 unfolding totalScore sizeOf featuresOf
 chainScore s t p chain = totalScore s p (totalOf (4 ^ s .k) (t .sizes) (t .features) chain)

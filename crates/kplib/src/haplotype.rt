@@ -1,7 +1,7 @@
 // The part lists of a haplotype, laid down once a search as codes and sizes (haplotype.rs).
 ghost use mathlib.Core.Path.{_≡_};
-ghost use Prim.Native.Nat.{_+_, _-_, _/_, _≤_, _<_, max};
-ghost use lib.IntN.{ℤ, pos, natAbs, _+ℤ_};
+ghost use Prim.Native.Nat.{_-_, _/_, _≤_, _<_, max};
+ghost use lib.IntN.{pos, natAbs, _+ℤ_};
 ghost use lib.ListN.{length, getD, take};
 ghost use Rattle.params.specs.Checked.{Sized};
 ghost use Rattle.kplib.specs.Parts.{wholeOf, lengthsOf};

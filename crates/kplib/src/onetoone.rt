@@ -1,6 +1,6 @@
 // The one-to-one match: each row alone against the whole haplotype (traverse.rs, one_to_one).
 ghost use mathlib.Core.Path.{_≡_};
-ghost use Prim.Native.Nat.{_+_, _≤_};
+ghost use Prim.Native.Nat.{_≤_};
 ghost use Rattle.params.specs.Numbers.{partsOf};
 ghost use Rattle.kplib.specs.Graph.{nodeOf};
 ghost use Rattle.kplib.specs.OneToOne.{latestOf, oneToOne};

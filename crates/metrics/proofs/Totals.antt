@@ -1,8 +1,8 @@
--- Document 01: the entries of a counted row sum to plus or minus the number of windows, and their magnitudes to that number. Each window adds
--- one to one entry of the row, so the sum over the entries is the length of the list of windows. Assumes nothing.
+-- The entries of a counted row sum to plus or minus the number of windows kept, and their magnitudes to that number. Each window adds one to one
+-- entry of the row, so the sum over the entries is the length of the list of windows; document 01 keeps all length - k + 1. Assumes nothing.
 use mathlib.Core.Path.{_≡_, refl, ap, _∙_}
-use mathlib.Core.Bool.{Bool, true, false, cond, not, _&&_}
-use mathlib.Core.List.{List, [], _∷_}
+use mathlib.Core.Bool.{Bool, true, false, cond, _&&_}
+use mathlib.Core.List.{List, [], _∷_, _++_}
 use mathlib.Core.Logic.{⊎-elim}
 use Prim.Native.Nat.{ℕ, zero, suc, _+_, _-_, _^_, _≤_, _<_, zero-le}
 use native.Mathlib.Nat.{eq-or-lt-of-le}
@@ -12,10 +12,11 @@ use lib.ListN.{length, take}
 use lib.IntN.{ℤ, pos, _+ℤ_, +ℤ-idl, +ℤ-idr}
 use lib.Seq.{length-take-le}
 use borrow.Author.Tests.{leb-true, leb-false, ltb-false, eq-eqb, ne-eqb, le-leb, le-ltb}
-use Rattle.metrics.specs.declared.kmer.Counted.the-variants.{Done, Refused}
+use Rattle.metrics.specs.declared.kmer.Counted.the-variants.{Done}
 use Rattle.metrics.specs.Similarity.{magnitudeSum}
-use Rattle.metrics.specs.Letters.{numberOf, windowsOf, timesIn, signed, tableFrom, countsOf, counterAnswer, countedNumber, entriesOf, EntriesSum, RowWithinLimit}
-use Rattle.metrics.proofs.Windows.{signed-size, number-lt}
+use Rattle.metrics.specs.Letters.{numberOf, everyByte, allRead, firstWindow, windowsReading, timesIn, signed, tableFrom}
+use Rattle.metrics.specs.Letters.{countsReading, countsOf, counterAnswer, countedNumber, entriesOf, EntriesSum, EntriesSumToLength, RowWithinLimit}
+use Rattle.metrics.proofs.Windows.{signed-size, number-lt, all-every, windows-fewer}
 
 -- g i + g (i + 1) + .., n terms
 tally : (ℕ → ℕ) → ℕ → ℕ → ℕ
@@ -98,41 +99,52 @@ times-total n (w ∷ ws) b =
     one-more (λ i. timesIn i (w ∷ ws)) (λ i. timesIn i ws) w (times-here w ws) (times-other w ws) 0 n zero-le (omega (arith, b .0))
     ∙ ap suc (times-total n ws (b .1))
 
-windows-below : (k : ℕ) (s : List ℕ) → Below (4 ^ k) (windowsOf k s)
-unfolding windowsOf Below
-windows-below k [] = tt
-windows-below k (x ∷ s) = go (windows-below k s) (leb k (suc (length s))) refl
-  where
-    go : Below (4 ^ k) (windowsOf k s) → (t : Bool) → leb k (suc (length s)) ≡ t
-        → Below (4 ^ k) (cond t (numberOf (take k (x ∷ s)) ∷ windowsOf k s) [])
-    go rest true e = (rw (length-take-le k (x ∷ s) (leb-true k (suc (length s)) e)) at (number-lt (take k (x ∷ s))), rest)
-    go rest false e = tt
+below-append : (n : ℕ) (us ws : List ℕ) → Below n us → Below n ws → Below n (us ++ ws)
+unfolding Below
+below-append n [] ws h k = k
+below-append n (u ∷ us) ws h k = (h .0, below-append n us ws (h .1) k)
 
-windows-length : (k : ℕ) → 1 ≤ k → (s : List ℕ) → length (windowsOf k s) ≡ length s + 1 - k
-unfolding windowsOf
-windows-length k h [] = omega arith
-windows-length k h (x ∷ s) = go (windows-length k h s) (leb k (suc (length s))) refl
+module _ (reads : ℕ → Bool) (k : ℕ) where
+  first-below : (s : List ℕ) → Below (4 ^ k) (firstWindow reads k s)
+  unfolding firstWindow Below
+  first-below s = go (leb k (length s)) refl (allRead reads (take k s))
+    where
+      go : (t : Bool) → leb k (length s) ≡ t → (r : Bool) → Below (4 ^ k) (cond (t && r) (numberOf (take k s) ∷ []) [])
+      go true e true = (rw (length-take-le k s (leb-true k (length s) e)) at (number-lt (take k s)), tt)
+      go true e false = tt
+      go false e r = tt
+
+  windows-below : (s : List ℕ) → Below (4 ^ k) (windowsReading reads k s)
+  unfolding windowsReading Below
+  windows-below [] = tt
+  windows-below (x ∷ s) = below-append (4 ^ k) (firstWindow reads k (x ∷ s)) (windowsReading reads k s) (first-below (x ∷ s)) (windows-below s)
+
+  times-windows : (s : List ℕ) → tally (λ i. timesIn i (windowsReading reads k s)) 0 (4 ^ k) ≡ length (windowsReading reads k s)
+  times-windows s = times-total (4 ^ k) (windowsReading reads k s) (windows-below s)
+
+pub entries-sum : EntriesSum
+unfolding EntriesSum countsReading
+entries-sum reads k negative s =
+    entries-tally negative (λ i. timesIn i (windowsReading reads k s)) 0 (4 ^ k) ∙ ap (signed negative) (times-windows reads k s)
+
+magnitudes-sum : (reads : ℕ → Bool) (k : ℕ) (negative : Bool) (s : List ℕ) → magnitudeSum (countsReading reads k negative s) ≡ length (windowsReading reads k s)
+unfolding countsReading
+magnitudes-sum reads k negative s = magnitudes-tally negative (λ i. timesIn i (windowsReading reads k s)) 0 (4 ^ k) ∙ times-windows reads k s
+
+-- where every byte reads, each place that k letters begin at has its window
+every-length : (k : ℕ) → 1 ≤ k → (s : List ℕ) → length (windowsReading everyByte k s) ≡ length s + 1 - k
+unfolding windowsReading firstWindow
+every-length k h [] = omega arith
+every-length k h (x ∷ s) = rw (all-every (take k (x ∷ s))) (go (every-length k h s) (leb k (suc (length s))) refl)
   where
-    go : length (windowsOf k s) ≡ length s + 1 - k → (t : Bool) → leb k (suc (length s)) ≡ t
-        → length (cond t (numberOf (take k (x ∷ s)) ∷ windowsOf k s) []) ≡ suc (length s) + 1 - k
+    go : length (windowsReading everyByte k s) ≡ length s + 1 - k → (t : Bool) → leb k (suc (length s)) ≡ t
+        → length (cond (t && true) (numberOf (take k (x ∷ s)) ∷ []) [] ++ windowsReading everyByte k s) ≡ suc (length s) + 1 - k
     go rest true e = omega (arith, leb-true k (suc (length s)) e)
     go rest false e = omega (arith, leb-false k (suc (length s)) e)
 
-module _ (k : ℕ) (negative : Bool) (s : List ℕ) where
-  pub counts-entries : entriesOf (countsOf k negative s) ≡ signed negative (length (windowsOf k s))
-  unfolding countsOf
-  counts-entries =
-      entries-tally negative (λ i. timesIn i (windowsOf k s)) 0 (4 ^ k)
-      ∙ ap (signed negative) (times-total (4 ^ k) (windowsOf k s) (windows-below k s))
-
-  pub counts-magnitudes : magnitudeSum (countsOf k negative s) ≡ length (windowsOf k s)
-  unfolding countsOf
-  counts-magnitudes =
-      magnitudes-tally negative (λ i. timesIn i (windowsOf k s)) 0 (4 ^ k) ∙ times-total (4 ^ k) (windowsOf k s) (windows-below k s)
-
-pub entries-sum : EntriesSum
-unfolding EntriesSum
-entries-sum k negative s h = counts-entries k negative s ∙ ap (signed negative) (windows-length k h s)
+pub entries-sum-to-length : EntriesSumToLength
+unfolding EntriesSumToLength EntriesSum countsOf
+entries-sum-to-length k negative s h = entries-sum everyByte k negative s ∙ ap (signed negative) (every-length k h s)
 
 -- for the crates above: which calls are accepted, and what is known of one that is
 pub counter-done : (k : ℕ) (s : List ℕ) (row : List ℤ) → 1 ≤ k → k ≤ 6 → length row ≡ 4 ^ k → length s ≤ 131072 → counterAnswer k s row ≡ Done
@@ -142,7 +154,7 @@ counter-done k s row h h' e l = rw (le-leb 1 k h, le-leb k 6 h', eq-eqb (length 
 -- a test that fails gives a number other than 0, in whichever order the tests are tried
 passed-tests : (k : ℕ) (s : List ℕ) (row : List ℤ) (low high room long : Bool)
     → leb 1 k ≡ low → leb k 6 ≡ high → eqb (length row) (4 ^ k) ≡ room → ltb 131072 (length s) ≡ long
-    → counterAnswer k s row ≡ Done → (low ≡ true) × (long ≡ false)
+    → counterAnswer k s row ≡ Done → long ≡ false
 unfolding counterAnswer
 passed-tests k s row false high room long a b c d e =
     let z = ap countedNumber (simp a at e) in
@@ -159,15 +171,13 @@ passed-tests k s row true true false false a b c d e =
 passed-tests k s row true true true true a b c d e =
     let z = ap countedNumber (simp (a, b, c, d) at e) in
     absurd (omega arith)
-passed-tests k s row true true true false a b c d e = (refl, refl)
+passed-tests k s row true true true false a b c d e = refl
 
-accepted-limits : (k : ℕ) (s : List ℕ) (row : List ℤ) → counterAnswer k s row ≡ Done → (1 ≤ k) × (length s ≤ 131072)
-accepted-limits k s row e =
-    let t = passed-tests k s row (leb 1 k) (leb k 6) (eqb (length row) (4 ^ k)) (ltb 131072 (length s)) refl refl refl refl e in
-    (leb-true 1 k (t .0), ltb-false 131072 (length s) (t .1))
+accepted-letters : (k : ℕ) (s : List ℕ) (row : List ℤ) → counterAnswer k s row ≡ Done → length s ≤ 131072
+accepted-letters k s row e =
+    ltb-false 131072 (length s) (passed-tests k s row (leb 1 k) (leb k 6) (eqb (length row) (4 ^ k)) (ltb 131072 (length s)) refl refl refl refl e)
 
 pub row-within-limit : RowWithinLimit
 unfolding RowWithinLimit
-row-within-limit k negative s row e =
-    let l = accepted-limits k s row e in
-    omega (arith, counts-magnitudes k negative s, windows-length k (l .0) s)
+row-within-limit reads k negative s row e =
+    omega (arith, accepted-letters k s row e, magnitudes-sum reads k negative s, windows-fewer reads k s)

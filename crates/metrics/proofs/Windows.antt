@@ -1,36 +1,22 @@
--- Windows of k letters as numbers, once over k; the row of counts after one window more; and that after the last window it is the row of the
--- sequence. The loop counts windows by where they start, the definitions list them: a first letter more is a first window more in both. Assumes nothing.
+-- The windows of k letters that are kept, once over k and over the test that keeps them, letter by letter: the windows of one letter more are those
+-- so far and the one that ends with it, if it is kept; its number is that of all letters modulo 4 ^ k, and it counts once more in its own entry.
+-- Assumes nothing.
 use mathlib.Core.Path.{_≡_, refl, sym, ap, _∙_, subst}
-use mathlib.Core.Bool.{Bool, true, false, cond}
-use mathlib.Core.List.{List, [], _∷_, _++_}
+use mathlib.Core.Bool.{Bool, true, false, cond, _&&_}
+use mathlib.Core.List.{List, [], _∷_, _++_, append-nil, append-assoc}
 use Prim.Native.Nat.{ℕ, zero, suc, _+_, _-_, _*_, _/_, _%_, _^_, _≤_, _<_, zero-le}
 use native.Mathlib.Nat.{add-assoc, add-mul, mul-assoc, pow-succ', le-refl, mod-eq-of-lt, mul-add-mod-self-right, div-add-mod', mul-le-mul-right, mul-right-comm, add-zero, pow-le-pow-right}
-use borrow.Author.Tests.{eqb-true, eqb-false, leb-true, leb-false}
 use native.Mathlib.Numerals.{add-one}
 use native.Mathlib.Omega.{arith}
+use borrow.Author.Tests.{eqb-true, eqb-false, leb-true, leb-false, le-leb, lt-leb, eq-eqb}
 use lib.Dec.{leb, eqb}
 use lib.IntN.{ℤ, pos, natAbs, sucℤ, predℤ}
-use lib.ListN.{length, getD, take, drop, set, replicate, length-append, length-drop, length-set}
+use lib.ListN.{length, getD, take, drop, set, replicate, length-append, length-drop, length-set, take-append-drop}
 use lib.Pow.{pow-add}
-use lib.Seq.{take-add, take-suc, length-take-le, getD-set-same, getD-set-other, ext-getD}
-use borrow.Author.Tests.{eq-eqb, ne-eqb}
-use Rattle.metrics.specs.Letters.{codeOf, numberOf, windowsOf, timesIn, signed, tableFrom, countsOf}
+use lib.Seq.{take-suc, take-all, take-append-le, length-take-le, getD-set-same, getD-set-other, ext-getD}
+use Rattle.metrics.specs.Letters.{codeOf, numberOf, everyByte, allRead, firstWindow, windowsReading, timesIn, signed, tableFrom, countsReading}
 
--- the window of k letters that starts at j, and how many windows there are
-abbrev pub windowAt : ℕ → List ℕ → ℕ → ℕ
-windowAt k s j = numberOf (take k (drop j s))
-
-abbrev pub windows : ℕ → List ℕ → ℕ
-windows k s = length s + 1 - k
-
--- how many of the first n windows have the number i, and the row after them
-unfoldable pub hits : ℕ → List ℕ → ℕ → ℕ → ℕ
-hits k s zero i = 0
-hits k s (suc n) i = hits k s n i + cond (eqb i (windowAt k s n)) 1 0
-
-abbrev pub countsTo : ℕ → Bool → List ℕ → ℕ → List ℤ
-countsTo k negative s n = tableFrom (λ i. signed negative (hits k s n i)) 0 (4 ^ k)
-
+-- ---- letters as digits
 cond-le : (t : Bool) (p q r : ℕ) → p ≤ r → q ≤ r → cond t p q ≤ r
 cond-le true p q r h k = h
 cond-le false p q r h k = k
@@ -60,16 +46,27 @@ pub number-more : (s : List ℕ) (p : ℕ) → p < length s → numberOf (take (
 unfolding numberOf
 number-more s p h = rw (add-one, take-suc s p 0 h, number-append) (omega arith)
 
--- the last k digits of the first j + k letters are the window at j
-window-length : (k : ℕ) (s : List ℕ) (j : ℕ) → j + k ≤ length s → length (take k (drop j s)) ≡ k
-window-length k s j h = length-take-le k (drop j s) (rw (length-drop j s) (omega arith))
+-- the last k letters, and that their number is what is left of the whole modulo 4 ^ k
+abbrev pub lastLetters : ℕ → List ℕ → List ℕ
+lastLetters k s = drop (length s - k) s
 
-pub window-lt : (k : ℕ) (s : List ℕ) (j : ℕ) → j + k ≤ length s → windowAt k s j < 4 ^ k
-window-lt k s j h = rw (window-length k s j h) at (number-lt (take k (drop j s)))
+last-length : (k : ℕ) (s : List ℕ) → k ≤ length s → length (lastLetters k s) ≡ k
+last-length k s h =
+    let e : length s - (length s - k) ≡ k = omega arith in
+    length-drop (length s - k) s ∙ e
 
-pub window-is : (k : ℕ) (s : List ℕ) (j : ℕ) → j + k ≤ length s → numberOf (take (j + k) s) % 4 ^ k ≡ windowAt k s j
-window-is k s j h =
-    rw (take-add j k s, number-append, window-length k s j h, mul-add-mod-self-right) (mod-eq-of-lt (window-lt k s j h))
+last-lt : (k : ℕ) (s : List ℕ) → k ≤ length s → numberOf (lastLetters k s) < 4 ^ k
+last-lt k s h = rw (last-length k s h) at (number-lt (lastLetters k s))
+
+last-is : (k : ℕ) (s : List ℕ) → k ≤ length s → numberOf s % 4 ^ k ≡ numberOf (lastLetters k s)
+last-is k s h =
+    ap (λ (t : List ℕ). numberOf t % 4 ^ k) (sym (take-append-drop (length s - k) s))
+    ∙ rw (number-append, last-length k s h, mul-add-mod-self-right) (mod-eq-of-lt (last-lt k s h))
+
+last-longer : (k x : ℕ) (s : List ℕ) → k ≤ length s → lastLetters k (x ∷ s) ≡ lastLetters k s
+last-longer k x s h =
+    let e : suc (length s) - k ≡ suc (length s - k) = omega arith in
+    rw e
 
 -- one digit more, of what is left of a number modulo m
 pub roll : (v d m : ℕ) → (v % m * 4 + d) % m ≡ (v * 4 + d) % m
@@ -77,12 +74,81 @@ roll v d m =
     let e : v / m * 4 * m + (v % m * 4 + d) ≡ v * 4 + d = omega (arith, div-add-mod' v m, mul-right-comm (v / m) 4 m) in
     sym (mul-add-mod-self-right (v / m * 4) m (v % m * 4 + d)) ∙ ap (λ (x : ℕ). x % m) e
 
--- ---- counts
-pub hits-le : (k : ℕ) (s : List ℕ) (n i : ℕ) → hits k s n i ≤ n
-unfolding hits
-hits-le k s zero i = zero-le
-hits-le k s (suc n) i = omega (arith, hits-le k s n i, cond-le (eqb i (windowAt k s n)) 1 0 1 (le-refl 1) zero-le)
+-- ---- windows
+pub all-every : (s : List ℕ) → allRead everyByte s ≡ true
+unfolding allRead
+all-every [] = refl
+all-every (x ∷ s) = all-every s
 
+module _ (reads : ℕ → Bool) (k : ℕ) where
+  first-short : (s : List ℕ) → length s < k → firstWindow reads k s ≡ []
+  unfolding firstWindow
+  first-short s h = rw (lt-leb k (length s) h)
+
+  first-longer : (s t : List ℕ) → k ≤ length s → firstWindow reads k (s ++ t) ≡ firstWindow reads k s
+  unfolding firstWindow
+  first-longer s t h =
+      let longer : k ≤ length (s ++ t) = omega (arith, length-append s t) in
+      rw (take-append-le k s t h, le-leb k (length s) h, le-leb k (length (s ++ t)) longer)
+
+  first-one : (s : List ℕ) → length (firstWindow reads k s) ≤ 1
+  unfolding firstWindow
+  first-one s = go (leb k (length s) && allRead reads (take k s))
+    where
+      go : (t : Bool) → length (cond t (numberOf (take k s) ∷ []) []) ≤ 1
+      go true = omega arith
+      go false = omega arith
+
+  -- the window of the last k letters
+  last-whole : (s : List ℕ) → k ≤ length s
+      → firstWindow reads k (lastLetters k s) ≡ cond (allRead reads (lastLetters k s)) (numberOf (lastLetters k s) ∷ []) []
+  unfolding firstWindow
+  last-whole s h =
+      let e = last-length k s h in
+      rw (take-all k (lastLetters k s) (omega arith), le-leb k (length (lastLetters k s)) (omega arith))
+
+  last-left : (s : List ℕ) → leb k (length s) && allRead reads (lastLetters k s) ≡ false → firstWindow reads k (lastLetters k s) ≡ []
+  last-left s h = go (leb k (length s)) refl h
+    where
+      go : (t : Bool) → leb k (length s) ≡ t → t && allRead reads (lastLetters k s) ≡ false → firstWindow reads k (lastLetters k s) ≡ []
+      go true e l = rw (last-whole s (leb-true k (length s) e), l)
+      go false e l = first-short (lastLetters k s) (omega (arith, leb-false k (length s) e, length-drop (length s - k) s))
+
+  pub windows-fewer : (s : List ℕ) → length (windowsReading reads k s) ≤ length s
+  unfolding windowsReading
+  windows-fewer [] = zero-le
+  windows-fewer (x ∷ s) = omega (arith, length-append (firstWindow reads k (x ∷ s)) (windowsReading reads k s), first-one (x ∷ s), windows-fewer s)
+
+  windows-short : (s : List ℕ) → length s < k → windowsReading reads k s ≡ []
+  unfolding windowsReading
+  windows-short [] h = refl
+  windows-short (x ∷ s) h = rw (first-short (x ∷ s) h, windows-short s (omega arith))
+
+  windows-snoc : 1 ≤ k → (s : List ℕ) (y : ℕ)
+      → windowsReading reads k (s ++ (y ∷ [])) ≡ windowsReading reads k s ++ firstWindow reads k (lastLetters k (s ++ (y ∷ [])))
+  unfolding windowsReading
+  windows-snoc h [] y =
+      let e : 1 - k ≡ 0 = omega arith in
+      rw e (append-nil (firstWindow reads k (y ∷ [])))
+  windows-snoc h (x ∷ s) y = go (windows-snoc h s y) (leb k (suc (length s))) refl
+    where
+      go : windowsReading reads k (s ++ (y ∷ [])) ≡ windowsReading reads k s ++ firstWindow reads k (lastLetters k (s ++ (y ∷ [])))
+          → (t : Bool) → leb k (suc (length s)) ≡ t
+          → firstWindow reads k (x ∷ (s ++ (y ∷ []))) ++ windowsReading reads k (s ++ (y ∷ []))
+          ≡ firstWindow reads k (x ∷ s) ++ windowsReading reads k s ++ firstWindow reads k (lastLetters k (x ∷ (s ++ (y ∷ []))))
+      go rest true e =
+          let fit = leb-true k (suc (length s)) e in
+          let longer : k ≤ length (s ++ (y ∷ [])) = omega (arith, length-append s (y ∷ [])) in
+          rw (first-longer (x ∷ s) (y ∷ []) fit, rest, last-longer k x (s ++ (y ∷ [])) longer)
+          (sym (append-assoc (firstWindow reads k (x ∷ s)) (windowsReading reads k s) (firstWindow reads k (lastLetters k (s ++ (y ∷ []))))))
+      go rest false e =
+          let short = leb-false k (suc (length s)) e in
+          let still : length (s ++ (y ∷ [])) < k = omega (arith, length-append s (y ∷ [])) in
+          let none : suc (length (s ++ (y ∷ []))) - k ≡ 0 = omega arith in
+          rw (first-short (x ∷ s) short, windows-short s (omega arith), windows-short (s ++ (y ∷ [])) still, none)
+          (append-nil (firstWindow reads k (x ∷ (s ++ (y ∷ [])))))
+
+-- ---- counts
 pub table-length : (f : ℕ → ℤ) (i n : ℕ) → length (tableFrom f i n) ≡ n
 unfolding tableFrom
 table-length f i zero = refl
@@ -126,49 +192,61 @@ bump-suc true zero = refl
 bump-suc true (suc n) = refl
 bump-suc false n = refl
 
-module _ (k : ℕ) (negative : Bool) (s : List ℕ) where
-  pub counts-length : (n : ℕ) → length (countsTo k negative s n) ≡ 4 ^ k
-  counts-length n = table-length (λ i. signed negative (hits k s n i)) 0 (4 ^ k)
+-- the row of a list of windows
+abbrev tallied : ℕ → Bool → List ℕ → List ℤ
+tallied k negative ws = tableFrom (λ i. signed negative (timesIn i ws)) 0 (4 ^ k)
 
-  pub counts-at : (n i : ℕ) → i < 4 ^ k → getD (countsTo k negative s n) i (pos 0) ≡ signed negative (hits k s n i)
-  counts-at n i h = table-at (λ i. signed negative (hits k s n i)) 0 (4 ^ k) i (pos 0) h ∙ ap (λ (j : ℕ). signed negative (hits k s n j)) (first i)
+times-le : (i : ℕ) (ws : List ℕ) → timesIn i ws ≤ length ws
+unfolding timesIn
+times-le i [] = zero-le
+times-le i (w ∷ ws) = omega (arith, times-le i ws, cond-le (eqb i w) 1 0 1 (le-refl 1) zero-le)
+
+times-snoc : (i w : ℕ) (ws : List ℕ) → timesIn i (ws ++ (w ∷ [])) ≡ timesIn i ws + cond (eqb i w) 1 0
+unfolding timesIn
+times-snoc i w [] = omega arith
+times-snoc i w (v ∷ ws) = omega (arith, times-snoc i w ws)
+
+module _ (k : ℕ) (negative : Bool) (ws : List ℕ) where
+  tallied-length : length (tallied k negative ws) ≡ 4 ^ k
+  tallied-length = table-length (λ i. signed negative (timesIn i ws)) 0 (4 ^ k)
+
+  tallied-at : (i : ℕ) → i < 4 ^ k → getD (tallied k negative ws) i (pos 0) ≡ signed negative (timesIn i ws)
+  tallied-at i h = table-at (λ i. signed negative (timesIn i ws)) 0 (4 ^ k) i (pos 0) h ∙ ap (λ (j : ℕ). signed negative (timesIn j ws)) (first i)
     where
       first : (i : ℕ) → 0 + i ≡ i
       first i = omega arith
 
-  pub counts-zero : countsTo k negative s 0 ≡ replicate (4 ^ k) (pos 0)
-  unfolding hits
-  counts-zero = table-const (λ i. signed negative (hits k s 0 i)) (pos 0) (λ i. signed-zero negative) 0 (4 ^ k)
-
-  pub counts-size : (n i : ℕ) → i < 4 ^ k → natAbs (getD (countsTo k negative s n) i (pos 0)) ≤ n
-  counts-size n i h = rw (counts-at n i h, signed-size) (hits-le k s n i)
-
-  pub hits-here : (n i : ℕ) → i ≡ windowAt k s n → hits k s (suc n) i ≡ suc (hits k s n i)
-  unfolding hits
-  hits-here n i e = rw (eq-eqb _ _ e) (omega arith)
-
-  pub hits-other : (n i : ℕ) → (i ≡ windowAt k s n → ⊥) → hits k s (suc n) i ≡ hits k s n i
-  unfolding hits
-  hits-other n i e = rw (ne-eqb _ _ e) (omega arith)
-
-  pub counts-more : (n : ℕ) → windowAt k s n < 4 ^ k
-      → set (countsTo k negative s n) (windowAt k s n) (bump negative (getD (countsTo k negative s n) (windowAt k s n) (pos 0)))
-      ≡ countsTo k negative s (n + 1)
-  counts-more n h =
-      rw add-one
-      (ext-getD (pos 0) _ _ (simp length-set (counts-length n ∙ sym (counts-length (suc n))))
-      (λ i l. entry i (simp (length-set, counts-length n) at l) (eqb i (windowAt k s n)) refl))
+-- one window more
+module _ (k : ℕ) (negative : Bool) (ws : List ℕ) (w : ℕ) (h : w < 4 ^ k) where
+  tallied-more : set (tallied k negative ws) w (bump negative (getD (tallied k negative ws) w (pos 0))) ≡ tallied k negative (ws ++ (w ∷ []))
+  tallied-more =
+      ext-getD (pos 0) _ _ (simp length-set (tallied-length k negative ws ∙ sym (tallied-length k negative (ws ++ (w ∷ [])))))
+      (λ i l. entry i (simp (length-set, tallied-length k negative ws) at l) (eqb i w) refl)
     where
-      entry : (i : ℕ) → i < 4 ^ k → (t : Bool) → eqb i (windowAt k s n) ≡ t
-          → getD (set (countsTo k negative s n) (windowAt k s n) (bump negative (getD (countsTo k negative s n) (windowAt k s n) (pos 0)))) i (pos 0)
-          ≡ getD (countsTo k negative s (suc n)) i (pos 0)
+      entry : (i : ℕ) → i < 4 ^ k → (t : Bool) → eqb i w ≡ t
+          → getD (set (tallied k negative ws) w (bump negative (getD (tallied k negative ws) w (pos 0)))) i (pos 0)
+          ≡ getD (tallied k negative (ws ++ (w ∷ []))) i (pos 0)
       entry i l true e =
-          let same = eqb-true i (windowAt k s n) e in
-          let room : windowAt k s n < length (countsTo k negative s n) = subst (λ (m : ℕ). windowAt k s n < m) (sym (counts-length n)) h in
-          rw (counts-at (suc n) i l, hits-here n i same, same, getD-set-same, counts-at n (windowAt k s n) h) (bump-suc negative _)
+          let same = eqb-true i w e in
+          let room : w < length (tallied k negative ws) = subst (λ (m : ℕ). w < m) (sym (tallied-length k negative ws)) h in
+          let more : timesIn w (ws ++ (w ∷ [])) ≡ suc (timesIn w ws) = rw (times-snoc w w ws, eq-eqb w w refl) (omega arith) in
+          rw (tallied-at k negative (ws ++ (w ∷ [])) i l, same, getD-set-same, tallied-at k negative ws w h, more) (bump-suc negative _)
       entry i l false e =
-          let other = eqb-false i (windowAt k s n) e in
-          rw (getD-set-other (countsTo k negative s n) (windowAt k s n) i) (counts-at n i l ∙ ap (signed negative) (sym (hits-other n i other)) ∙ sym (counts-at (suc n) i l))
+          let other = eqb-false i w e in
+          let same : timesIn i (ws ++ (w ∷ [])) ≡ timesIn i ws = rw (times-snoc i w ws, e) (omega arith) in
+          rw (getD-set-other (tallied k negative ws) w i)
+          (tallied-at k negative ws i l ∙ ap (signed negative) (sym same) ∙ sym (tallied-at k negative (ws ++ (w ∷ [])) i l))
+
+module _ (reads : ℕ → Bool) (k : ℕ) (negative : Bool) where
+  pub counts-none : countsReading reads k negative [] ≡ replicate (4 ^ k) (pos 0)
+  unfolding countsReading windowsReading timesIn
+  counts-none = table-const (λ i. signed negative (timesIn i [])) (pos 0) (λ i. signed-zero negative) 0 (4 ^ k)
+
+  pub counts-size : (s : List ℕ) (i : ℕ) → i < 4 ^ k → natAbs (getD (countsReading reads k negative s) i (pos 0)) ≤ length s
+  unfolding countsReading
+  counts-size s i h =
+      rw (tallied-at k negative (windowsReading reads k s) i h, signed-size)
+      (omega (arith, times-le i (windowsReading reads k s), windows-fewer reads k s))
 
 -- ---- a turn of the counter's loop, at letter p
 pub four-pos : (k : ℕ) → 0 < 4 ^ k
@@ -179,56 +257,30 @@ pub turn-number : (k : ℕ) (s : List ℕ) (p v d size : ℕ) → size ≡ 4 ^ k
 turn-number k s p v d size es h ev ed =
     rw (es, ev, ed) (roll (numberOf (take p s)) (codeOf (getD s p 0)) (4 ^ k) ∙ ap (λ (x : ℕ). x % 4 ^ k) (sym (number-more s p h)))
 
-module _ (k : ℕ) (s : List ℕ) (p : ℕ) (whole : k ≤ p + 1) (more : p < length s) where
-  fits : p + 1 - k + k ≤ length s
-  fits = omega arith
+module _ (k : ℕ) (s : List ℕ) (p : ℕ) (more : p < length s) where
+  read-length : length (take (p + 1) s) ≡ p + 1
+  read-length = length-take-le (p + 1) s (omega arith)
 
-  pub turn-window : numberOf (take (p + 1) s) % 4 ^ k ≡ windowAt k s (p + 1 - k)
-  turn-window =
-      let e : p + 1 - k + k ≡ p + 1 = omega arith in
-      rw e at (window-is k s (p + 1 - k) fits)
+  pub turn-window : k ≤ p + 1 → numberOf (take (p + 1) s) % 4 ^ k ≡ numberOf (lastLetters k (take (p + 1) s))
+  turn-window whole = last-is k (take (p + 1) s) (omega (arith, read-length))
 
-  pub turn-row : (negative : Bool) (out : List ℤ) (w : ℕ) (y : ℤ) → out ≡ countsTo k negative s (p + 1 - k) → w ≡ windowAt k s (p + 1 - k)
-      → y ≡ bump negative (getD out w (pos 0)) → set out w y ≡ countsTo k negative s (p + 1 + 1 - k)
-  turn-row negative out w y eo ew ey =
-      let e : p + 1 - k + 1 ≡ p + 1 + 1 - k = omega arith in
-      rw (ey, eo, ew) (rw e at (counts-more k negative s (p + 1 - k) (window-lt k s (p + 1 - k) fits)))
+  module _ (reads : ℕ → Bool) (some : 1 ≤ k) (negative : Bool) (out : List ℤ) (eo : out ≡ countsReading reads k negative (take p s)) where
+    windows-turn : windowsReading reads k (take (p + 1) s) ≡ windowsReading reads k (take p s) ++ firstWindow reads k (lastLetters k (take (p + 1) s))
+    windows-turn = rw (add-one, take-suc s p 0 more) (windows-snoc reads k some (take p s) (getD s p 0))
 
-pub turn-none : (k p : ℕ) → p + 1 < k → p + 1 + 1 - k ≡ p + 1 - k
-turn-none k p h = omega arith
+    -- the window that ends here is kept where there are k letters and each of them reads
+    pub turn-kept : k ≤ p + 1 → allRead reads (lastLetters k (take (p + 1) s)) ≡ true → (w : ℕ) (y : ℤ) → w ≡ numberOf (lastLetters k (take (p + 1) s))
+        → y ≡ bump negative (getD out w (pos 0)) → set out w y ≡ countsReading reads k negative (take (p + 1) s)
+    unfolding countsReading
+    turn-kept whole all w y ew ey =
+        let long : k ≤ length (take (p + 1) s) = omega (arith, read-length) in
+        rw (ey, eo, ew, windows-turn, last-whole reads k (take (p + 1) s) long, all)
+        (tallied-more k negative (windowsReading reads k (take p s)) (numberOf (lastLetters k (take (p + 1) s))) (last-lt k (take (p + 1) s) long))
 
--- ---- from the first windows to the list of all
--- the first window, apart from the others
-hits-first : (k x : ℕ) (s : List ℕ) (n i : ℕ) → hits k (x ∷ s) (suc n) i ≡ cond (eqb i (numberOf (take k (x ∷ s)))) 1 0 + hits k s n i
-unfolding hits
-hits-first k x s zero i = omega arith
-hits-first k x s (suc n) i = omega (arith, hits-first k x s n i)
-
-hits-all : (k : ℕ) → 1 ≤ k → (s : List ℕ) (i : ℕ) → hits k s (windows k s) i ≡ timesIn i (windowsOf k s)
-unfolding hits windowsOf timesIn
-hits-all k h [] i =
-    let none : 1 - k ≡ 0 = omega arith in
-    rw none
-hits-all k h (x ∷ s) i = go (hits-all k h s i) (leb k (suc (length s))) refl
-  where
-    go : hits k s (windows k s) i ≡ timesIn i (windowsOf k s) → (t : Bool) → leb k (suc (length s)) ≡ t
-        → hits k (x ∷ s) (suc (length s) + 1 - k) i ≡ timesIn i (cond t (numberOf (take k (x ∷ s)) ∷ windowsOf k s) [])
-    go rest true e =
-        let fit = leb-true k (suc (length s)) e in
-        let one : suc (length s) + 1 - k ≡ suc (windows k s) = omega arith in
-        rw (one, hits-first k x s (windows k s) i, rest)
-    go rest false e =
-        let short = leb-false k (suc (length s)) e in
-        let none : suc (length s) + 1 - k ≡ 0 = omega arith in
-        rw none
-
-table-same : (f g : ℕ → ℤ) → ((i : ℕ) → f i ≡ g i) → (i n : ℕ) → tableFrom f i n ≡ tableFrom g i n
-unfolding tableFrom
-table-same f g h i zero = refl
-table-same f g h i (suc n) = rw (h i, table-same f g h (suc i) n)
-
-pub counts-whole : (k : ℕ) (negative : Bool) (s : List ℕ) → 1 ≤ k → countsTo k negative s (windows k s) ≡ countsOf k negative s
-unfolding countsOf
-counts-whole k negative s h =
-    table-same (λ i. signed negative (hits k s (windows k s) i)) (λ i. signed negative (timesIn i (windowsOf k s)))
-    (λ i. ap (signed negative) (hits-all k h s i)) 0 (4 ^ k)
+    -- and left out where there are fewer, or one of them does not
+    pub turn-left : leb k (p + 1) && allRead reads (lastLetters k (take (p + 1) s)) ≡ false → out ≡ countsReading reads k negative (take (p + 1) s)
+    unfolding countsReading
+    turn-left left =
+        let here = ap (λ (n : ℕ). leb k n && allRead reads (lastLetters k (take (p + 1) s))) read-length ∙ left in
+        let none = last-left reads k (take (p + 1) s) here in
+        rw (eo, windows-turn, none, append-nil (windowsReading reads k (take p s)))

@@ -2,7 +2,7 @@
 use Prim.Native.Nat.{ℕ, zero, suc, _+_, _-_, _*_, _^_, _≤_}
 use mathlib.Core.Path.{_≡_}
 use mathlib.Core.Bool.{Bool, true, false, cond, not, _&&_}
-use mathlib.Core.List.{List, [], _∷_}
+use mathlib.Core.List.{List, [], _∷_, _++_}
 use lib.Dec.{leb, ltb, eqb}
 use lib.IntN.{ℤ, pos, negℤ, _+ℤ_}
 use lib.ListN.{length, take}
@@ -21,10 +21,28 @@ unfoldable pub numberOf : List ℕ → ℕ
 numberOf [] = 0
 numberOf (x ∷ xs) = codeOf x * 4 ^ length xs + numberOf xs
 
--- the numbers of the windows of k letters, front to back; fewer than k letters have none
+-- a window is kept exactly when each of its k bytes passes a test, `reads`; in document 01 every byte does
+abbrev pub everyByte : ℕ → Bool
+everyByte b = true
+
+-- whether all of these bytes pass
+unfoldable pub allRead : (ℕ → Bool) → List ℕ → Bool
+allRead reads [] = true
+allRead reads (x ∷ xs) = reads x && allRead reads xs
+
+-- the number of the window of the first k letters, if there are k and it is kept
+unfoldable pub firstWindow : (ℕ → Bool) → ℕ → List ℕ → List ℕ
+firstWindow reads k letters = cond (leb k (length letters) && allRead reads (take k letters)) (numberOf (take k letters) ∷ []) []
+
+-- the numbers of the windows kept, front to back; fewer than k letters have none
+unfoldable pub windowsReading : (ℕ → Bool) → ℕ → List ℕ → List ℕ
+windowsReading reads k [] = []
+windowsReading reads k (x ∷ xs) = firstWindow reads k (x ∷ xs) ++ windowsReading reads k xs
+
+-- document 01's windows: every byte is read
 unfoldable pub windowsOf : ℕ → List ℕ → List ℕ
-windowsOf k [] = []
-windowsOf k (x ∷ xs) = cond (leb k (length (x ∷ xs))) (numberOf (take k (x ∷ xs)) ∷ windowsOf k xs) []
+unfolding windowsReading firstWindow allRead
+windowsOf = windowsReading everyByte
 
 -- how often a number stands in a list
 unfoldable pub timesIn : ℕ → List ℕ → ℕ
@@ -45,9 +63,14 @@ tableFrom f i (suc n) = f i ∷ tableFrom f (suc i) n
 unfoldable pub entryCount : ℕ → ℕ
 entryCount k = cond (leb k 6) (4 ^ k) 0
 
--- each window adds 1 to its own entry, or subtracts 1 for a negative sequence
+-- each window kept adds 1 to its own entry, or subtracts 1 for a negative sequence
+unfoldable pub countsReading : (ℕ → Bool) → ℕ → Bool → List ℕ → List ℤ
+countsReading reads k negative letters = tableFrom (λ i. signed negative (timesIn i (windowsReading reads k letters))) 0 (4 ^ k)
+
+-- document 01's counts, of these windows
 unfoldable pub countsOf : ℕ → Bool → List ℕ → List ℤ
-countsOf k negative letters = tableFrom (λ i. signed negative (timesIn i (windowsOf k letters))) 0 (4 ^ k)
+unfolding countsReading windowsOf
+countsOf = countsReading everyByte
 
 -- the counter refuses by 1, 6 (room not 4^k) and 13
 unfoldable pub counterAnswer : ℕ → List ℕ → List ℤ → Counted
@@ -71,13 +94,19 @@ unfoldable pub entriesOf : List ℤ → ℤ
 entriesOf [] = pos 0
 entriesOf (x ∷ xs) = x +ℤ entriesOf xs
 
--- "The entries sum to plus or minus (length - k + 1), or 0": the difference is 0 where there are fewer than k letters
+-- the entries sum to plus or minus the number of windows kept
 unfoldable pub EntriesSum : Type 0
 EntriesSum =
+    (reads : ℕ → Bool) (k : ℕ) (negative : Bool) (letters : List ℕ)
+    → entriesOf (countsReading reads k negative letters) ≡ signed negative (length (windowsReading reads k letters))
+
+-- "The entries sum to plus or minus (length - k + 1), or 0": every window is kept, and the difference is 0 where there are fewer than k letters
+unfoldable pub EntriesSumToLength : Type 0
+EntriesSumToLength =
     (k : ℕ) (negative : Bool) (letters : List ℕ) → 1 ≤ k → entriesOf (countsOf k negative letters) ≡ signed negative (length letters + 1 - k)
 
 -- the magnitudes of a counted row sum to at most the limit that the search asks of a feature row
 unfoldable pub RowWithinLimit : Type 0
 RowWithinLimit =
-    (k : ℕ) (negative : Bool) (letters : List ℕ) (row : List ℤ) → counterAnswer k letters row ≡ Done
-    → magnitudeSum (countsOf k negative letters) ≤ 131072
+    (reads : ℕ → Bool) (k : ℕ) (negative : Bool) (letters : List ℕ) (row : List ℤ) → counterAnswer k letters row ≡ Done
+    → magnitudeSum (countsReading reads k negative letters) ≤ 131072

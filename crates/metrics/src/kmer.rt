@@ -1,7 +1,7 @@
 // The k-mer counter: the windows of k letters of a sequence, counted in a row.
 ghost use mathlib.Core.Path.{_≡_};
 ghost use mathlib.Core.Bool.{cond};
-ghost use Prim.Native.Nat.{_+_, _*_, _%_, _≤_, _<_, _^_};
+ghost use Prim.Native.Nat.{_+_, _*_, _%_, _≤_, _^_};
 ghost use lib.IntN.{pos, natAbs, sucℤ, predℤ};
 ghost use lib.ListN.{length, replicate};
 ghost use Rattle.metrics.specs.Letters.{codeOf, countsOf};

@@ -4,12 +4,8 @@ use mathlib.Core.Path.{ap, _∙_}
 use borrow.Author.Needs.{needs}
 use Rattle.capi.proofs.nd_apply_haplotype.Statement.{statement}
 use Rattle.capi.proofs.nd_apply_haplotype.Tie as tie
-use Rattle.capi.proofs.nd_apply_haplotype.Reads as reads
-use Rattle.capi.proofs.nd_apply_haplotype.Lts as lts
-use Rattle.capi.proofs.report.put_report.Reads as put-report-reads
 use Rattle.capi.specs.Report.{reportOf}
 use Rattle.capi.proofs.TargetLaws.{target-within}
-use Rattle.kplib.proofs.traverse.apply_haplotype.Reads as apply-haplotype-reads
 
 -- src/lib.rt:142:9
 apply-haplotype-requires : tie.Need-apply-haplotype-requires

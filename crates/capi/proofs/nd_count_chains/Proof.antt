@@ -3,9 +3,6 @@ use mathlib.Core.Path.{refl}
 use borrow.Author.Needs.{needs}
 use Rattle.capi.proofs.nd_count_chains.Statement.{statement}
 use Rattle.capi.proofs.nd_count_chains.Tie as tie
-use Rattle.capi.proofs.nd_count_chains.Reads as reads
-use Rattle.capi.proofs.nd_count_chains.Lts as lts
-use Rattle.kplib.proofs.vargraph.count_chains.Reads as count-chains-reads
 
 -- src/lib.rt:79:9
 count-chains-requires : tie.Need-count-chains-requires

@@ -3,9 +3,6 @@ use mathlib.Core.Path.{refl}
 use borrow.Author.Needs.{needs}
 use Rattle.capi.proofs.nd_seq_to_kmer.Statement.{statement}
 use Rattle.capi.proofs.nd_seq_to_kmer.Tie as tie
-use Rattle.capi.proofs.nd_seq_to_kmer.Reads as reads
-use Rattle.capi.proofs.nd_seq_to_kmer.Lts as lts
-use Rattle.metrics.proofs.kmer.seq_to_kmer.Reads as seq-to-kmer-reads
 
 -- src/lib.rt:14:9
 seq-to-kmer-requires : tie.Need-seq-to-kmer-requires

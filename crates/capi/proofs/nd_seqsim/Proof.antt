@@ -4,9 +4,6 @@ use borrow.Author.Needs.{needs}
 use Rattle.metrics.proofs.Casts.{zero-is}
 use Rattle.capi.proofs.nd_seqsim.Statement.{statement}
 use Rattle.capi.proofs.nd_seqsim.Tie as tie
-use Rattle.capi.proofs.nd_seqsim.Reads as reads
-use Rattle.capi.proofs.nd_seqsim.Lts as lts
-use Rattle.metrics.proofs.seqsim.Reads as seqsim-reads
 
 -- src/lib.rt:26:9
 seqsim-requires : tie.Need-seqsim-requires

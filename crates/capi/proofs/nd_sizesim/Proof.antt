@@ -4,9 +4,6 @@ use borrow.Author.Needs.{needs}
 use Rattle.metrics.proofs.Casts.{zero-is}
 use Rattle.capi.proofs.nd_sizesim.Statement.{statement}
 use Rattle.capi.proofs.nd_sizesim.Tie as tie
-use Rattle.capi.proofs.nd_sizesim.Reads as reads
-use Rattle.capi.proofs.nd_sizesim.Lts as lts
-use Rattle.metrics.proofs.sizesim.Reads as sizesim-reads
 
 -- src/lib.rt:44:9
 sizesim-requires : tie.Need-sizesim-requires

@@ -8,11 +8,6 @@ use Rattle.desk.proofs.DeskLaws.{put-placed, desk-long, desk-read, scan
 use borrow.Author.Needs.{needs}
 use Rattle.desk.proofs.answer.Statement.{statement}
 use Rattle.desk.proofs.answer.Tie as tie
-use Rattle.desk.proofs.answer.Reads as reads
-use Rattle.desk.proofs.answer.Lts as lts
-use Rattle.desk.proofs.memory.answer_held.Reads as answer-held-reads
-use Rattle.desk.proofs.text.put_refused.Reads as put-refused-reads
-use Rattle.job.proofs.reader.scan.Reads as scan-reads
 
 put-refused-requires : tie.Need-put-refused-requires
 put-refused-requires c κs = search needs

@@ -7,12 +7,6 @@ use lib.ListN.{length}
 use lib.Seq.{length-take-le}
 use Rattle.metrics_vectors.proofs.answer_counted.Statement.{statement}
 use Rattle.metrics_vectors.proofs.answer_counted.Tie as tie
-use Rattle.metrics_vectors.proofs.answer_counted.Reads as reads
-use Rattle.metrics_vectors.proofs.answer_counted.Lts as lts
-use Rattle.metrics_vectors.proofs.capped.Reads as capped-reads
-use Rattle.metrics_vectors.proofs.print_counted.Reads as print-counted-reads
-use Rattle.metrics_vectors.proofs.repeated_letters.Reads as repeated-letters-reads
-use Rattle.metrics_vectors.proofs.sevens.Reads as sevens-reads
 
 add-if1 : tie.Need-add-if1
 add-if1 c = search needs

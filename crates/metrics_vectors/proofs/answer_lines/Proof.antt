@@ -4,10 +4,6 @@ use Prim.Native.Nat.{_-_, _≤_}
 use lib.ListN.{length}
 use Rattle.metrics_vectors.proofs.answer_lines.Statement.{statement}
 use Rattle.metrics_vectors.proofs.answer_lines.Tie as tie
-use Rattle.metrics_vectors.proofs.answer_lines.Reads as reads
-use Rattle.metrics_vectors.proofs.answer_lines.Lts as lts
-use Rattle.metrics_vectors.proofs.answer_line.Reads as answer-line-reads
-use Rattle.metrics_vectors.proofs.line_end.Reads as line-end-reads
 
 abbrev Inv-loop : tie.InvT-loop
 Inv-loop list at₀ at = at ≤ length list

@@ -7,14 +7,6 @@ use lib.ListN.{length}
 use lib.Seq.{length-take-le}
 use Rattle.metrics_vectors.proofs.answer_seqsim.Statement.{statement}
 use Rattle.metrics_vectors.proofs.answer_seqsim.Tie as tie
-use Rattle.metrics_vectors.proofs.answer_seqsim.Reads as reads
-use Rattle.metrics_vectors.proofs.answer_seqsim.Lts as lts
-use Rattle.metrics.proofs.seqsim.Reads as seqsim-reads
-use Rattle.metrics_vectors.proofs.behind_numbers.Reads as behind-numbers-reads
-use Rattle.metrics_vectors.proofs.capped.Reads as capped-reads
-use Rattle.metrics_vectors.proofs.number.Reads as number-reads
-use Rattle.metrics_vectors.proofs.print_sim.Reads as print-sim-reads
-use Rattle.metrics_vectors.proofs.read_row.Reads as read-row-reads
 
 number-requires : tie.Need-number-requires
 number-requires c κs = search needs

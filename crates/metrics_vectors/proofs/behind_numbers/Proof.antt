@@ -4,9 +4,6 @@ use Prim.Native.Nat.{_-_, _≤_, _<_}
 use lib.ListN.{length}
 use Rattle.metrics_vectors.proofs.behind_numbers.Statement.{statement}
 use Rattle.metrics_vectors.proofs.behind_numbers.Tie as tie
-use Rattle.metrics_vectors.proofs.behind_numbers.Reads as reads
-use Rattle.metrics_vectors.proofs.behind_numbers.Lts as lts
-use Rattle.metrics_vectors.proofs.number.Reads as number-reads
 
 abbrev Inv-loop : tie.InvT-loop
 Inv-loop list at n next₀ i₀ next i = (i ≤ n) × (next < length list)

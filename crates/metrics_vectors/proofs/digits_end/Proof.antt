@@ -5,9 +5,6 @@ use lib.ListN.{length}
 use mathlib.Core.Path.{_≡_}
 use Rattle.metrics_vectors.proofs.digits_end.Statement.{statement}
 use Rattle.metrics_vectors.proofs.digits_end.Tie as tie
-use Rattle.metrics_vectors.proofs.digits_end.Reads as reads
-use Rattle.metrics_vectors.proofs.digits_end.Lts as lts
-use Rattle.metrics_vectors.proofs.is_digit.Reads as is-digit-reads
 
 abbrev Inv-loop : tie.InvT-loop
 Inv-loop list at last end₀ end = (at ≤ end) × (end ≤ last) × (last + 1 ≡ length list)

@@ -3,9 +3,6 @@ use borrow.Author.Needs.{needs}
 use Prim.Native.Nat.{_-_, _≤_}
 use Rattle.metrics_vectors.proofs.digits_value.Statement.{statement}
 use Rattle.metrics_vectors.proofs.digits_value.Tie as tie
-use Rattle.metrics_vectors.proofs.digits_value.Reads as reads
-use Rattle.metrics_vectors.proofs.digits_value.Lts as lts
-use Rattle.metrics_vectors.proofs.with_digit.Reads as with-digit-reads
 
 abbrev Inv-loop : tie.InvT-loop
 Inv-loop list from to magnitude₀ i₀ magnitude i = i ≤ to

@@ -8,9 +8,6 @@ use mir.Val.{SFits}
 use mir.ValLaws.{toZ-pos}
 use Rattle.metrics_vectors.proofs.entry.Statement.{statement}
 use Rattle.metrics_vectors.proofs.entry.Tie as tie
-use Rattle.metrics_vectors.proofs.entry.Reads as reads
-use Rattle.metrics_vectors.proofs.entry.Lts as lts
-use Rattle.metrics_vectors.proofs.capped.Reads as capped-reads
 
 opposite : (n : ℕ) → n ≤ 2147483647 → SFits w32 (pos 0 -ℤ pos n)
 opposite zero h = record { sfits = omega arith }

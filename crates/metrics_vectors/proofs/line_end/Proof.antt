@@ -5,8 +5,6 @@ use lib.ListN.{length}
 use mathlib.Core.Path.{_≡_}
 use Rattle.metrics_vectors.proofs.line_end.Statement.{statement}
 use Rattle.metrics_vectors.proofs.line_end.Tie as tie
-use Rattle.metrics_vectors.proofs.line_end.Reads as reads
-use Rattle.metrics_vectors.proofs.line_end.Lts as lts
 
 abbrev Inv-loop : tie.InvT-loop
 Inv-loop list at last end₀ end = (at < end) × (end ≤ last) × (last + 1 ≡ length list)

@@ -4,9 +4,6 @@ use Prim.Native.Nat.{_-_, _≤_}
 use lib.ListN.{length}
 use Rattle.metrics_vectors.proofs.print_row.Statement.{statement}
 use Rattle.metrics_vectors.proofs.print_row.Tie as tie
-use Rattle.metrics_vectors.proofs.print_row.Reads as reads
-use Rattle.metrics_vectors.proofs.print_row.Lts as lts
-use Rattle.metrics_vectors.proofs.print_entry.Reads as print-entry-reads
 
 abbrev Inv-loop : tie.InvT-loop
 Inv-loop row i₀ i = i ≤ length row

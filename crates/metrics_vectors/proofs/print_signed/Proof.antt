@@ -9,10 +9,6 @@ use lib.IntN.{ℤ, pos, _-ℤ_}
 use Rattle.metrics.proofs.Ints.{small, back, entry-size, abs-minus, minus-nonneg, nonneg}
 use Rattle.metrics_vectors.proofs.print_signed.Statement.{statement}
 use Rattle.metrics_vectors.proofs.print_signed.Tie as tie
-use Rattle.metrics_vectors.proofs.print_signed.Reads as reads
-use Rattle.metrics_vectors.proofs.print_signed.Lts as lts
-use Rattle.io.proofs.print_decimal.Reads as print-decimal-reads
-use Rattle.metrics_vectors.proofs.print.Reads as print-reads
 
 -- a number of 32 bits, read as one of 64
 wide : (x : ℤ) → SFits w32 x → toZ w64 (ofZ w64 (toZ w32 (ofZ w32 x))) ≡ x

@@ -4,10 +4,6 @@ use Prim.Native.Nat.{_-_, _≤_, _<_}
 use lib.ListN.{length}
 use Rattle.metrics_vectors.proofs.read_row.Statement.{statement}
 use Rattle.metrics_vectors.proofs.read_row.Tie as tie
-use Rattle.metrics_vectors.proofs.read_row.Reads as reads
-use Rattle.metrics_vectors.proofs.read_row.Lts as lts
-use Rattle.metrics_vectors.proofs.entry.Reads as entry-reads
-use Rattle.metrics_vectors.proofs.number.Reads as number-reads
 
 abbrev Inv-loop : tie.InvT-loop
 Inv-loop list at row₀ next₀ i₀ row next i = (i ≤ 64) × (next < length list)

@@ -6,10 +6,6 @@ use native.Mathlib.Nat.{mod-lt}
 use lib.ListN.{length}
 use Rattle.metrics_vectors.proofs.repeated_letters.Statement.{statement}
 use Rattle.metrics_vectors.proofs.repeated_letters.Tie as tie
-use Rattle.metrics_vectors.proofs.repeated_letters.Reads as reads
-use Rattle.metrics_vectors.proofs.repeated_letters.Lts as lts
-use Rattle.metrics_vectors.proofs.at_least_one.Reads as at-least-one-reads
-use Rattle.metrics_vectors.proofs.line_end.Reads as line-end-reads
 
 abbrev Inv-loop : tie.InvT-loop
 Inv-loop list at first end width letters₀ i₀ letters i = (i ≤ 131073) × (1 ≤ width) × (first + width ≤ length list)

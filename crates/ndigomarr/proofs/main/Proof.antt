@@ -9,11 +9,6 @@ use Rattle.desk.specs.Desk.{deskText}
 use borrow.Author.Needs.{needs}
 use Rattle.ndigomarr.proofs.main.Statement.{statement}
 use Rattle.ndigomarr.proofs.main.Tie as tie
-use Rattle.ndigomarr.proofs.main.Reads as reads
-use Rattle.ndigomarr.proofs.main.Lts as lts
-use Rattle.desk.proofs.answer.Reads as answer-reads
-use Rattle.io.proofs.read_full.Reads as read-full-reads
-use Rattle.io.proofs.write_all.Reads as write-all-reads
 
 within : (n : ℕ) (input old new : List ℕ) → n ≡ length (deskText input) → new ≡ deskText input ++ drop (length (deskText input)) old → n ≤ length new
 within n input old new e f = rw (f, length-append) (omega arith)

@@ -2,9 +2,6 @@
 use native.Mathlib.Omega.{arith}
 use Rattle.search_vectors.proofs.main.Statement.{statement}
 use Rattle.search_vectors.proofs.main.Tie as tie
-use Rattle.search_vectors.proofs.main.Reads as reads
-use Rattle.search_vectors.proofs.main.Lts as lts
-use Rattle.search_vectors.proofs.answer_next.Reads as answer-next-reads
 
 abbrev Inv-loop : tie.InvT-loop
 Inv-loop turns₀ turns = Unit {0}

@@ -3,10 +3,6 @@ use mathlib.Core.Path.{refl}
 use borrow.Author.Needs.{needs}
 use Rattle.capi.proofs.report.put_report.Statement.{statement}
 use Rattle.capi.proofs.report.put_report.Tie as tie
-use Rattle.capi.proofs.report.put_report.Reads as reads
-use Rattle.capi.proofs.report.put_report.Lts as lts
-use Rattle.capi.proofs.report.flag_number.Reads as flag-number-reads
-use Rattle.capi.proofs.report.target_number.Reads as target-number-reads
 
 -- src/report.rt:40:9
 target-number-requires : tie.Need-target-number-requires

@@ -4,8 +4,6 @@ use mathlib.Core.Path.{refl}
 use borrow.Author.Needs.{needs}
 use Rattle.capi.proofs.report.target_number.Statement.{statement}
 use Rattle.capi.proofs.report.target_number.Tie as tie
-use Rattle.capi.proofs.report.target_number.Reads as reads
-use Rattle.capi.proofs.report.target_number.Lts as lts
 
 -- src/report.rt:14:28
 enum-told : tie.Need-enum-told

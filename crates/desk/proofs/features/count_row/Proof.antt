@@ -4,9 +4,6 @@ use Rattle.desk.proofs.FeatureLaws.{row-counted}
 use borrow.Author.Needs.{needs}
 use Rattle.desk.proofs.features.count_row.Statement.{statement}
 use Rattle.desk.proofs.features.count_row.Tie as tie
-use Rattle.desk.proofs.features.count_row.Reads as reads
-use Rattle.desk.proofs.features.count_row.Lts as lts
-use Rattle.metrics.proofs.kmer.seq_to_kmer.Reads as seq-to-kmer-reads
 
 sub-seq-to-kmer : tie.Need-sub-seq-to-kmer
 sub-seq-to-kmer c = search needs

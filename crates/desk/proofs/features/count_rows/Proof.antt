@@ -6,9 +6,6 @@ use lib.ListN.{length}
 use Rattle.desk.proofs.FeatureLaws.{Running, rows-start, row-fits, rows-next, rows-done}
 use Rattle.desk.proofs.features.count_rows.Statement.{statement}
 use Rattle.desk.proofs.features.count_rows.Tie as tie
-use Rattle.desk.proofs.features.count_rows.Reads as reads
-use Rattle.desk.proofs.features.count_rows.Lts as lts
-use Rattle.desk.proofs.features.count_row.Reads as count-row-reads
 
 abbrev Inv-loop : tie.InvT-loop
 Inv-loop k width negatives counts letters first table₀ row₀ at₀ from₀ table row at from = Running k width negatives counts letters first table₀ table row at from

@@ -6,12 +6,6 @@ use Rattle.desk.proofs.MemoryLaws.{emptyWith, empty-room, never-refused
 use borrow.Author.Needs.{needs}
 use Rattle.desk.proofs.memory.answer_held.Statement.{statement}
 use Rattle.desk.proofs.memory.answer_held.Tie as tie
-use Rattle.desk.proofs.memory.answer_held.Reads as reads
-use Rattle.desk.proofs.memory.answer_held.Lts as lts
-use Rattle.desk.proofs.memory.answer_loaded.Reads as answer-loaded-reads
-use Rattle.desk.proofs.room.letter_room.Reads as letter-room-reads
-use Rattle.desk.proofs.text.put_refused.Reads as put-refused-reads
-use Rattle.job.proofs.reader.read_job.Reads as read-job-reads
 
 letter-room-requires : tie.Need-letter-room-requires
 letter-room-requires c κs = search needs

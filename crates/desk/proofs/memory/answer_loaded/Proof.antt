@@ -9,10 +9,6 @@ use Rattle.desk.proofs.MemoryLaws.{load-k, load-paths, load-zero, load-
 use borrow.Author.Needs.{needs}
 use Rattle.desk.proofs.memory.answer_loaded.Statement.{statement}
 use Rattle.desk.proofs.memory.answer_loaded.Tie as tie
-use Rattle.desk.proofs.memory.answer_loaded.Reads as reads
-use Rattle.desk.proofs.memory.answer_loaded.Lts as lts
-use Rattle.desk.proofs.memory.count_and_search.Reads as count-and-search-reads
-use Rattle.desk.proofs.text.put_refused.Reads as put-refused-reads
 
 put-refused-requires : tie.Need-put-refused-requires
 put-refused-requires c κs = search needs

@@ -9,12 +9,6 @@ use Rattle.desk.proofs.MemoryLaws.{variants-end, parts-end, variants-fi
 use borrow.Author.Needs.{needs}
 use Rattle.desk.proofs.memory.count_and_search.Statement.{statement}
 use Rattle.desk.proofs.memory.count_and_search.Tie as tie
-use Rattle.desk.proofs.memory.count_and_search.Reads as reads
-use Rattle.desk.proofs.memory.count_and_search.Lts as lts
-use Rattle.desk.proofs.features.count_rows.Reads as count-rows-reads
-use Rattle.desk.proofs.memory.search.Reads as search-reads
-use Rattle.desk.proofs.room.part_table.Reads as part-table-reads
-use Rattle.desk.proofs.room.variant_table.Reads as variant-table-reads
 
 entries-requires : tie.Need-entries-requires
 entries-requires c κs = search needs

@@ -9,10 +9,6 @@ use Rattle.desk.proofs.DeskLaws.{text-refused, text-accepted}
 use borrow.Author.Needs.{needs}
 use Rattle.desk.proofs.memory.print.Statement.{statement}
 use Rattle.desk.proofs.memory.print.Tie as tie
-use Rattle.desk.proofs.memory.print.Reads as reads
-use Rattle.desk.proofs.memory.print.Lts as lts
-use Rattle.desk.proofs.text.put_answer.Reads as put-answer-reads
-use Rattle.desk.proofs.text.put_refused.Reads as put-refused-reads
 
 put-refused-requires : tie.Need-put-refused-requires
 put-refused-requires c κs = search needs

@@ -9,12 +9,6 @@ use Rattle.desk.proofs.AnswerLaws.{answer-few, answer-text}
 use borrow.Author.Needs.{needs}
 use Rattle.desk.proofs.memory.search.Statement.{statement}
 use Rattle.desk.proofs.memory.search.Tie as tie
-use Rattle.desk.proofs.memory.search.Reads as reads
-use Rattle.desk.proofs.memory.search.Lts as lts
-use Rattle.desk.proofs.memory.print.Reads as print-reads
-use Rattle.desk.proofs.room.key_room.Reads as key-room-reads
-use Rattle.desk.proofs.room.queue_room.Reads as queue-room-reads
-use Rattle.kplib.proofs.traverse.apply_haplotype.Reads as apply-haplotype-reads
 
 queue-room-requires : tie.Need-queue-room-requires
 queue-room-requires c κs = search needs

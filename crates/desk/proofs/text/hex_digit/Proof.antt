@@ -3,8 +3,6 @@ use Rattle.desk.proofs.PieceLaws.{digit-low, digit-high}
 use borrow.Author.Needs.{needs}
 use Rattle.desk.proofs.text.hex_digit.Statement.{statement}
 use Rattle.desk.proofs.text.hex_digit.Tie as tie
-use Rattle.desk.proofs.text.hex_digit.Reads as reads
-use Rattle.desk.proofs.text.hex_digit.Lts as lts
 
 cast-result : tie.Need-cast-result
 cast-result c = search needs

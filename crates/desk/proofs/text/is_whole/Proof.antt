@@ -4,8 +4,6 @@ use Rattle.desk.specs.Text.{isWhole}
 use borrow.Author.Needs.{needs}
 use Rattle.desk.proofs.text.is_whole.Statement.{statement}
 use Rattle.desk.proofs.text.is_whole.Tie as tie
-use Rattle.desk.proofs.text.is_whole.Reads as reads
-use Rattle.desk.proofs.text.is_whole.Lts as lts
 
 enum-told : tie.Need-enum-told
 enum-told c = search needs

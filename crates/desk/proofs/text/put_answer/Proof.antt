@@ -4,11 +4,6 @@ use Rattle.desk.proofs.PieceLaws.{put-then}
 use borrow.Author.Needs.{needs}
 use Rattle.desk.proofs.text.put_answer.Statement.{statement}
 use Rattle.desk.proofs.text.put_answer.Tie as tie
-use Rattle.desk.proofs.text.put_answer.Reads as reads
-use Rattle.desk.proofs.text.put_answer.Lts as lts
-use Rattle.desk.proofs.text.put_reach.Reads as put-reach-reads
-use Rattle.desk.proofs.text.put_rows_line.Reads as put-rows-line-reads
-use Rattle.desk.proofs.text.put_similarities.Reads as put-similarities-reads
 
 put-rows-line-requires : tie.Need-put-rows-line-requires
 put-rows-line-requires c κs = search needs

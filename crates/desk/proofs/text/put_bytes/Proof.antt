@@ -9,8 +9,6 @@ use denote.Ref.{now}
 use Rattle.desk.proofs.PieceLaws.{copy-more, copy-done}
 use Rattle.desk.proofs.text.put_bytes.Statement.{statement}
 use Rattle.desk.proofs.text.put_bytes.Tie as tie
-use Rattle.desk.proofs.text.put_bytes.Reads as reads
-use Rattle.desk.proofs.text.put_bytes.Lts as lts
 
 abbrev Inv-loop : tie.InvT-loop
 Inv-loop out₀ at src i₀ out i = (sets out (at + i) (drop i src) ≡ sets out₀ at src) × ((i ≤ length src) × (length out ≡ length out₀))

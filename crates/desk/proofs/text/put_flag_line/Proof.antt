@@ -5,9 +5,6 @@ use Rattle.desk.proofs.PieceLaws.{put-then, put-wide}
 use borrow.Author.Needs.{needs}
 use Rattle.desk.proofs.text.put_flag_line.Statement.{statement}
 use Rattle.desk.proofs.text.put_flag_line.Tie as tie
-use Rattle.desk.proofs.text.put_flag_line.Reads as reads
-use Rattle.desk.proofs.text.put_flag_line.Lts as lts
-use Rattle.desk.proofs.text.put_bytes.Reads as put-bytes-reads
 
 put-bytes-requires : tie.Need-put-bytes-requires
 put-bytes-requires c κs = search needs

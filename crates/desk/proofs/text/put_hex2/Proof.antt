@@ -6,9 +6,6 @@ use Rattle.desk.proofs.PieceLaws.{put-hex2}
 use borrow.Author.Needs.{needs}
 use Rattle.desk.proofs.text.put_hex2.Statement.{statement}
 use Rattle.desk.proofs.text.put_hex2.Tie as tie
-use Rattle.desk.proofs.text.put_hex2.Reads as reads
-use Rattle.desk.proofs.text.put_hex2.Lts as lts
-use Rattle.desk.proofs.text.hex_digit.Reads as hex-digit-reads
 
 hex-digit-requires : tie.Need-hex-digit-requires
 hex-digit-requires c κs = search needs

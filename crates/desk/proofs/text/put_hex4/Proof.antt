@@ -4,9 +4,6 @@ use Rattle.desk.proofs.PieceLaws.{put-then}
 use borrow.Author.Needs.{needs}
 use Rattle.desk.proofs.text.put_hex4.Statement.{statement}
 use Rattle.desk.proofs.text.put_hex4.Tie as tie
-use Rattle.desk.proofs.text.put_hex4.Reads as reads
-use Rattle.desk.proofs.text.put_hex4.Lts as lts
-use Rattle.desk.proofs.text.put_hex2.Reads as put-hex2-reads
 
 put-hex2-requires : tie.Need-put-hex2-requires
 put-hex2-requires c κs = search needs

@@ -4,9 +4,6 @@ use Rattle.desk.proofs.PieceLaws.{put-then}
 use borrow.Author.Needs.{needs}
 use Rattle.desk.proofs.text.put_hex8.Statement.{statement}
 use Rattle.desk.proofs.text.put_hex8.Tie as tie
-use Rattle.desk.proofs.text.put_hex8.Reads as reads
-use Rattle.desk.proofs.text.put_hex8.Lts as lts
-use Rattle.desk.proofs.text.put_hex4.Reads as put-hex4-reads
 
 put-hex4-requires : tie.Need-put-hex4-requires
 put-hex4-requires c κs = search needs

@@ -5,11 +5,6 @@ use Rattle.desk.proofs.PieceLaws.{put-then}
 use borrow.Author.Needs.{needs}
 use Rattle.desk.proofs.text.put_reach.Statement.{statement}
 use Rattle.desk.proofs.text.put_reach.Tie as tie
-use Rattle.desk.proofs.text.put_reach.Reads as reads
-use Rattle.desk.proofs.text.put_reach.Lts as lts
-use Rattle.desk.proofs.text.is_whole.Reads as is-whole-reads
-use Rattle.desk.proofs.text.put_flag_line.Reads as put-flag-line-reads
-use Rattle.desk.proofs.text.put_number_line.Reads as put-number-line-reads
 
 slice-aggregate-put-flag-line : tie.Need-slice-aggregate-put-flag-line
 slice-aggregate-put-flag-line c = search needs

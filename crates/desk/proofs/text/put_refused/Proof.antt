@@ -3,9 +3,6 @@ use Rattle.desk.specs.Text.{bytesOf, refusedText}
 use borrow.Author.Needs.{needs}
 use Rattle.desk.proofs.text.put_refused.Statement.{statement}
 use Rattle.desk.proofs.text.put_refused.Tie as tie
-use Rattle.desk.proofs.text.put_refused.Reads as reads
-use Rattle.desk.proofs.text.put_refused.Lts as lts
-use Rattle.desk.proofs.text.put_number_line.Reads as put-number-line-reads
 
 slice-aggregate-put-number-line : tie.Need-slice-aggregate-put-number-line
 slice-aggregate-put-number-line c = search needs

@@ -4,10 +4,6 @@ use Rattle.desk.proofs.PieceLaws.{put-then}
 use borrow.Author.Needs.{needs}
 use Rattle.desk.proofs.text.put_row.Statement.{statement}
 use Rattle.desk.proofs.text.put_row.Tie as tie
-use Rattle.desk.proofs.text.put_row.Reads as reads
-use Rattle.desk.proofs.text.put_row.Lts as lts
-use Rattle.desk.proofs.text.put_bytes.Reads as put-bytes-reads
-use Rattle.desk.proofs.text.put_digits.Reads as put-digits-reads
 
 slice-aggregate-put-bytes : tie.Need-slice-aggregate-put-bytes
 slice-aggregate-put-bytes c = search needs

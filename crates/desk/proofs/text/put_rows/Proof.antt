@@ -10,9 +10,6 @@ use Rattle.desk.specs.Pieces.{Put}
 use Rattle.desk.proofs.PieceLaws.{no-rows, next-row, put-wide}
 use Rattle.desk.proofs.text.put_rows.Statement.{statement}
 use Rattle.desk.proofs.text.put_rows.Tie as tie
-use Rattle.desk.proofs.text.put_rows.Reads as reads
-use Rattle.desk.proofs.text.put_rows.Lts as lts
-use Rattle.desk.proofs.text.put_row.Reads as put-row-reads
 
 abbrev Inv-loop : tie.InvT-loop
 Inv-loop out₀ at rows i₀ end₀ out i end = Put (11 * i) out₀ out at end (rowsText (take i rows)) × (i ≤ length rows)

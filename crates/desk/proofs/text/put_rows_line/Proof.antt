@@ -4,10 +4,6 @@ use Rattle.desk.proofs.PieceLaws.{put-then}
 use borrow.Author.Needs.{needs}
 use Rattle.desk.proofs.text.put_rows_line.Statement.{statement}
 use Rattle.desk.proofs.text.put_rows_line.Tie as tie
-use Rattle.desk.proofs.text.put_rows_line.Reads as reads
-use Rattle.desk.proofs.text.put_rows_line.Lts as lts
-use Rattle.desk.proofs.text.put_bytes.Reads as put-bytes-reads
-use Rattle.desk.proofs.text.put_rows.Reads as put-rows-reads
 
 slice-aggregate-put-bytes : tie.Need-slice-aggregate-put-bytes
 slice-aggregate-put-bytes c = search needs

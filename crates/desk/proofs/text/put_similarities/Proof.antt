@@ -4,9 +4,6 @@ use Rattle.desk.proofs.PieceLaws.{put-then}
 use borrow.Author.Needs.{needs}
 use Rattle.desk.proofs.text.put_similarities.Statement.{statement}
 use Rattle.desk.proofs.text.put_similarities.Tie as tie
-use Rattle.desk.proofs.text.put_similarities.Reads as reads
-use Rattle.desk.proofs.text.put_similarities.Lts as lts
-use Rattle.desk.proofs.text.put_float_line.Reads as put-float-line-reads
 
 slice-aggregate-put-float-line : tie.Need-slice-aggregate-put-float-line
 slice-aggregate-put-float-line c = search needs

@@ -1,9 +1,12 @@
 -- Two halves, one behind the other.
 use borrow.Author.Needs.{needs}
-use denote.Ref.{now}
 use Rattle.job.proofs.FieldLaws.{four-stores}
 use Rattle.job.proofs.fields.put_four.Statement.{statement}
 use Rattle.job.proofs.fields.put_four.Tie as tie
+
+-- the places that the proof speaks of
+abbrev low : tie.After-put-two2 → tie.After-put-two
+low c = c .before .before .before .before
 
 put-two-requires : tie.Need-put-two-requires
 put-two-requires c κs = search needs
@@ -18,8 +21,9 @@ same-length : tie.Need-same-length
 same-length c = search needs
 
 returns : tie.Need-returns
-returns c = four-stores (now (c .before .before .before .before .before .before .before .before .before .args .out)) _ _ (c .before .before .before .before .before .before .before .before .before .args .at) (c .before .before .before .before .before .before .before .before .before .args .x) (c .before .before .before .before .before .before .put-two .ensures) (c .before .before .put-two2 .ensures)
+returns c =
+    let q = c .before .before in let p = low q in
+    four-stores _ _ _ _ _ (p .put-two .ensures) (q .put-two2 .ensures)
 
 pub put-four-spec : {M : Type 1} → statement M
-put-four-spec =
-    tie.close (tie.spec put-two-requires add-put-two put-two-requires-2 same-length returns)
+put-four-spec = tie.close (tie.spec put-two-requires add-put-two put-two-requires-2 same-length returns)

@@ -12,13 +12,17 @@ use Rattle.job.proofs.fill.copy_letters.Statement.{statement}
 use Rattle.job.proofs.fill.copy_letters.Tie as tie
 
 abbrev Inv-loop : tie.InvT-loop
-Inv-loop out₀ at b n i₀ out i = (stores set out (at + i) (lettersIn b i (n - i)) ≡ stores set out₀ at (lettersIn b 0 n)) × ((i ≤ n) × (length out ≡ length out₀))
+Inv-loop out₀ at b n i₀ out i = (stores set out (at + i) (lettersIn b i (n - i)) ≡ stores set out₀ at (lettersIn b 0 n)) × (i ≤ n) × (length out ≡ length out₀)
 
 abbrev μ-loop : tie.MeasureT-loop
 μ-loop out₀ at b n i₀ out i = n - i
 
+-- the places that the proof speaks of
+abbrev start : tie.At-loop Inv-loop μ-loop → tie.Start Inv-loop μ-loop
+start c = c .before .before .before
+
 loop-holds : tie.Need-loop-holds Inv-loop μ-loop
-loop-holds c = let a = c .before .before .args in (copy-start (now (a .b)) (a .n) (a .at) (now (a .out)), (zero-le, refl))
+loop-holds c = let a = c .before .before .args in (copy-start (now (a .b)) (a .n) (a .at) (now (a .out)), zero-le, refl)
 
 add-byte-or-zero : tie.Need-add-byte-or-zero Inv-loop μ-loop
 add-byte-or-zero c = omega arith
@@ -42,28 +46,25 @@ loop-less : tie.Need-loop-less Inv-loop μ-loop
 loop-less c = omega arith
 
 loop-again : tie.Need-loop-again Inv-loop μ-loop
-loop-again c = let a = c .before .before .before .before .before .args in (copy-more (now (a .b)) (a .n) (a .at) (c .before .before .loop .out) (c .before .before .loop .i) _ (c .before .loop-test .taken) (c .byte-or-zero .ensures) ∙ c .before .before .loop .inv .0, (omega arith, length-set (c .before .before .loop .out) (a .at + c .before .before .loop .i) (c .byte-or-zero .result) ∙ c .before .before .loop .inv .1 .1))
+loop-again c =
+    let l = c .before .before in
+    let a = start l .args in (
+      copy-more (now (a .b)) (a .n) (a .at) (l .loop .out) (l .loop .i) _ (c .before .loop-test .taken) (c .byte-or-zero .ensures) ∙ l .loop .inv .0,
+      omega arith,
+      length-set (l .loop .out) (a .at + l .loop .i) (c .byte-or-zero .result) ∙ l .loop .inv .2,
+    )
 
 same-length : tie.Need-same-length Inv-loop μ-loop
-same-length c = c .before .loop .inv .1 .1
+same-length c = c .before .loop .inv .2
 
 returns : tie.Need-returns Inv-loop μ-loop
-returns c = let a = c .before .before .before .before .args in sym (copy-done (now (a .b)) (a .n) (a .at) (c .before .loop .out) (c .before .loop .i) (c .loop-test .left)) ∙ c .before .loop .inv .0
+returns c =
+    let l = c .before in
+    let a = start l .args in
+    sym (copy-done (now (a .b)) (a .n) (a .at) (l .loop .out) (l .loop .i) (c .loop-test .left)) ∙ l .loop .inv .0
 
 pub copy-letters-spec : {M : Type 1} → statement M
 copy-letters-spec =
     tie.close
-    (tie.spec
-    Inv-loop
-    μ-loop
-    loop-holds
-    add-byte-or-zero
-    add-byte-or-zero-2
-    byte-or-zero-requires
-    add-out
-    slice-write-out
-    add-i
-    loop-less
-    loop-again
-    same-length
-    returns)
+    (tie.spec Inv-loop μ-loop loop-holds add-byte-or-zero add-byte-or-zero-2 byte-or-zero-requires add-out slice-write-out add-i loop-less loop-again
+    same-length returns)

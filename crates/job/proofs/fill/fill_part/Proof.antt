@@ -1,17 +1,22 @@
 -- A record of another kind, or one cut short, adds no part.
-use denote.Ref.{now}
 use Rattle.job.proofs.FillLaws.{adds-none, adds-one, no-part, cut-part, one-part}
-use Rattle.job.specs.Steps.{partRows, putPart}
-use Rattle.job.specs.Job.{partOf}
+use Rattle.job.specs.Steps.{putPart}
 use borrow.Author.Needs.{needs}
 use Rattle.job.proofs.fill.fill_part.Statement.{statement}
 use Rattle.job.proofs.fill.fill_part.Tie as tie
 
+-- the places that the proof speaks of
+abbrev whole : tie.After-put-part → tie.Else2
+whole c = c .before .before .before .before
+
+abbrev row : tie.After-slice-known4 → tie.After-put-part
+row c = c .before .before .before .before .before
+
 returns : tie.Need-returns
-returns c = let a = c .before .before .before .before .args in adds-none putPart (partRows (now (a .sizes)) (now (a .negatives)) (now (a .counts))) (a .v) (no-part (a .k) (now (a .b)) (c .if1 .taken))
+returns c = adds-none putPart _ _ (no-part _ _ (c .if1 .taken))
 
 returns-2 : tie.Need-returns-2
-returns-2 c = let a = c .before .before .before .before .before .args in adds-none putPart (partRows (now (a .sizes)) (now (a .negatives)) (now (a .counts))) (a .v) (cut-part (a .k) (now (a .b)) (c .before .if1 .left) (c .if2 .taken))
+returns-2 c = let k = c .before in adds-none putPart _ _ (cut-part _ _ (k .if1 .left) (c .if2 .taken))
 
 put-part-requires : tie.Need-put-part-requires
 put-part-requires c κs = search needs
@@ -29,17 +34,9 @@ same-length-3 : tie.Need-same-length-3
 same-length-3 c = search needs
 
 returns-3 : tie.Need-returns-3
-returns-3 c = let a = c .before .before .before .before .before .before .before .before .before .before .before .before .before .before .args in adds-one putPart (partRows (now (a .sizes)) (now (a .negatives)) (now (a .counts))) (a .v) (partOf (now (a .b))) (one-part (a .k) (now (a .b)) (c .before .before .before .before .before .before .before .before .before .before .if1 .left) (c .before .before .before .before .before .before .before .before .before .if2 .left)) (c .before .before .before .before .before .put-part .ensures)
+returns-3 c =
+    let r = row c in let w = whole r in let k = w .before in
+    adds-one putPart _ _ _ (one-part _ _ (k .if1 .left) (w .if2 .left)) (r .put-part .ensures)
 
 pub fill-part-spec : {M : Type 1} → statement M
-fill-part-spec =
-    tie.close
-    (tie.spec
-    returns
-    returns-2
-    put-part-requires
-    add-result
-    same-length
-    same-length-2
-    same-length-3
-    returns-3)
+fill-part-spec = tie.close (tie.spec returns returns-2 put-part-requires add-result same-length same-length-2 same-length-3 returns-3)

@@ -9,6 +9,16 @@ use borrow.Author.Needs.{needs}
 use Rattle.job.proofs.fill.put_part.Statement.{statement}
 use Rattle.job.proofs.fill.put_part.Tie as tie
 
+-- the places that the proof speaks of
+abbrev start : tie.After-four → tie.Start
+start c = c .before .before .before .before .before
+
+abbrev size : tie.After-put-bool → tie.After-put-i32
+size c = c .before .before .before .before
+
+abbrev flag : tie.After-four2 → tie.After-put-bool
+flag c = c .before .before .before .before
+
 four-requires : tie.Need-four-requires
 four-requires c κs = search needs
 
@@ -40,20 +50,15 @@ same-length-3 : tie.Need-same-length-3
 same-length-3 c = search needs
 
 returns : tie.Need-returns
-returns c = let a = c .before .before .before .before .before .before .before .before .before .before .before .before .before .before .before .before .before .before .args in part-put (partRows (now (a .sizes)) (now (a .negatives)) (now (a .counts))) (a .v) (now (a .b)) (c .before .before .before .before .before .before .before .before .before .before .before .put-i32 .ensures) (toZ-ofZ w32 _ (record { sfits = c .before .before .before .before .before .before .before .before .before .before .before .before .signed .ok }) ∙ c .before .before .before .before .before .before .before .before .before .before .before .before .signed .ensures) (c .before .before .before .before .before .before .before .before .before .before .before .before .before .four .ensures) (c .before .before .before .before .before .before .before .put-bool .ensures) (c .before .before .put-u32 .ensures) (c .before .before .before .four2 .ensures)
+returns c =
+    let w = c .before .before in let n = w .before in let f = flag n in let z = size f in
+    let y = z .before in let x = y .before in
+    let a = start x .args in
+    part-put (partRows (now (a .sizes)) (now (a .negatives)) (now (a .counts))) (a .v) (now (a .b)) (z .put-i32 .ensures)
+    (toZ-ofZ w32 _ (record { sfits = y .signed .ok }) ∙ y .signed .ensures) (x .four .ensures) (f .put-bool .ensures) (w .put-u32 .ensures) (n .four2 .ensures)
 
 pub put-part-spec : {M : Type 1} → statement M
 put-part-spec =
     tie.close
-    (tie.spec
-    four-requires
-    signed-requires
-    put-i32-requires
-    shared-slice-read-put-bool
-    put-bool-requires
-    four-requires-2
-    put-u32-requires
-    same-length
-    same-length-2
-    same-length-3
-    returns)
+    (tie.spec four-requires signed-requires put-i32-requires shared-slice-read-put-bool put-bool-requires four-requires-2 put-u32-requires same-length
+    same-length-2 same-length-3 returns)

@@ -9,6 +9,22 @@ use borrow.Author.Needs.{needs}
 use Rattle.job.proofs.fill.put_variant.Statement.{statement}
 use Rattle.job.proofs.fill.put_variant.Tie as tie
 
+-- the places that the proof speaks of
+abbrev start : tie.After-eight → tie.Start
+start c = c .before .before .before .before .before .before .before
+
+abbrev first : tie.After-eight2 → tie.After-put-u64
+first c = c .before .before .before .before
+
+abbrev last : tie.After-four → tie.After-put-u642
+last c = c .before .before .before .before
+
+abbrev size : tie.After-put-bool → tie.After-put-i32
+size c = c .before .before .before .before
+
+abbrev flag : tie.After-four2 → tie.After-put-bool
+flag c = c .before .before .before .before
+
 eight-requires : tie.Need-eight-requires
 eight-requires c κs = search needs
 
@@ -58,26 +74,18 @@ same-length-5 : tie.Need-same-length-5
 same-length-5 c = search needs
 
 returns : tie.Need-returns
-returns c = let a = c .before .before .before .before .before .before .before .before .before .before .before .before .before .before .before .before .before .before .before .before .before .before .before .before .before .before .before .before .before .before .args in variant-put (rows (now (a .starts)) (now (a .ends)) (now (a .sizes)) (now (a .negatives)) (now (a .counts))) (a .v) (now (a .b)) (c .before .before .before .before .before .before .before .before .before .before .before .before .before .before .before .before .before .before .before .before .before .before .put-u64 .ensures) (c .before .before .before .before .before .before .before .before .before .before .before .before .before .before .before .before .before .before .before .before .before .before .before .eight .ensures) (c .before .before .before .before .before .before .before .before .before .before .before .before .before .before .before .before .before .put-u642 .ensures) (c .before .before .before .before .before .before .before .before .before .before .before .before .before .before .before .before .before .before .eight2 .ensures) (c .before .before .before .before .before .before .before .before .before .before .before .put-i32 .ensures) (toZ-ofZ w32 _ (record { sfits = c .before .before .before .before .before .before .before .before .before .before .before .before .signed .ok }) ∙ c .before .before .before .before .before .before .before .before .before .before .before .before .signed .ensures) (c .before .before .before .before .before .before .before .before .before .before .before .before .before .four .ensures) (c .before .before .before .before .before .before .before .put-bool .ensures) (c .before .before .put-u32 .ensures) (c .before .before .before .four2 .ensures)
+returns c =
+    let w = c .before .before in let n = w .before in let f = flag n in let z = size f in
+    let y = z .before in let x = y .before in let q = last x in let l = q .before in
+    let p = first l in let e = p .before in
+    let a = start e .args in
+    variant-put (rows (now (a .starts)) (now (a .ends)) (now (a .sizes)) (now (a .negatives)) (now (a .counts))) (a .v) (now (a .b)) (p .put-u64 .ensures)
+    (e .eight .ensures) (q .put-u642 .ensures) (l .eight2 .ensures) (z .put-i32 .ensures) (toZ-ofZ w32 _ (record { sfits = y .signed .ok }) ∙ y .signed .ensures)
+    (x .four .ensures) (f .put-bool .ensures) (w .put-u32 .ensures) (n .four2 .ensures)
 
 pub put-variant-spec : {M : Type 1} → statement M
 put-variant-spec =
     tie.close
-    (tie.spec
-    eight-requires
-    put-u64-requires
-    eight-requires-2
-    put-u64-requires-2
-    four-requires
-    signed-requires
-    put-i32-requires
-    shared-slice-read-put-bool
-    put-bool-requires
-    four-requires-2
-    put-u32-requires
-    same-length
-    same-length-2
-    same-length-3
-    same-length-4
-    same-length-5
+    (tie.spec eight-requires put-u64-requires eight-requires-2 put-u64-requires-2 four-requires signed-requires put-i32-requires
+    shared-slice-read-put-bool put-bool-requires four-requires-2 put-u32-requires same-length same-length-2 same-length-3 same-length-4 same-length-5
     returns)

@@ -21,7 +21,9 @@ shared-slice-read-if1 : tie.Need-shared-slice-read-if1 Inv-loop μ-loop
 shared-slice-read-if1 c = omega arith
 
 returns : tie.Need-returns Inv-loop μ-loop
-returns c = zero-broken _ _ _ (c .before .before .loop-test .taken) (c .before .before .before .before .pre) (c .if1 .taken) ∙ c .before .before .before .loop .inv
+returns c =
+    let i = c .before .before in
+    zero-broken _ _ _ (i .loop-test .taken) (i .before .before .pre) (c .if1 .taken) ∙ c .before .before .before .loop .inv
 
 add-i : tie.Need-add-i Inv-loop μ-loop
 add-i c = omega arith
@@ -30,21 +32,12 @@ loop-less : tie.Need-loop-less Inv-loop μ-loop
 loop-less c = omega arith
 
 loop-again : tie.Need-loop-again Inv-loop μ-loop
-loop-again c = zero-more _ _ _ (c .before .before .loop-test .taken) (c .before .before .before .before .pre) (c .if1 .left) ∙ c .before .before .before .loop .inv
+loop-again c =
+    let i = c .before .before in
+    zero-more _ _ _ (i .loop-test .taken) (i .before .before .pre) (c .if1 .left) ∙ c .before .before .before .loop .inv
 
 returns-2 : tie.Need-returns-2 Inv-loop μ-loop
 returns-2 c = zero-done _ _ _ (c .loop-test .left) ∙ c .before .loop .inv
 
 pub all-zero-spec : {M : Type 1} → statement M
-all-zero-spec =
-    tie.close
-    (tie.spec
-    Inv-loop
-    μ-loop
-    loop-holds
-    shared-slice-read-if1
-    returns
-    add-i
-    loop-less
-    loop-again
-    returns-2)
+all-zero-spec = tie.close (tie.spec Inv-loop μ-loop loop-holds shared-slice-read-if1 returns add-i loop-less loop-again returns-2)

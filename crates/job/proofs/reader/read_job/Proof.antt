@@ -1,13 +1,66 @@
 -- A fault, or too little room, changes nothing; else the three fillers lay the job at the fronts.
 use native.Mathlib.Omega.{arith}
 use denote.Ref.{now}
-use lib.ListN.{length-take, length-drop}
+use mathlib.Core.Path.{_≡_, sym, _∙_}
+use mathlib.Core.Bool.{true}
+use Prim.Native.Nat.{_≤_}
+use lib.ListN.{length, length-take, length-drop}
 use borrow.Author.Tests.{not-true, not-false}
-use Rattle.job.specs.Reading.{lent}
-use Rattle.job.proofs.ReadLaws.{read-refused, settings-there, crowded-rows, crowded-parts, crowded-letters, letters-fit, read-job}
+use Rattle.job.specs.declared.form.Counts.{Counts}
+use Rattle.job.specs.declared.form.Scan.the-variants.{Good}
+use Rattle.job.specs.Form.{run, start}
+use Rattle.job.specs.Reading.{Lent, lent}
+use Rattle.job.proofs.ReadLaws.{rowsRoom, partsRoom, read-refused, settings-there, crowded-rows, crowded-parts, crowded-letters, letters-fit, read-job}
 use borrow.Author.Needs.{needs}
 use Rattle.job.proofs.reader.read_job.Statement.{statement}
 use Rattle.job.proofs.reader.read_job.Tie as tie
+
+-- the form is in good order
+abbrev begin : tie.After-found2 → tie.Start
+begin c = c .before .before .before .before .before .before .before .before .before .before .before
+
+abbrev counts : tie.After-found2 → Counts
+counts c = c .found2 .given .0 .0
+
+good : (c : tie.After-found2) → run (now (begin c .args .bytes)) 0 start ≡ Good (counts c)
+good c = sym (c .before .before .first-fault .ensures) ∙ c .found2 .given .1
+
+-- what is lent has room for the rows, then for the parts
+abbrev slices : tie.Start → Lent
+slices s =
+    lent (now (s .args .starts)) (now (s .args .ends)) (now (s .args .sizes)) (now (s .args .negatives)) (now (s .args .letter-counts))
+    (now (s .args .part-sizes)) (now (s .args .part-negatives)) (now (s .args .part-letter-counts)) (now (s .args .letters))
+
+abbrev found1 : tie.Else1 → tie.After-found2
+found1 c = c .before .before .before
+
+rows-room : (c : tie.Else1) → rowsRoom (counts (found1 c)) (slices (begin (found1 c))) ≡ true
+rows-room c = sym (c .before .rows-fit .ensures) ∙ not-false _ (c .if1 .left)
+
+abbrev found2 : tie.Else2 → tie.After-found2
+found2 c = found1 (c .before .before)
+
+parts-room : (c : tie.Else2) → partsRoom (counts (found2 c)) (slices (begin (found2 c))) ≡ true
+parts-room c = sym (c .before .parts-fit .ensures) ∙ not-false _ (c .if2 .left)
+
+-- all is checked
+abbrev found : tie.Else3 → tie.After-found2
+found c = found2 (c .before .before)
+
+settings : (c : tie.Else3) → 41 ≤ length (now (begin (found c) .args .bytes))
+settings c = settings-there _ (good (found c))
+
+abbrev checked : tie.After-read-settings → tie.Else3
+checked c = c .before .before
+
+abbrev head-read : tie.After-fill-variants → tie.After-read-settings
+head-read c = c .before .before .before .before .before .before
+
+abbrev variants : tie.After-fill-parts → tie.After-fill-variants
+variants c = c .before .before .before .before .before .before .before .before .before .before .before .before .before
+
+abbrev parts : tie.After-fill-letters-arg → tie.After-fill-parts
+parts c = c .before .before .before .before .before .before
 
 first-fault-requires : tie.Need-first-fault-requires
 first-fault-requires c κs = search needs
@@ -22,28 +75,32 @@ rows-fit-requires : tie.Need-rows-fit-requires
 rows-fit-requires c κs = search needs
 
 returns : tie.Need-returns
-returns c = let a = c .before .before .before .before .before .before .before .before .before .before .before .before .before .before .args in crowded-rows (now (a .bytes)) (lent (now (a .starts)) (now (a .ends)) (now (a .sizes)) (now (a .negatives)) (now (a .letter-counts)) (now (a .part-sizes)) (now (a .part-negatives)) (now (a .part-letter-counts)) (now (a .letters))) _ (c .before .before .before .before .before .first-fault .ensures) _ (c .before .before .before .found2 .given .1) _ (c .before .rows-fit .ensures) (not-true _ (c .if1 .taken))
+returns c = crowded-rows _ (good (c .before .before .before)) _ (sym (c .before .rows-fit .ensures) ∙ not-true _ (c .if1 .taken))
 
 parts-fit-requires : tie.Need-parts-fit-requires
 parts-fit-requires c κs = search needs
 
 returns-2 : tie.Need-returns-2
-returns-2 c = let a = c .before .before .before .before .before .before .before .before .before .before .before .before .before .before .before .before .args in crowded-parts (now (a .bytes)) (lent (now (a .starts)) (now (a .ends)) (now (a .sizes)) (now (a .negatives)) (now (a .letter-counts)) (now (a .part-sizes)) (now (a .part-negatives)) (now (a .part-letter-counts)) (now (a .letters))) _ (c .before .before .before .before .before .before .before .first-fault .ensures) _ (c .before .before .before .before .before .found2 .given .1) _ (c .before .before .before .rows-fit .ensures) (not-false _ (c .before .before .if1 .left)) _ (c .before .parts-fit .ensures) (not-true _ (c .if2 .taken))
+returns-2 c =
+    let r = c .before .before in
+    crowded-parts _ (good (found1 r)) _ (rows-room r) (sym (c .before .parts-fit .ensures) ∙ not-true _ (c .if2 .taken))
 
 returns-3 : tie.Need-returns-3
-returns-3 c = let a = c .before .before .before .before .before .before .before .before .before .before .before .before .before .before .before .before .before .before .args in crowded-letters (now (a .bytes)) (lent (now (a .starts)) (now (a .ends)) (now (a .sizes)) (now (a .negatives)) (now (a .letter-counts)) (now (a .part-sizes)) (now (a .part-negatives)) (now (a .part-letter-counts)) (now (a .letters))) _ (c .before .before .before .before .before .before .before .before .before .first-fault .ensures) _ (c .before .before .before .before .before .before .before .found2 .given .1) _ (c .before .before .before .before .before .rows-fit .ensures) (not-false _ (c .before .before .before .before .if1 .left)) _ (c .before .before .before .parts-fit .ensures) (not-false _ (c .before .before .if2 .left)) (c .if3 .taken)
+returns-3 c =
+    let p = c .before .before in
+    crowded-letters _ (good (found2 p)) _ (rows-room (p .before .before)) (parts-room p) (c .if3 .taken)
 
 sub-read-settings : tie.Need-sub-read-settings
-sub-read-settings c = let a = c .before .before .before .before .before .before .before .before .before .before .before .before .before .before .before .before .before .before .args in let h = settings-there (now (a .bytes)) (lent (now (a .starts)) (now (a .ends)) (now (a .sizes)) (now (a .negatives)) (now (a .letter-counts)) (now (a .part-sizes)) (now (a .part-negatives)) (now (a .part-letter-counts)) (now (a .letters))) _ (c .before .before .before .before .before .before .before .before .before .first-fault .ensures) _ (c .before .before .before .before .before .before .before .found2 .given .1) in omega arith
+sub-read-settings c = let h = settings c in omega arith
 
 part-read-settings-start : tie.Need-part-read-settings-start
-part-read-settings-start c = let a = c .before .before .before .before .before .before .before .before .before .before .before .before .before .before .before .before .before .before .args in let h = settings-there (now (a .bytes)) (lent (now (a .starts)) (now (a .ends)) (now (a .sizes)) (now (a .negatives)) (now (a .letter-counts)) (now (a .part-sizes)) (now (a .part-negatives)) (now (a .part-letter-counts)) (now (a .letters))) _ (c .before .before .before .before .before .before .before .before .before .first-fault .ensures) _ (c .before .before .before .before .before .before .before .found2 .given .1) in omega arith
+part-read-settings-start c = let h = settings c in omega arith
 
 part-read-settings-end : tie.Need-part-read-settings-end
 part-read-settings-end c = search needs
 
 read-settings-requires : tie.Need-read-settings-requires
-read-settings-requires c κs = let a = c .before .before .before .before .before .before .before .before .before .before .before .before .before .before .before .before .before .before .before .args in let h = settings-there (now (a .bytes)) (lent (now (a .starts)) (now (a .ends)) (now (a .sizes)) (now (a .negatives)) (now (a .letter-counts)) (now (a .part-sizes)) (now (a .part-negatives)) (now (a .part-letter-counts)) (now (a .letters))) _ (c .before .before .before .before .before .before .before .before .before .before .first-fault .ensures) _ (c .before .before .before .before .before .before .before .before .found2 .given .1) in simp (length-take, length-drop) (omega arith)
+read-settings-requires c κs = let h = settings (c .before) in simp (length-take, length-drop) (omega arith)
 
 fill-variants-requires : tie.Need-fill-variants-requires
 fill-variants-requires c κs = search needs
@@ -52,10 +109,13 @@ fill-parts-requires : tie.Need-fill-parts-requires
 fill-parts-requires c κs = search needs
 
 fill-letters-requires : tie.Need-fill-letters-requires
-fill-letters-requires c κs = let a = c .before .before .before .before .before .before .before .before .before .before .before .before .before .before .before .before .before .before .before .before .before .before .before .before .before .before .before .before .before .before .before .before .before .before .before .before .before .before .before .before .before .before .before .before .before .args in letters-fit (now (a .bytes)) (lent (now (a .starts)) (now (a .ends)) (now (a .sizes)) (now (a .negatives)) (now (a .letter-counts)) (now (a .part-sizes)) (now (a .part-negatives)) (now (a .part-letter-counts)) (now (a .letters))) _ (c .before .before .before .before .before .before .before .before .before .before .before .before .before .before .before .before .before .before .before .before .before .before .before .before .before .before .before .before .before .before .before .before .before .before .before .before .first-fault .ensures) _ (c .before .before .before .before .before .before .before .before .before .before .before .before .before .before .before .before .before .before .before .before .before .before .before .before .before .before .before .before .before .before .before .before .before .before .found2 .given .1) _ (c .before .before .before .before .before .before .before .before .before .before .before .before .before .before .before .before .before .before .before .before .before .before .before .before .before .before .before .before .before .before .before .before .rows-fit .ensures) (not-false _ (c .before .before .before .before .before .before .before .before .before .before .before .before .before .before .before .before .before .before .before .before .before .before .before .before .before .before .before .before .before .before .before .if1 .left)) _ (c .before .before .before .before .before .before .before .before .before .before .before .before .before .before .before .before .before .before .before .before .before .before .before .before .before .before .before .before .before .before .parts-fit .ensures) (not-false _ (c .before .before .before .before .before .before .before .before .before .before .before .before .before .before .before .before .before .before .before .before .before .before .before .before .before .before .before .before .before .if2 .left)) (c .before .before .before .before .before .before .before .before .before .before .before .before .before .before .before .before .before .before .before .before .before .before .before .before .before .before .before .if3 .left)
+fill-letters-requires c κs =
+    let k = checked (head-read (variants (parts c))) in
+    let p = k .before .before in
+    letters-fit _ (good (found k)) (slices (begin (found k))) (rows-room (p .before .before)) (parts-room p) (k .if3 .left)
 
 returns-4 : tie.Need-returns-4
-returns-4 c = let a = c .before .before .before .before .before .before .before .before .before .before .before .before .args in read-refused (now (a .bytes)) (lent (now (a .starts)) (now (a .ends)) (now (a .sizes)) (now (a .negatives)) (now (a .letter-counts)) (now (a .part-sizes)) (now (a .part-negatives)) (now (a .part-letter-counts)) (now (a .letters))) _ (c .before .before .before .first-fault .ensures) _ (c .before .found .given .1)
+returns-4 c = read-refused _ _ (sym (c .before .before .before .first-fault .ensures) ∙ c .before .found .given .1)
 
 same-length : tie.Need-same-length
 same-length c = search needs
@@ -85,35 +145,20 @@ same-length-9 : tie.Need-same-length-9
 same-length-9 c = search needs
 
 returns-5 : tie.Need-returns-5
-returns-5 c = let a = c .before .before .before .before .before .before .before .before .before .before .before .before .before .before .before .before .before .before .before .before .before .before .before .before .before .before .before .before .before .before .before .before .before .before .before .before .before .before .before .before .before .before .before .before .before .before .before .before .args in read-job (now (a .bytes)) (lent (now (a .starts)) (now (a .ends)) (now (a .sizes)) (now (a .negatives)) (now (a .letter-counts)) (now (a .part-sizes)) (now (a .part-negatives)) (now (a .part-letter-counts)) (now (a .letters))) _ (c .before .before .before .before .before .before .before .before .before .before .before .before .before .before .before .before .before .before .before .before .before .before .before .before .before .before .before .before .before .before .before .before .before .before .before .before .before .before .before .first-fault .ensures) _ (c .before .before .before .before .before .before .before .before .before .before .before .before .before .before .before .before .before .before .before .before .before .before .before .before .before .before .before .before .before .before .before .before .before .before .before .before .before .found2 .given .1) _ (c .before .before .before .before .before .before .before .before .before .before .before .before .before .before .before .before .before .before .before .before .before .before .before .before .before .before .before .before .before .before .before .before .before .before .before .rows-fit .ensures) (not-false _ (c .before .before .before .before .before .before .before .before .before .before .before .before .before .before .before .before .before .before .before .before .before .before .before .before .before .before .before .before .before .before .before .before .before .before .if1 .left)) _ (c .before .before .before .before .before .before .before .before .before .before .before .before .before .before .before .before .before .before .before .before .before .before .before .before .before .before .before .before .before .before .before .before .before .parts-fit .ensures) (not-false _ (c .before .before .before .before .before .before .before .before .before .before .before .before .before .before .before .before .before .before .before .before .before .before .before .before .before .before .before .before .before .before .before .before .if2 .left)) (c .before .before .before .before .before .before .before .before .before .before .before .before .before .before .before .before .before .before .before .before .before .before .before .before .before .before .before .before .before .before .if3 .left) _ (c .before .before .before .before .before .before .before .before .before .before .before .before .before .before .before .before .before .before .before .before .before .before .fill-variants .ensures) (c .before .before .before .before .before .before .before .before .before .fill-parts .ensures) (c .before .before .fill-letters .ensures) _ (c .before .before .before .before .before .before .before .before .before .before .before .before .before .before .before .before .before .before .before .before .before .before .before .before .before .before .before .before .read-settings .ensures)
+returns-5 c =
+    let l = c .before .before in
+    let q = parts (l .before) in
+    let v = variants q in
+    let h = head-read v in
+    let k = checked h in
+    let p = k .before .before in
+    read-job _ (good (found k)) _ (rows-room (p .before .before)) (parts-room p) (k .if3 .left) _ (v .fill-variants .ensures) (q .fill-parts .ensures)
+    (l .fill-letters .ensures) _ (h .read-settings .ensures)
 
 pub read-job-spec : {M : Type 1} → statement M
 read-job-spec =
     tie.close
-    (tie.spec
-    first-fault-requires
-    enum-known-found
-    enum-known-found-2
-    rows-fit-requires
-    returns
-    parts-fit-requires
-    returns-2
-    returns-3
-    sub-read-settings
-    part-read-settings-start
-    part-read-settings-end
-    read-settings-requires
-    fill-variants-requires
-    fill-parts-requires
-    fill-letters-requires
-    returns-4
-    same-length
-    same-length-2
-    same-length-3
-    same-length-4
-    same-length-5
-    same-length-6
-    same-length-7
-    same-length-8
-    same-length-9
-    returns-5)
+    (tie.spec first-fault-requires enum-known-found enum-known-found-2 rows-fit-requires returns parts-fit-requires returns-2 returns-3
+    sub-read-settings part-read-settings-start part-read-settings-end read-settings-requires fill-variants-requires fill-parts-requires
+    fill-letters-requires returns-4 same-length same-length-2 same-length-3 same-length-4 same-length-5 same-length-6 same-length-7 same-length-8
+    same-length-9 returns-5)

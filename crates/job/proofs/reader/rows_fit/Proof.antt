@@ -4,19 +4,23 @@ use Rattle.job.proofs.reader.rows_fit.Statement.{statement}
 use Rattle.job.proofs.reader.rows_fit.Tie as tie
 
 returns : tie.Need-returns
-returns c = let a = c .before .args in five-1 (a .n) (a .a) (a .b) (a .c) (a .d) (a .e) (c .if1 .taken)
+returns c = five-1 _ _ _ _ _ _ (c .if1 .taken)
 
 returns-2 : tie.Need-returns-2
-returns-2 c = let a = c .before .before .args in five-2 (a .n) (a .a) (a .b) (a .c) (a .d) (a .e) (c .before .if1 .left) (c .if2 .taken)
+returns-2 c = five-2 _ _ _ _ _ _ (c .before .if1 .left) (c .if2 .taken)
 
 returns-3 : tie.Need-returns-3
-returns-3 c = let a = c .before .before .before .args in five-3 (a .n) (a .a) (a .b) (a .c) (a .d) (a .e) (c .before .before .if1 .left) (c .before .if2 .left) (c .if3 .taken)
+returns-3 c = five-3 _ _ _ _ _ _ (c .before .before .if1 .left) (c .before .if2 .left) (c .if3 .taken)
 
 returns-4 : tie.Need-returns-4
-returns-4 c = let a = c .before .before .before .before .args in five-4 (a .n) (a .a) (a .b) (a .c) (a .d) (a .e) (c .before .before .before .if1 .left) (c .before .before .if2 .left) (c .before .if3 .left) (c .if4 .taken)
+returns-4 c =
+    let z = c .before in
+    five-4 _ _ _ _ _ _ (c .before .before .before .if1 .left) (c .before .before .if2 .left) (z .if3 .left) (c .if4 .taken)
 
 returns-5 : tie.Need-returns-5
-returns-5 c = let a = c .before .before .before .before .args in five-5 (a .n) (a .a) (a .b) (a .c) (a .d) (a .e) (c .before .before .before .if1 .left) (c .before .before .if2 .left) (c .before .if3 .left) (c .if4 .left)
+returns-5 c =
+    let z = c .before in
+    five-5 _ _ _ _ _ _ (c .before .before .before .if1 .left) (c .before .before .if2 .left) (z .if3 .left) (c .if4 .left)
 
 pub rows-fit-spec : {M : Type 1} → statement M
 rows-fit-spec = tie.close (tie.spec returns returns-2 returns-3 returns-4 returns-5)

@@ -1,9 +1,18 @@
 -- The four patterns are stored one behind the other.
-use denote.Ref.{now}
 use Rattle.job.proofs.SettingsLaws.{floats-stored}
 use borrow.Author.Needs.{needs}
 use Rattle.job.proofs.settings.write_floats.Statement.{statement}
 use Rattle.job.proofs.settings.write_floats.Tie as tie
+
+-- the places that the proof speaks of
+abbrev first : tie.After-bits-of2 → tie.After-put-four
+first c = c .before .before .before .before
+
+abbrev second : tie.After-bits-of3 → tie.After-put-four2
+second c = c .before .before .before .before
+
+abbrev third : tie.After-bits-of4 → tie.After-put-four3
+third c = c .before .before .before .before
 
 bits-of-requires : tie.Need-bits-of-requires
 bits-of-requires c κs = search needs
@@ -42,22 +51,14 @@ same-length : tie.Need-same-length
 same-length c = search needs
 
 returns : tie.Need-returns
-returns c = let a = c .before .before .before .before .before .before .before .before .before .before .before .before .before .before .before .before .before .before .before .before .before .args in floats-stored (a .at) (a .s) (now (a .out)) _ _ _ _ _ _ _ _ (c .before .before .before .before .before .before .before .before .before .before .before .before .before .before .before .before .before .before .bits-of .ensures) (c .before .before .before .before .before .before .before .before .before .before .before .before .before .bits-of2 .ensures) (c .before .before .before .before .before .before .before .before .bits-of3 .ensures) (c .before .before .before .bits-of4 .ensures) (c .before .before .before .before .before .before .before .before .before .before .before .before .before .before .before .before .before .put-four .ensures) (c .before .before .before .before .before .before .before .before .before .before .before .before .put-four2 .ensures) (c .before .before .before .before .before .before .before .put-four3 .ensures) (c .before .before .put-four4 .ensures)
+returns c =
+    let p4 = c .before .before in let b4 = p4 .before in let p3 = third b4 in let b3 = p3 .before in
+    let p2 = second b3 in let b2 = p2 .before in let p1 = first b2 in let b1 = p1 .before in
+    floats-stored _ _ _ _ _ _ _ _ _ _ _ (b1 .bits-of .ensures) (b2 .bits-of2 .ensures) (b3 .bits-of3 .ensures) (b4 .bits-of4 .ensures)
+    (p1 .put-four .ensures) (p2 .put-four2 .ensures) (p3 .put-four3 .ensures) (p4 .put-four4 .ensures)
 
 pub write-floats-spec : {M : Type 1} → statement M
 write-floats-spec =
     tie.close
-    (tie.spec
-    bits-of-requires
-    put-four-requires
-    add-put-four
-    bits-of-requires-2
-    put-four-requires-2
-    add-put-four-2
-    bits-of-requires-3
-    put-four-requires-3
-    add-put-four-3
-    bits-of-requires-4
-    put-four-requires-4
-    same-length
-    returns)
+    (tie.spec bits-of-requires put-four-requires add-put-four bits-of-requires-2 put-four-requires-2 add-put-four-2 bits-of-requires-3
+    put-four-requires-3 add-put-four-3 bits-of-requires-4 put-four-requires-4 same-length returns)

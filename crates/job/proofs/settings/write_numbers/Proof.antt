@@ -1,9 +1,21 @@
 -- The five numbers are stored one behind the other.
-use denote.Ref.{now}
 use Rattle.job.proofs.SettingsLaws.{numbers-stored}
 use borrow.Author.Needs.{needs}
 use Rattle.job.proofs.settings.write_numbers.Statement.{statement}
 use Rattle.job.proofs.settings.write_numbers.Tie as tie
+
+-- the places that the proof speaks of
+abbrev first : tie.After-put-four2 → tie.After-put-four
+first c = c .before .before .before .before
+
+abbrev second : tie.After-put-four3 → tie.After-put-four2
+second c = c .before .before .before .before
+
+abbrev third : tie.After-put-four4 → tie.After-put-four3
+third c = c .before .before .before .before
+
+abbrev fourth : tie.After-put-four5 → tie.After-put-four4
+fourth c = c .before .before .before .before
 
 put-four-requires : tie.Need-put-four-requires
 put-four-requires c κs = search needs
@@ -36,20 +48,13 @@ same-length : tie.Need-same-length
 same-length c = search needs
 
 returns : tie.Need-returns
-returns c = let a = c .before .before .before .before .before .before .before .before .before .before .before .before .before .before .before .before .before .before .before .before .before .args in numbers-stored (a .at) (a .s) (now (a .out)) _ _ _ _ _ (c .before .before .before .before .before .before .before .before .before .before .before .before .before .before .before .before .before .before .put-four .ensures) (c .before .before .before .before .before .before .before .before .before .before .before .before .before .before .put-four2 .ensures) (c .before .before .before .before .before .before .before .before .before .before .put-four3 .ensures) (c .before .before .before .before .before .before .put-four4 .ensures) (c .before .before .put-four5 .ensures)
+returns c =
+    let p5 = c .before .before in let p4 = fourth p5 in let p3 = third p4 in let p2 = second p3 in
+    let p1 = first p2 in
+    numbers-stored _ _ _ _ _ _ _ _ (p1 .put-four .ensures) (p2 .put-four2 .ensures) (p3 .put-four3 .ensures) (p4 .put-four4 .ensures) (p5 .put-four5 .ensures)
 
 pub write-numbers-spec : {M : Type 1} → statement M
 write-numbers-spec =
     tie.close
-    (tie.spec
-    put-four-requires
-    add-put-four
-    put-four-requires-2
-    add-put-four-2
-    put-four-requires-3
-    add-put-four-3
-    put-four-requires-4
-    add-put-four-4
-    put-four-requires-5
-    same-length
-    returns)
+    (tie.spec put-four-requires add-put-four put-four-requires-2 add-put-four-2 put-four-requires-3 add-put-four-3 put-four-requires-4 add-put-four-4
+    put-four-requires-5 same-length returns)

@@ -1,9 +1,24 @@
 -- Four bytes, the numbers and the floats are stored one behind the other.
-use denote.Ref.{now}
 use Rattle.job.proofs.SettingsLaws.{settings-stored}
 use borrow.Author.Needs.{needs}
 use Rattle.job.proofs.settings.write_settings.Statement.{statement}
 use Rattle.job.proofs.settings.write_settings.Tie as tie
+
+-- the places that the proof speaks of
+abbrev zero : tie.After-flag-of → tie.After-put-one
+zero c = c .before .before .before .before
+
+abbrev first : tie.After-flag-of2 → tie.After-put-one2
+first c = c .before .before .before .before
+
+abbrev second : tie.After-flag-of3 → tie.After-put-one3
+second c = c .before .before .before .before
+
+abbrev third : tie.After-write-numbers → tie.After-put-one4
+third c = c .before .before .before .before
+
+abbrev numbers : tie.After-write-floats → tie.After-write-numbers
+numbers c = c .before .before .before .before
 
 put-one-requires : tie.Need-put-one-requires
 put-one-requires c κs = search needs
@@ -51,25 +66,15 @@ same-length : tie.Need-same-length
 same-length c = search needs
 
 returns : tie.Need-returns
-returns c = let a = c .before .before .before .before .before .before .before .before .before .before .before .before .before .before .before .before .before .before .before .before .before .before .before .before .before .before .before .before .args in settings-stored (a .at) (a .s) (now (a .out)) _ _ _ _ _ _ _ _ _ (c .before .before .before .before .before .before .before .before .before .before .before .before .before .before .before .before .before .before .before .before .before .flag-of .ensures) (c .before .before .before .before .before .before .before .before .before .before .before .before .before .before .before .before .flag-of2 .ensures) (c .before .before .before .before .before .before .before .before .before .before .before .flag-of3 .ensures) (c .before .before .before .before .before .before .before .before .before .before .before .before .before .before .before .before .before .before .before .before .before .before .before .before .before .put-one .ensures) (c .before .before .before .before .before .before .before .before .before .before .before .before .before .before .before .before .before .before .before .before .put-one2 .ensures) (c .before .before .before .before .before .before .before .before .before .before .before .before .before .before .before .put-one3 .ensures) (c .before .before .before .before .before .before .before .before .before .before .put-one4 .ensures) (c .before .before .before .before .before .before .write-numbers .ensures) (c .before .before .write-floats .ensures)
+returns c =
+    let g = c .before .before in let n = numbers g in let p3 = third n in let f3 = p3 .before in
+    let p2 = second f3 in let f2 = p2 .before in let p1 = first f2 in let f1 = p1 .before in
+    let p0 = zero f1 in
+    settings-stored _ _ _ _ _ _ _ _ _ _ _ _ (f1 .flag-of .ensures) (f2 .flag-of2 .ensures) (f3 .flag-of3 .ensures) (p0 .put-one .ensures)
+    (p1 .put-one2 .ensures) (p2 .put-one3 .ensures) (p3 .put-one4 .ensures) (n .write-numbers .ensures) (g .write-floats .ensures)
 
 pub write-settings-spec : {M : Type 1} → statement M
 write-settings-spec =
     tie.close
-    (tie.spec
-    put-one-requires
-    add-put-one
-    flag-of-requires
-    put-one-requires-2
-    add-put-one-2
-    flag-of-requires-2
-    put-one-requires-3
-    add-put-one-3
-    flag-of-requires-3
-    put-one-requires-4
-    add-write-numbers
-    write-numbers-requires
-    add-write-floats
-    write-floats-requires
-    same-length
-    returns)
+    (tie.spec put-one-requires add-put-one flag-of-requires put-one-requires-2 add-put-one-2 flag-of-requires-2 put-one-requires-3 add-put-one-3
+    flag-of-requires-3 put-one-requires-4 add-write-numbers write-numbers-requires add-write-floats write-floats-requires same-length returns)

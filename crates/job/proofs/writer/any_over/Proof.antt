@@ -25,7 +25,10 @@ shared-slice-read-if1 : tie.Need-shared-slice-read-if1 Inv-loop μ-loop
 shared-slice-read-if1 c = omega arith
 
 returns : tie.Need-returns Inv-loop μ-loop
-returns c = let a = c .before .before .before .before .args in over-here (now (a .counts)) (c .before .before .before .loop .i) (c .before .before .loop-test .taken) (c .if1 .taken) ∙ c .before .before .before .loop .inv .0
+returns c =
+    let i = c .before .before in
+    let a = i .before .before .args in
+    over-here (now (a .counts)) (c .before .before .before .loop .i) (i .loop-test .taken) (c .if1 .taken) ∙ c .before .before .before .loop .inv .0
 
 add-i : tie.Need-add-i Inv-loop μ-loop
 add-i c = omega arith
@@ -34,22 +37,13 @@ loop-less : tie.Need-loop-less Inv-loop μ-loop
 loop-less c = omega arith
 
 loop-again : tie.Need-loop-again Inv-loop μ-loop
-loop-again c = let a = c .before .before .before .before .args in (over-more (now (a .counts)) (c .before .before .before .loop .i) (c .before .before .loop-test .taken) (c .if1 .left) ∙ c .before .before .before .loop .inv .0, omega arith)
+loop-again c =
+    let i = c .before .before in
+    let a = i .before .before .args in
+    (over-more (now (a .counts)) (c .before .before .before .loop .i) (i .loop-test .taken) (c .if1 .left) ∙ c .before .before .before .loop .inv .0, omega arith)
 
 returns-2 : tie.Need-returns-2 Inv-loop μ-loop
 returns-2 c = let a = c .before .before .args in over-done (now (a .counts)) (c .before .loop .i) (c .loop-test .left) ∙ c .before .loop .inv .0
 
 pub any-over-spec : {M : Type 1} → statement M
-any-over-spec =
-    tie.close
-    (tie.spec
-    Inv-loop
-    μ-loop
-    loop-holds
-    mul-if1
-    shared-slice-read-if1
-    returns
-    add-i
-    loop-less
-    loop-again
-    returns-2)
+any-over-spec = tie.close (tie.spec Inv-loop μ-loop loop-holds mul-if1 shared-slice-read-if1 returns add-i loop-less loop-again returns-2)

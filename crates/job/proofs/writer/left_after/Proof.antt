@@ -16,6 +16,10 @@ Inv-loop kind counts have left₀ i₀ left i = (leftOf (total kind (drop i coun
 abbrev μ-loop : tie.MeasureT-loop
 μ-loop kind counts have left₀ i₀ left i = length counts - i
 
+-- the places that the proof speaks of
+abbrev start : tie.At-loop Inv-loop μ-loop → tie.Start Inv-loop μ-loop
+start c = c .before .before
+
 loop-holds : tie.Need-loop-holds Inv-loop μ-loop
 loop-holds c = (refl, zero-le)
 
@@ -29,7 +33,11 @@ cost-requires : tie.Need-cost-requires Inv-loop μ-loop
 cost-requires c κs = search needs
 
 returns : tie.Need-returns Inv-loop μ-loop
-returns c = let a = c .before .before .before .before .before .before .args in left-short (a .kind) (now (a .counts)) (c .before .before .before .before .loop .i) (c .before .before .before .before .loop .left) (c .before .before .before .loop-test .taken) _ (c .before .cost .ensures .0) (c .if1 .taken) ∙ c .before .before .before .before .loop .inv .0
+returns c =
+    let k = c .before in let l = k .before .before .before in
+    let a = start l .args in
+    left-short (a .kind) (now (a .counts)) (l .loop .i) (l .loop .left) (c .before .before .before .loop-test .taken) _ (k .cost .ensures .0) (c .if1 .taken)
+    ∙ l .loop .inv .0
 
 add-i : tie.Need-add-i Inv-loop μ-loop
 add-i c = omega arith
@@ -38,23 +46,21 @@ loop-less : tie.Need-loop-less Inv-loop μ-loop
 loop-less c = omega arith
 
 loop-again : tie.Need-loop-again Inv-loop μ-loop
-loop-again c = let a = c .before .before .before .before .before .before .args in (left-more (a .kind) (now (a .counts)) (c .before .before .before .before .loop .i) (c .before .before .before .before .loop .left) (c .before .before .before .loop-test .taken) _ (c .before .cost .ensures .0) (c .if1 .left) ∙ c .before .before .before .before .loop .inv .0, omega arith)
+loop-again c =
+    let k = c .before in let l = k .before .before .before in
+    let a = start l .args in (
+      left-more (a .kind) (now (a .counts)) (l .loop .i) (l .loop .left) (c .before .before .before .loop-test .taken) _ (k .cost .ensures .0) (c .if1 .left)
+          ∙ l .loop .inv .0,
+      omega arith,
+    )
 
 returns-2 : tie.Need-returns-2 Inv-loop μ-loop
-returns-2 c = let a = c .before .before .before .args in left-done (a .kind) (now (a .counts)) (c .before .loop .i) (c .before .loop .left) (c .loop-test .left) ∙ c .before .loop .inv .0
+returns-2 c =
+    let l = c .before in
+    let a = c .before .before .before .args in
+    left-done (a .kind) (now (a .counts)) (l .loop .i) (l .loop .left) (c .loop-test .left) ∙ l .loop .inv .0
 
 pub left-after-spec : {M : Type 1} → statement M
 left-after-spec =
     tie.close
-    (tie.spec
-    Inv-loop
-    μ-loop
-    loop-holds
-    mul-cost
-    shared-slice-read-cost
-    cost-requires
-    returns
-    add-i
-    loop-less
-    loop-again
-    returns-2)
+    (tie.spec Inv-loop μ-loop loop-holds mul-cost shared-slice-read-cost cost-requires returns add-i loop-less loop-again returns-2)

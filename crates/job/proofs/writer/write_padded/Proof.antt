@@ -12,13 +12,18 @@ use Rattle.job.proofs.writer.write_padded.Statement.{statement}
 use Rattle.job.proofs.writer.write_padded.Tie as tie
 
 abbrev Inv-loop : tie.InvT-loop
-Inv-loop out₀ at letters from end j₀ out j = (sets out (at + j) (drop j (padded (slice from end letters))) ≡ sets out₀ at (padded (slice from end letters))) × ((j ≤ 16) × (length out ≡ length out₀))
+Inv-loop out₀ at letters from end j₀ out j =
+    (sets out (at + j) (drop j (padded (slice from end letters))) ≡ sets out₀ at (padded (slice from end letters))) × (j ≤ 16) × (length out ≡ length out₀)
 
 abbrev μ-loop : tie.MeasureT-loop
 μ-loop out₀ at letters from end j₀ out j = 16 - j
 
+-- the places that the proof speaks of
+abbrev start : tie.At-loop Inv-loop μ-loop → tie.Start Inv-loop μ-loop
+start c = c .before .before .before
+
 loop-holds : tie.Need-loop-holds Inv-loop μ-loop
-loop-holds c = let a = c .before .before .args in (pad-start (now (a .letters)) (a .end) (a .from) (a .at) (now (a .out)), (zero-le, refl))
+loop-holds c = let a = c .before .before .args in (pad-start (now (a .letters)) (a .end) (a .from) (a .at) (now (a .out)), zero-le, refl)
 
 add-letter-or-zero : tie.Need-add-letter-or-zero Inv-loop μ-loop
 add-letter-or-zero c = omega arith
@@ -39,27 +44,25 @@ loop-less : tie.Need-loop-less Inv-loop μ-loop
 loop-less c = omega arith
 
 loop-again : tie.Need-loop-again Inv-loop μ-loop
-loop-again c = let a = c .before .before .before .before .before .args in (pad-more (now (a .letters)) (a .end) (a .from) (a .at) (c .before .before .loop .out) (c .before .before .loop .j) _ (c .before .loop-test .taken) (c .letter-or-zero .ensures) ∙ c .before .before .loop .inv .0, (omega arith, length-set (c .before .before .loop .out) (a .at + c .before .before .loop .j) (c .letter-or-zero .result) ∙ c .before .before .loop .inv .1 .1))
+loop-again c =
+    let l = c .before .before in
+    let a = start l .args in (
+      pad-more (now (a .letters)) (a .end) (a .from) (a .at) (l .loop .out) (l .loop .j) _ (c .before .loop-test .taken) (c .letter-or-zero .ensures) ∙ l .loop .inv .0,
+      omega arith,
+      length-set (l .loop .out) (a .at + l .loop .j) (c .letter-or-zero .result) ∙ l .loop .inv .2,
+    )
 
 same-length : tie.Need-same-length Inv-loop μ-loop
-same-length c = c .before .loop .inv .1 .1
+same-length c = c .before .loop .inv .2
 
 returns : tie.Need-returns Inv-loop μ-loop
-returns c = let a = c .before .before .before .before .args in sym (pad-done (now (a .letters)) (a .end) (a .from) (a .at) (c .before .loop .out) (c .before .loop .j) (c .loop-test .left)) ∙ c .before .loop .inv .0
+returns c =
+    let l = c .before in
+    let a = start l .args in
+    sym (pad-done (now (a .letters)) (a .end) (a .from) (a .at) (l .loop .out) (l .loop .j) (c .loop-test .left)) ∙ l .loop .inv .0
 
 pub write-padded-spec : {M : Type 1} → statement M
 write-padded-spec =
     tie.close
-    (tie.spec
-    Inv-loop
-    μ-loop
-    loop-holds
-    add-letter-or-zero
-    letter-or-zero-requires
-    add-out
-    slice-write-out
-    add-j
-    loop-less
-    loop-again
-    same-length
+    (tie.spec Inv-loop μ-loop loop-holds add-letter-or-zero letter-or-zero-requires add-out slice-write-out add-j loop-less loop-again same-length
     returns)

@@ -7,6 +7,10 @@ use borrow.Author.Needs.{needs}
 use Rattle.job.proofs.writer.write_part.Statement.{statement}
 use Rattle.job.proofs.writer.write_part.Tie as tie
 
+-- the places that the proof speaks of
+abbrev kind : tie.After-write-body → tie.After-put-one
+kind c = c .before .before .before .before
+
 put-one-requires : tie.Need-put-one-requires
 put-one-requires c κs = search needs
 
@@ -20,8 +24,9 @@ same-length : tie.Need-same-length
 same-length c = search needs
 
 returns : tie.Need-returns
-returns c = let a = c .before .before .before .before .before .before .before .before .before .args in part-stored (now (a .out)) _ _ (a .at) (a .size) (a .negative) (a .count) _ (toZ-ofZ w32 _ (c .before .before .before .before .before .before .before .before .before .fits .size)) (c .before .before .before .before .before .before .put-one .ensures) (c .before .before .write-body .ensures)
+returns c =
+    let b = c .before .before in let k = kind b in let s = k .before .before .before in
+    part-stored (now (s .args .out)) _ _ _ _ _ _ _ (toZ-ofZ w32 _ (s .fits .size)) (k .put-one .ensures) (b .write-body .ensures)
 
 pub write-part-spec : {M : Type 1} → statement M
-write-part-spec =
-    tie.close (tie.spec put-one-requires add-write-body write-body-requires same-length returns)
+write-part-spec = tie.close (tie.spec put-one-requires add-write-body write-body-requires same-length returns)

@@ -2,15 +2,13 @@
 use mathlib.Core.Path.{_≡_, refl}
 use native.Mathlib.Omega.{arith}
 use borrow.Author.Needs.{needs}
-use Prim.Native.Nat.{_+_, _-_, _≤_, _<_}
+use Prim.Native.Nat.{_-_, _≤_, _<_}
 use lib.ListN.{length, take, length-set}
 use mathlib.Core.List.{_++_}
 use Rattle.kplib.specs.Parts.{positionsFrom, wholeOf}
 use Rattle.kplib.proofs.CodeLaws.{all-start, all-turn, all-done}
 use Rattle.kplib.proofs.haplotype.all_positions.Statement.{statement}
 use Rattle.kplib.proofs.haplotype.all_positions.Tie as tie
-use Rattle.kplib.proofs.haplotype.all_positions.Reads as reads
-use Rattle.kplib.proofs.haplotype.all_positions.Lts as lts
 
 abbrev Inv-loop : tie.InvT-loop
 Inv-loop m chosen₀ i₀ chosen i =

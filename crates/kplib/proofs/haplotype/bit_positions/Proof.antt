@@ -2,15 +2,13 @@
 use mathlib.Core.Path.{_≡_, refl}
 use native.Mathlib.Omega.{arith}
 use borrow.Author.Needs.{needs}
-use Prim.Native.Nat.{_+_, _-_, _≤_, _<_}
+use Prim.Native.Nat.{_-_, _≤_, _<_}
 use lib.ListN.{length, take, length-set}
 use mathlib.Core.List.{_++_}
 use Rattle.kplib.specs.Scoring.{positionsOfBits}
 use Rattle.kplib.proofs.CodeLaws.{place-start, place-turn, place-done}
 use Rattle.kplib.proofs.haplotype.bit_positions.Statement.{statement}
 use Rattle.kplib.proofs.haplotype.bit_positions.Tie as tie
-use Rattle.kplib.proofs.haplotype.bit_positions.Reads as reads
-use Rattle.kplib.proofs.haplotype.bit_positions.Lts as lts
 
 abbrev Inv-loop : tie.InvT-loop
 Inv-loop bits m chosen₀ v₀ d₀ i₀ chosen v d i = (i ≤ m) × (d ≤ i) × (length chosen ≡ length chosen₀) × (take d chosen ++ positionsOfBits i (m - i) v ≡ positionsOfBits 0 m bits)

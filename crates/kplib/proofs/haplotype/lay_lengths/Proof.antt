@@ -7,9 +7,6 @@ use lib.ListN.{length}
 use Rattle.kplib.proofs.LayLaws.{Laying, laying-starts, choosing, laying-turn, laying-done}
 use Rattle.kplib.proofs.haplotype.lay_lengths.Statement.{statement}
 use Rattle.kplib.proofs.haplotype.lay_lengths.Tie as tie
-use Rattle.kplib.proofs.haplotype.lay_lengths.Reads as reads
-use Rattle.kplib.proofs.haplotype.lay_lengths.Lts as lts
-use Rattle.kplib.proofs.haplotype.lay_choices.Reads as lay-choices-reads
 
 abbrev Inv-loop : tie.InvT-loop
 Inv-loop part-sizes lengths codes₀ list-sizes₀ m at₀ i₀ codes list-sizes at i =

@@ -3,11 +3,6 @@ use Rattle.kplib.proofs.LayLaws.{whole-laid, lengths-laid}
 use borrow.Author.Needs.{needs}
 use Rattle.kplib.proofs.haplotype.lay_lists.Statement.{statement}
 use Rattle.kplib.proofs.haplotype.lay_lists.Tie as tie
-use Rattle.kplib.proofs.haplotype.lay_lists.Reads as reads
-use Rattle.kplib.proofs.haplotype.lay_lists.Lts as lts
-use Rattle.kplib.proofs.haplotype.lay_lengths.Reads as lay-lengths-reads
-use Rattle.kplib.proofs.haplotype.lengths_of.Reads as lengths-of-reads
-use Rattle.kplib.proofs.haplotype.whole_size.Reads as whole-size-reads
 
 cast-if1 : tie.Need-cast-if1
 cast-if1 c = search needs

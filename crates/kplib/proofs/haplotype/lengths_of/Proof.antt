@@ -3,10 +3,6 @@ use native.Mathlib.Omega.{arith}
 use borrow.Author.Needs.{needs}
 use Rattle.kplib.proofs.haplotype.lengths_of.Statement.{statement}
 use Rattle.kplib.proofs.haplotype.lengths_of.Tie as tie
-use Rattle.kplib.proofs.haplotype.lengths_of.Reads as reads
-use Rattle.kplib.proofs.haplotype.lengths_of.Lts as lts
-use Rattle.kplib.proofs.haplotype.larger.Reads as larger-reads
-use Rattle.kplib.proofs.haplotype.less.Reads as less-reads
 
 add-result : tie.Need-add-result
 add-result c = search needs

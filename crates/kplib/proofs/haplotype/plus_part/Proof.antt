@@ -6,8 +6,6 @@ use lib.IntN.{pos}
 use Rattle.kplib.proofs.WordLaws.{add-fits, add-back}
 use Rattle.kplib.proofs.haplotype.plus_part.Statement.{statement}
 use Rattle.kplib.proofs.haplotype.plus_part.Tie as tie
-use Rattle.kplib.proofs.haplotype.plus_part.Reads as reads
-use Rattle.kplib.proofs.haplotype.plus_part.Lts as lts
 
 mul-result : tie.Need-mul-result
 mul-result c = search needs

@@ -4,10 +4,6 @@ use Rattle.kplib.proofs.CodeLaws.{code-whole, code-bits}
 use borrow.Author.Needs.{needs}
 use Rattle.kplib.proofs.haplotype.positions.Statement.{statement}
 use Rattle.kplib.proofs.haplotype.positions.Tie as tie
-use Rattle.kplib.proofs.haplotype.positions.Reads as reads
-use Rattle.kplib.proofs.haplotype.positions.Lts as lts
-use Rattle.kplib.proofs.haplotype.all_positions.Reads as all-positions-reads
-use Rattle.kplib.proofs.haplotype.bit_positions.Reads as bit-positions-reads
 
 cast-n : tie.Need-cast-n
 cast-n c = search needs

@@ -7,8 +7,6 @@ use mir.Val.{toZ}
 use Rattle.kplib.proofs.SizeSumLaws.{Sizing, sizing-starts, sizing-fits, sizing-turn, sizing-done}
 use Rattle.kplib.proofs.haplotype.whole_size.Statement.{statement}
 use Rattle.kplib.proofs.haplotype.whole_size.Tie as tie
-use Rattle.kplib.proofs.haplotype.whole_size.Reads as reads
-use Rattle.kplib.proofs.haplotype.whole_size.Lts as lts
 
 abbrev Inv-loop : tie.InvT-loop
 Inv-loop part-sizes size₀ p₀ size p = Sizing part-sizes (toZ w32 size) p

@@ -3,8 +3,6 @@ use Rattle.metrics.proofs.Casts.{zero-is}
 use Rattle.kplib.proofs.OneToOneLaws.{latest-old, latest-new, no-candidate}
 use Rattle.kplib.proofs.onetoone.latest_of.Statement.{statement}
 use Rattle.kplib.proofs.onetoone.latest_of.Tie as tie
-use Rattle.kplib.proofs.onetoone.latest_of.Reads as reads
-use Rattle.kplib.proofs.onetoone.latest_of.Lts as lts
 
 returns : tie.Need-returns
 returns c =

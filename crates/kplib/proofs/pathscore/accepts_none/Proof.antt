@@ -2,8 +2,6 @@
 use borrow.Author.Needs.{needs}
 use Rattle.kplib.proofs.pathscore.accepts_none.Statement.{statement}
 use Rattle.kplib.proofs.pathscore.accepts_none.Tie as tie
-use Rattle.kplib.proofs.pathscore.accepts_none.Reads as reads
-use Rattle.kplib.proofs.pathscore.accepts_none.Lts as lts
 
 returns : tie.Need-returns
 returns c = rw (c .if1 .taken)

@@ -7,8 +7,6 @@ use lib.ListN.{length, length-set}
 use Rattle.kplib.proofs.RowSumLaws.{mixed, mixed-all, added-fits, added}
 use Rattle.kplib.proofs.pathscore.add_row.Statement.{statement}
 use Rattle.kplib.proofs.pathscore.add_row.Tie as tie
-use Rattle.kplib.proofs.pathscore.add_row.Reads as reads
-use Rattle.kplib.proofs.pathscore.add_row.Lts as lts
 
 abbrev Inv-loop : tie.InvT-loop
 Inv-loop acc₀ row i₀ acc i = (i ≤ length acc₀) × (length acc ≡ length acc₀) × (acc ≡ mixed i acc₀ row)

@@ -5,11 +5,8 @@ use borrow.Author.Needs.{needs}
 use Prim.Native.Nat.{_-_}
 use lib.ListN.{length}
 use Rattle.kplib.proofs.RowSumLaws.{Adding, row-place, adding-ok, adding-turn, features-done}
-use Rattle.kplib.proofs.pathscore.add_row.Reads as add-row-reads
 use Rattle.kplib.proofs.pathscore.add_rows.Statement.{statement}
 use Rattle.kplib.proofs.pathscore.add_rows.Tie as tie
-use Rattle.kplib.proofs.pathscore.add_rows.Reads as reads
-use Rattle.kplib.proofs.pathscore.add_rows.Lts as lts
 
 abbrev Inv-loop : tie.InvT-loop
 Inv-loop table rows out₀ width i₀ out i = Adding (length out₀) table rows out₀ out i

@@ -2,7 +2,7 @@
 use mathlib.Core.Path.{_≡_, ap, _∙_}
 use native.Mathlib.Omega.{arith}
 use borrow.Author.Needs.{needs}
-use Prim.Native.Nat.{_+_, _-_, _≤_, _<_}
+use Prim.Native.Nat.{_-_, _≤_, _<_}
 use lib.IntN.{ℤ, pos}
 use lib.ListN.{length, drop, set, replicate, length-set, drop-of-length-le}
 use mathlib.Core.List.{List, _++_, append-nil}
@@ -10,8 +10,6 @@ use Rattle.metrics.proofs.Fills.{fill-more}
 use Rattle.kplib.specs.Sums.{zeros}
 use Rattle.kplib.proofs.pathscore.clear.Statement.{statement}
 use Rattle.kplib.proofs.pathscore.clear.Tie as tie
-use Rattle.kplib.proofs.pathscore.clear.Reads as reads
-use Rattle.kplib.proofs.pathscore.clear.Lts as lts
 
 abbrev Inv-loop : tie.InvT-loop
 Inv-loop row₀ i₀ row i = (i ≤ length row₀) × (length row ≡ length row₀) × (row ≡ replicate i (pos 0) ++ drop i row₀)

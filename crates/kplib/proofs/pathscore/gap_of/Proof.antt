@@ -4,8 +4,6 @@ use borrow.Author.Needs.{needs}
 use Rattle.kplib.proofs.SimilarityLaws.{gap-squished, gap-apart}
 use Rattle.kplib.proofs.pathscore.gap_of.Statement.{statement}
 use Rattle.kplib.proofs.pathscore.gap_of.Tie as tie
-use Rattle.kplib.proofs.pathscore.gap_of.Reads as reads
-use Rattle.kplib.proofs.pathscore.gap_of.Lts as lts
 
 returns : tie.Need-returns
 returns c =

@@ -3,9 +3,6 @@ use Rattle.kplib.proofs.VerdictLaws.{greater-new, greater-old, greater-
 use borrow.Author.Needs.{needs}
 use Rattle.kplib.proofs.pathscore.greater_of.Statement.{statement}
 use Rattle.kplib.proofs.pathscore.greater_of.Tie as tie
-use Rattle.kplib.proofs.pathscore.greater_of.Reads as reads
-use Rattle.kplib.proofs.pathscore.greater_of.Lts as lts
-use Rattle.kplib.proofs.pathscore.target_of.Reads as target-of-reads
 
 enum-told : tie.Need-enum-told
 enum-told c = search needs

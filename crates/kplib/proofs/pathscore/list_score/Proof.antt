@@ -3,14 +3,6 @@ use Rattle.kplib.proofs.VerdictLaws.{by-squish, by-sign, by-size, by-se
 use borrow.Author.Needs.{needs}
 use Rattle.kplib.proofs.pathscore.list_score.Statement.{statement}
 use Rattle.kplib.proofs.pathscore.list_score.Tie as tie
-use Rattle.kplib.proofs.pathscore.list_score.Reads as reads
-use Rattle.kplib.proofs.pathscore.list_score.Lts as lts
-use Rattle.kplib.proofs.pathscore.accepts_none.Reads as accepts-none-reads
-use Rattle.kplib.proofs.pathscore.gap_of.Reads as gap-of-reads
-use Rattle.kplib.proofs.pathscore.score_value.Reads as score-value-reads
-use Rattle.kplib.proofs.pathscore.seq_alike.Reads as seq-alike-reads
-use Rattle.kplib.proofs.pathscore.sign_of.Reads as sign-of-reads
-use Rattle.kplib.proofs.pathscore.size_alike.Reads as size-alike-reads
 
 accepts-none-requires : tie.Need-accepts-none-requires
 accepts-none-requires c κs = search needs

@@ -3,12 +3,6 @@ use Rattle.kplib.proofs.VerdictLaws.{lost-by-sign, lost-by-size, by-bou
 use borrow.Author.Needs.{needs}
 use Rattle.kplib.proofs.pathscore.may_win.Statement.{statement}
 use Rattle.kplib.proofs.pathscore.may_win.Tie as tie
-use Rattle.kplib.proofs.pathscore.may_win.Reads as reads
-use Rattle.kplib.proofs.pathscore.may_win.Lts as lts
-use Rattle.kplib.proofs.pathscore.gap_of.Reads as gap-of-reads
-use Rattle.kplib.proofs.pathscore.score_value.Reads as score-value-reads
-use Rattle.kplib.proofs.pathscore.sign_of.Reads as sign-of-reads
-use Rattle.kplib.proofs.pathscore.size_alike.Reads as size-alike-reads
 
 sign-of-requires : tie.Need-sign-of-requires
 sign-of-requires c κs = search needs

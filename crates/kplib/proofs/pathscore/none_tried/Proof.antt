@@ -2,9 +2,6 @@
 use borrow.Author.Needs.{needs}
 use Rattle.kplib.proofs.pathscore.none_tried.Statement.{statement}
 use Rattle.kplib.proofs.pathscore.none_tried.Tie as tie
-use Rattle.kplib.proofs.pathscore.none_tried.Reads as reads
-use Rattle.kplib.proofs.pathscore.none_tried.Lts as lts
-use Rattle.kplib.proofs.pathscore.nothing.Reads as nothing-reads
 
 nothing-requires : tie.Need-nothing-requires
 nothing-requires c κs = search needs

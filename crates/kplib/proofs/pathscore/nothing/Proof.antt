@@ -2,8 +2,6 @@
 use Rattle.metrics.proofs.Casts.{zero-is}
 use Rattle.kplib.proofs.pathscore.nothing.Statement.{statement}
 use Rattle.kplib.proofs.pathscore.nothing.Tie as tie
-use Rattle.kplib.proofs.pathscore.nothing.Reads as reads
-use Rattle.kplib.proofs.pathscore.nothing.Lts as lts
 
 returns : tie.Need-returns
 returns c = rw zero-is

@@ -1,11 +1,8 @@
 -- A row that is summed is left alone; another is summed.
 use borrow.Author.Needs.{needs}
 use Rattle.kplib.proofs.RowSumLaws.{ready-true}
-use Rattle.kplib.proofs.pathscore.sum_rows.Reads as sum-rows-reads
 use Rattle.kplib.proofs.pathscore.ready.Statement.{statement}
 use Rattle.kplib.proofs.pathscore.ready.Tie as tie
-use Rattle.kplib.proofs.pathscore.ready.Reads as reads
-use Rattle.kplib.proofs.pathscore.ready.Lts as lts
 
 returns : tie.Need-returns
 returns c = ready-true (c .before .before .args .summed) _ _ (c .if1 .taken) (c .before .before .pre .1)

@@ -4,8 +4,6 @@ use Rattle.metrics.proofs.Casts.{in-float}
 use Rattle.kplib.proofs.SimilarityLaws.{two-is}
 use Rattle.kplib.proofs.pathscore.score_value.Statement.{statement}
 use Rattle.kplib.proofs.pathscore.score_value.Tie as tie
-use Rattle.kplib.proofs.pathscore.score_value.Reads as reads
-use Rattle.kplib.proofs.pathscore.score_value.Lts as lts
 
 int-to-float-result : tie.Need-int-to-float-result
 int-to-float-result c = in-float _ (omega arith)

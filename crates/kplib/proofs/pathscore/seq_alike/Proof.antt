@@ -2,11 +2,8 @@
 use mathlib.Core.Path.{_∙_}
 use borrow.Author.Needs.{needs}
 use Rattle.kplib.proofs.SimilarityLaws.{seq-given, the-value, no-refusal}
-use Rattle.metrics.proofs.seqsim.Reads as seqsim-reads
 use Rattle.kplib.proofs.pathscore.seq_alike.Statement.{statement}
 use Rattle.kplib.proofs.pathscore.seq_alike.Tie as tie
-use Rattle.kplib.proofs.pathscore.seq_alike.Reads as reads
-use Rattle.kplib.proofs.pathscore.seq_alike.Lts as lts
 
 seqsim-requires : tie.Need-seqsim-requires
 seqsim-requires c κs = search needs

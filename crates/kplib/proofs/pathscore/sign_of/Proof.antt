@@ -3,8 +3,6 @@ use native.Mathlib.Omega.{arith}
 use Rattle.kplib.proofs.WordLaws.{back, negative, positive, nought}
 use Rattle.kplib.proofs.pathscore.sign_of.Statement.{statement}
 use Rattle.kplib.proofs.pathscore.sign_of.Tie as tie
-use Rattle.kplib.proofs.pathscore.sign_of.Reads as reads
-use Rattle.kplib.proofs.pathscore.sign_of.Lts as lts
 
 returns : tie.Need-returns
 returns c =

@@ -2,12 +2,8 @@
 use borrow.Author.Needs.{needs}
 use lib.ListN.{length}
 use Rattle.kplib.proofs.RowSumLaws.{summable-at, cleared-sum, summed-is}
-use Rattle.kplib.proofs.pathscore.clear.Reads as clear-reads
-use Rattle.kplib.proofs.pathscore.add_rows.Reads as add-rows-reads
 use Rattle.kplib.proofs.pathscore.sum_rows.Statement.{statement}
 use Rattle.kplib.proofs.pathscore.sum_rows.Tie as tie
-use Rattle.kplib.proofs.pathscore.sum_rows.Reads as reads
-use Rattle.kplib.proofs.pathscore.sum_rows.Lts as lts
 
 clear-requires : tie.Need-clear-requires
 clear-requires c κs = search needs

@@ -3,8 +3,6 @@ use borrow.Author.Needs.{needs}
 use Rattle.kplib.proofs.SimilarityLaws.{partial-target}
 use Rattle.kplib.proofs.pathscore.target_of.Statement.{statement}
 use Rattle.kplib.proofs.pathscore.target_of.Tie as tie
-use Rattle.kplib.proofs.pathscore.target_of.Reads as reads
-use Rattle.kplib.proofs.pathscore.target_of.Lts as lts
 
 returns : tie.Need-returns
 returns c = search needs

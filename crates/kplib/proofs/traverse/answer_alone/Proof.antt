@@ -24,7 +24,7 @@ same-length : tie.Need-same-length
 same-length c = search needs
 
 returns : tie.Need-returns
-returns c = alone-answers _ _ _ _ _ _ (now (c .before .before .before .before .before .before .before .before .before .before .args .rows)) _ (c .before .before .before .before .before .before .alone .ensures) (c .before .before .before .place-row .ensures) (c .answer-with .ensures)
+returns c = alone-answers _ _ _ (now (c .before .before .before .before .before .before .before .before .before .before .args .rows)) (c .before .before .before .before .before .before .alone .ensures) (c .before .before .before .place-row .ensures) (c .answer-with .ensures)
 
 pub answer-alone-spec : {M : Type 1} → statement M
 answer-alone-spec =

@@ -12,7 +12,7 @@ place-chain-requires : tie.Need-place-chain-requires
 place-chain-requires c κs = search needs
 
 answer-with-requires : tie.Need-answer-with-requires
-answer-with-requires c κs = search-few _ _ _ _ _ _ _ (c .before .before .before .before .before .before .before .before .before .before .before .before .before .before .before .search .ensures) (c .before .before .before .place-chain .ensures .0)
+answer-with-requires c κs = search-few (c .before .before .before .before .before .before .before .before .before .before .before .before .before .before .before .search .ensures) (c .before .before .before .place-chain .ensures .0)
 
 same-length : tie.Need-same-length
 same-length c = c .before .before .before .before .before .before .before .before .before .before .before .before .before .before .before .before .search .kept .1 .1 .1 .1 .1 .1 .1 .0
@@ -27,7 +27,7 @@ same-length-4 : tie.Need-same-length-4
 same-length-4 c = c .before .before .before .before .place-chain .kept .1 .1 .1 .1 .0
 
 returns : tie.Need-returns
-returns c = search-answers _ _ _ _ _ _ _ _ (now (c .before .before .before .before .before .before .before .before .before .before .before .before .before .before .before .before .before .before .before .before .before .before .before .before .before .before .args .rows)) _ (c .before .before .before .before .before .before .before .before .before .before .before .before .before .before .before .before .search .ensures) (c .before .before .before .before .place-chain .ensures) (c .answer-with .ensures)
+returns c = search-answers (now (c .before .before .before .before .before .before .before .before .before .before .before .before .before .before .before .before .before .before .before .before .before .before .before .before .before .before .args .rows)) (c .before .before .before .before .before .before .before .before .before .before .before .before .before .before .before .before .search .ensures) (c .before .before .before .before .place-chain .ensures) (c .answer-with .ensures)
 
 pub answer-search-spec : {M : Type 1} → statement M
 answer-search-spec =

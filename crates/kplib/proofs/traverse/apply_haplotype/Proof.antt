@@ -48,7 +48,7 @@ answer-with-requires c κs = search needs
 returns : tie.Need-returns
 returns c =
     let asked = c .before .before .before in
-    let h = refused-answers (call (begin asked)) _ (found asked) (c .before .before .if1 .taken) _ (c .before .nothing .ensures) _ (c .answer-with .ensures) (now (begin asked .args .rows)) in
+    let h = refused-answers (call (begin asked)) (found asked) (c .before .before .if1 .taken) (c .before .nothing .ensures) (c .answer-with .ensures) (now (begin asked .args .rows)) in
     (h .0, (h .1, (λ _. refl, (λ _. refl, λ _. refl))))
 
 search-mode-requires : tie.Need-search-mode-requires
@@ -77,7 +77,7 @@ returns-2 : tie.Need-returns-2
 returns-2 c =
     let b = c .before .before .before .before .before .before .before .before .before .before .before .before .before .before .before in
     let mode = sym (c .before .before .before .before .before .before .before .before .before .before .before .before .before .before .search-mode .ensures) ∙ c .before .before .before .before .before .before .before .before .before .before .before .before .before .if2 .taken in
-    let h = searched-accepted (call (start b)) (passed b) _ (now (start b .args .rows)) _ mode (c .before .before .before .before .before .before .before .before .answer-search .ensures) in
+    let h = searched-accepted (call (start b)) (passed b) (now (start b .args .rows)) mode (c .before .before .before .before .before .before .before .before .answer-search .ensures) in
     (h .0, (h .1, (λ z. did-search (call (start b)) (passed b) mode z, (λ z. did-search (call (start b)) (passed b) mode z, λ z. did-search (call (start b)) (passed b) mode z))))
 
 answer-alone-requires : tie.Need-answer-alone-requires
@@ -92,7 +92,7 @@ returns-3 : tie.Need-returns-3
 returns-3 c =
     let b = c .before .before .before .before .before .before in
     let mode = sym (c .before .before .before .before .before .search-mode .ensures) ∙ c .before .before .before .before .if2 .left in
-    let h = alone-accepted (call (start b)) (passed b) _ (now (start b .args .rows)) _ mode (c .before .before .answer-alone .ensures) in
+    let h = alone-accepted (call (start b)) (passed b) (now (start b .args .rows)) mode (c .before .before .answer-alone .ensures) in
     (h .0, (h .1, (λ _. refl, (λ _. refl, λ _. refl))))
 
 pub apply-haplotype-spec : {M : Type 1} → statement M

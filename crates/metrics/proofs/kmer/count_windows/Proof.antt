@@ -1,21 +1,23 @@
--- The number of the last k letters is that of all letters read, modulo 4 ^ k; the row is the counts of the windows that end among them.
+-- The number of the last k letters is that of all letters read, modulo 4 ^ k; the row has the counts of these letters, with every window kept.
 use borrow.Author.Needs.{needs}
 use mathlib.Core.Path.{_≡_, sym, ap, _∙_}
 use Prim.Native.Nat.{ℕ, _+_, _-_, _%_, _^_, _≤_, _<_}
 use native.Mathlib.Omega.{arith}
 use native.Mathlib.Nat.{mod-lt, zero-mod}
+use borrow.Author.Tests.{lt-leb}
 use lib.IntN.{pos}
 use lib.ListN.{length, take, getD, length-set, length-replicate}
-use Rattle.metrics.specs.Letters.{numberOf}
+use lib.Seq.{length-take-le, take-length}
+use Rattle.metrics.specs.Letters.{numberOf, everyByte, countsReading, countsOf}
 use Rattle.metrics.proofs.Ints.{read-back}
-use Rattle.metrics.proofs.Windows.{windowAt, countsTo, counts-whole, letter-le, four-pos, turn-number, turn-window, turn-row, turn-none, counts-zero, counts-size}
+use Rattle.metrics.proofs.Windows.{letter-le, lastLetters, all-every, counts-none, counts-size, four-pos, turn-number, turn-window, turn-kept, turn-left}
 use Rattle.metrics.proofs.kmer.count_windows.Statement.{statement}
 use Rattle.metrics.proofs.kmer.count_windows.Tie as tie
 
 abbrev Inv-loop : tie.InvT-loop
 Inv-loop seq k size negative out₀ width table window₀ read₀ out window read =
     (read ≤ length seq) × (window < size) × (window ≡ numberOf (take read seq) % 4 ^ k) × (length out ≡ size)
-    × (out ≡ countsTo k negative seq (read + 1 - k))
+    × (out ≡ countsReading everyByte k negative (take read seq))
 
 abbrev μ-loop : tie.MeasureT-loop
 μ-loop seq k size negative out₀ width table window₀ read₀ out window read = length seq - read
@@ -25,14 +27,12 @@ unfolding numberOf
 loop-holds c =
     let s = c .before .before in
     let k = s .args .k in
-    let seq = s .args .seq .now in
-    let none : 1 - k ≡ 0 = omega arith in
     let zeros = s .pre .4 in (
       omega arith,
       rw (s .pre .0) (four-pos k),
       sym (zero-mod (4 ^ k)),
       ap length zeros ∙ length-replicate (4 ^ k) (pos 0) ∙ sym (s .pre .0),
-      zeros ∙ rw none (sym (counts-zero k (s .args .negative) seq)),
+      zeros ∙ sym (counts-none everyByte k (s .args .negative)),
     )
 
 code-table-requires : tie.Need-code-table-requires Inv-loop μ-loop
@@ -75,9 +75,11 @@ new-is c =
     ∙ turn-number (Args c .args .k) (Args c .args .seq .now) (At c .loop .read) (At c .loop .window) (c .before .code-by-table .result) (Args c .args .size)
     (Args c .pre .0) (In c .loop-test .taken) (At c .loop .inv .2) (c .before .code-by-table .ensures)
 
-new-window : (c : tie.Then1 Inv-loop μ-loop) → new (c .before) ≡ windowAt (Args (c .before) .args .k) (Args (c .before) .args .seq .now) (At (c .before) .loop .read + 1 - Args (c .before) .args .k)
+new-window : (c : tie.Then1 Inv-loop μ-loop)
+    → new (c .before) ≡ numberOf (lastLetters (Args (c .before) .args .k) (take (At (c .before) .loop .read + 1) (Args (c .before) .args .seq .now)))
 new-window c =
-    new-is (c .before) ∙ turn-window (Args (c .before) .args .k) (Args (c .before) .args .seq .now) (At (c .before) .loop .read) (c .if1 .taken) (In (c .before) .loop-test .taken)
+    let a = c .before in
+    new-is a ∙ turn-window (Args a .args .k) (Args a .args .seq .now) (At a .loop .read) (In a .loop-test .taken) (c .if1 .taken)
 
 add-read : tie.Need-add-read Inv-loop μ-loop
 add-read c = search needs
@@ -92,11 +94,11 @@ counted-once-more-requires : tie.Need-counted-once-more-requires Inv-loop μ-loo
 counted-once-more-requires c κs =
     let a = c .before .before in
     let k = Args a .args .k in
-    let n = At a .loop .read + 1 - k in
-    let small : n ≤ 131072 = omega arith in
+    let seq = Args a .args .seq .now in
+    let read = At a .loop .read in
     let room : new a < 4 ^ k = omega (arith, new-lt a) in
     rw (read-back _ (c .counted-once-more-arg .given), At a .loop .inv .4)
-    (omega (arith, counts-size k (Args a .args .negative) (Args a .args .seq .now) n (new a) room))
+    (omega (arith, counts-size everyByte k (Args a .args .negative) (take read seq) (new a) room, length-take-le read seq (omega arith)))
 
 mul-t20 : tie.Need-mul-t20 Inv-loop μ-loop
 mul-t20 c = omega (arith, new-lt (c .before .before .before))
@@ -119,8 +121,9 @@ loop-again c =
       new-lt a,
       new-is a,
       length-set out (new a) (c .counted-once-more .result) ∙ At a .loop .inv .3,
-      turn-row k seq (At a .loop .read) (c .before .before .if1 .taken) (In a .loop-test .taken) (Args a .args .negative) out (new a) (c .counted-once-more .result)
-          (At a .loop .inv .4) (new-window (c .before .before)) y,
+      turn-kept k seq (At a .loop .read) (In a .loop-test .taken) everyByte (omega arith) (Args a .args .negative) out (At a .loop .inv .4)
+          (c .before .before .if1 .taken) (all-every (lastLetters k (take (At a .loop .read + 1) seq))) (new a) (c .counted-once-more .result)
+          (new-window (c .before .before)) y,
     )
 
 loop-less-2 : tie.Need-loop-less-2 Inv-loop μ-loop
@@ -128,9 +131,14 @@ loop-less-2 c = search needs
 
 loop-again-2 : tie.Need-loop-again-2 Inv-loop μ-loop
 loop-again-2 c =
-    let a = c .before in
-    let k = Args a .args .k in
-    (omega arith, new-lt a, new-is a, At a .loop .inv .3, rw (turn-none k (At a .loop .read) (c .if1 .left)) (At a .loop .inv .4))
+    let a = c .before in (
+      omega arith,
+      new-lt a,
+      new-is a,
+      At a .loop .inv .3,
+      turn-left (Args a .args .k) (Args a .args .seq .now) (At a .loop .read) (In a .loop-test .taken) everyByte (omega arith) (Args a .args .negative)
+          (At a .loop .out) (At a .loop .inv .4) (rw (lt-leb _ _ (c .if1 .left))),
+    )
 
 same-length : tie.Need-same-length Inv-loop μ-loop
 same-length c =
@@ -138,10 +146,11 @@ same-length c =
     c .before .loop .inv .3 ∙ s .pre .0 ∙ sym (ap length (s .pre .4) ∙ length-replicate (4 ^ s .args .k) (pos 0))
 
 returns : tie.Need-returns Inv-loop μ-loop
+unfolding countsOf
 returns c =
     let s = c .before .before .before .before in
     let e : c .before .loop .read ≡ length (s .args .seq .now) = omega arith in
-    rw e at (c .before .loop .inv .4) ∙ counts-whole (s .args .k) (s .args .negative) (s .args .seq .now) (omega arith)
+    rw (e, take-length) at (c .before .loop .inv .4)
 
 pub count-windows-spec : {M : Type 1} → statement M
 count-windows-spec =

@@ -5,11 +5,6 @@ use mathlib.Core.Path.{_≡_}
 use lib.ListN.{length}
 use Rattle.search_vectors.proofs.list.read_changes.Statement.{statement}
 use Rattle.search_vectors.proofs.list.read_changes.Tie as tie
-use Rattle.search_vectors.proofs.list.read_changes.Reads as reads
-use Rattle.search_vectors.proofs.list.read_changes.Lts as lts
-use Rattle.search_vectors.proofs.list.at_most.Reads as at-most-reads
-use Rattle.search_vectors.proofs.list.read_change.Reads as read-change-reads
-use Rattle.search_vectors.proofs.list.word.Reads as word-reads
 
 abbrev Inv-loop : tie.InvT-loop
 Inv-loop features₀ part-features₀ changes i₀ features part-features i = (length features ≡ length features₀) × (length part-features ≡ length part-features₀)

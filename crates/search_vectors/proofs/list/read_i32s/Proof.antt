@@ -5,11 +5,6 @@ use mathlib.Core.Path.{_≡_}
 use lib.ListN.{length, length-set}
 use Rattle.search_vectors.proofs.list.read_i32s.Statement.{statement}
 use Rattle.search_vectors.proofs.list.read_i32s.Tie as tie
-use Rattle.search_vectors.proofs.list.read_i32s.Reads as reads
-use Rattle.search_vectors.proofs.list.read_i32s.Lts as lts
-use Rattle.search_vectors.proofs.list.at_most.Reads as at-most-reads
-use Rattle.search_vectors.proofs.list.signed.Reads as signed-reads
-use Rattle.search_vectors.proofs.list.word.Reads as word-reads
 
 abbrev Inv-loop : tie.InvT-loop
 Inv-loop into₀ count n i₀ into i = (length into ≡ length into₀) × (n ≤ length into₀)

@@ -6,11 +6,6 @@ use lib.ListN.{length}
 use Rattle.metrics.proofs.Entries.{never-more}
 use Rattle.search_vectors.proofs.list.read_rows.Statement.{statement}
 use Rattle.search_vectors.proofs.list.read_rows.Tie as tie
-use Rattle.search_vectors.proofs.list.read_rows.Reads as reads
-use Rattle.search_vectors.proofs.list.read_rows.Lts as lts
-use Rattle.search_vectors.proofs.list.at_most.Reads as at-most-reads
-use Rattle.search_vectors.proofs.list.read_row.Reads as read-row-reads
-use Rattle.search_vectors.proofs.list.word.Reads as word-reads
 
 abbrev Inv-loop : tie.InvT-loop
 Inv-loop k letters₀ table₀ rows width row₀ from₀ letters table row from =

@@ -5,10 +5,6 @@ use mathlib.Core.Path.{_≡_}
 use lib.ListN.{length, length-set}
 use Rattle.search_vectors.proofs.list.read_u64s.Statement.{statement}
 use Rattle.search_vectors.proofs.list.read_u64s.Tie as tie
-use Rattle.search_vectors.proofs.list.read_u64s.Reads as reads
-use Rattle.search_vectors.proofs.list.read_u64s.Lts as lts
-use Rattle.search_vectors.proofs.list.at_most.Reads as at-most-reads
-use Rattle.search_vectors.proofs.list.long.Reads as long-reads
 
 abbrev Inv-loop : tie.InvT-loop
 Inv-loop into₀ count n i₀ into i = (length into ≡ length into₀) × (n ≤ length into₀)

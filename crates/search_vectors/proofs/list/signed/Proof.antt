@@ -10,8 +10,6 @@ use borrow.Author.Tests.{lt-ltb}
 use borrow.Author.Needs.{needs}
 use Rattle.search_vectors.proofs.list.signed.Statement.{statement}
 use Rattle.search_vectors.proofs.list.signed.Tie as tie
-use Rattle.search_vectors.proofs.list.signed.Reads as reads
-use Rattle.search_vectors.proofs.list.signed.Lts as lts
 
 minus-one : (y : ℕ) → negsuc 0 -ℤ pos y ≡ negsuc y
 minus-one zero = refl

@@ -4,9 +4,6 @@ use Prim.Native.Nat.{_-_}
 use lib.ListN.{length}
 use Rattle.search_vectors.proofs.print.put_rows.Statement.{statement}
 use Rattle.search_vectors.proofs.print.put_rows.Tie as tie
-use Rattle.search_vectors.proofs.print.put_rows.Reads as reads
-use Rattle.search_vectors.proofs.print.put_rows.Lts as lts
-use Rattle.search_vectors.proofs.print.put_next.Reads as put-next-reads
 
 abbrev Inv-loop : tie.InvT-loop
 Inv-loop rows i₀ i = Unit {0}
