@@ -1,5 +1,6 @@
 //! The differential run: generated jobs put to the program and to the linked library, and every answer compared with
-//! the judge's. `run [--short] [--no-program] [--no-library] [--seed N] [--inputs N] [--calls N]`
+//! the judge's. `run [--short] [--no-program] [--no-library] [--seed N] [--inputs N] [--calls N] [--every N]`; `--every`
+//! takes each N-th of the jobs that are made exhaustively
 use judge::answer::Answer;
 use judge::call::Call;
 use judge::document::{call_answer, program_answer, Fault, Trace};
@@ -43,11 +44,12 @@ fn options() -> Options {
             "--seed" => o.seed = number(),
             "--inputs" => o.inputs = number(),
             "--calls" => o.calls = number(),
+            "--every" => o.exhaust_step = number() as usize,
             _ => panic!("unknown word {word}"),
         }
     }
     if short {
-        (o.inputs, o.calls, o.exhaust_step) = (o.inputs.min(15_000), o.calls.min(800), 11);
+        (o.inputs, o.calls, o.exhaust_step) = (o.inputs.min(15_000), o.calls.min(800), o.exhaust_step.max(11));
     }
     o
 }
