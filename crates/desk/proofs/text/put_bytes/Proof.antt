@@ -9,8 +9,6 @@ use denote.Ref.{now}
 use Rattle.desk.proofs.PieceLaws.{copy-more, copy-done}
 use Rattle.desk.proofs.text.put_bytes.Statement.{statement}
 use Rattle.desk.proofs.text.put_bytes.Tie as tie
-use Rattle.desk.proofs.text.put_bytes.Reads as reads
-use Rattle.desk.proofs.text.put_bytes.Lts as lts
 
 abbrev Inv-loop : tie.InvT-loop
 Inv-loop out₀ at src i₀ out i = (sets out (at + i) (drop i src) ≡ sets out₀ at src) × ((i ≤ length src) × (length out ≡ length out₀))
@@ -37,7 +35,12 @@ loop-less : tie.Need-loop-less Inv-loop μ-loop
 loop-less c = omega arith
 
 loop-again : tie.Need-loop-again Inv-loop μ-loop
-loop-again c = (copy-more (now (c .before .before .before .args .src)) (c .before .before .before .args .at) _ (c .before .before .loop .out) (c .before .loop-test .taken) ∙ c .before .before .loop .inv .0, (omega arith, length-set (c .before .before .loop .out) _ _ ∙ c .before .before .loop .inv .1 .1))
+loop-again c =
+    let l = c .before .before in
+    let a = l .before .args in (
+      copy-more (now (a .src)) (a .at) _ (l .loop .out) (c .before .loop-test .taken) ∙ l .loop .inv .0,
+      (omega arith, length-set (l .loop .out) _ _ ∙ l .loop .inv .1 .1),
+    )
 
 add-result : tie.Need-add-result Inv-loop μ-loop
 add-result c = omega arith
