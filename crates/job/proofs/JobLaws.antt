@@ -193,10 +193,10 @@ module _ (s : Settings) (t : Lent) where
 
 -- ---- the answer
 module _ (t : Lent) where
-  abbrev rowsAgree : Bool
+  abbrev pub rowsAgree : Bool
   rowsAgree = four (length (t .starts)) (length (t .ends)) (length (t .sizes)) (length (t .negatives)) (length (t .counts))
 
-  abbrev partsAgree : Bool
+  abbrev pub partsAgree : Bool
   partsAgree = two (length (t .partSizes)) (length (t .partNegatives)) (length (t .partCounts))
 
   abbrev lettersAgree : Bool

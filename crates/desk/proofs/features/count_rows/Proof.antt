@@ -1,8 +1,9 @@
 -- The rows in the table and the rows of the sequences that are left make the rows of all.
 use native.Mathlib.Omega.{arith}
 use denote.Ref.{now}
-use Prim.Native.Nat.{_-_}
-use lib.ListN.{length}
+use Prim.Native.Nat.{_+_, _-_}
+use lib.ListN.{length, getD}
+use Rattle.desk.specs.Rows.{RowFits}
 use Rattle.desk.proofs.FeatureLaws.{Running, rows-start, row-fits, rows-next, rows-done}
 use Rattle.desk.proofs.features.count_rows.Statement.{statement}
 use Rattle.desk.proofs.features.count_rows.Tie as tie
@@ -13,10 +14,20 @@ Inv-loop k width negatives counts letters first table₀ row₀ at₀ from₀ ta
 abbrev μ-loop : tie.MeasureT-loop
 μ-loop k width negatives counts letters first table₀ row₀ at₀ from₀ table row at from = length counts - row
 
+-- the places: the start, and the row that is counted
+abbrev start : tie.At-loop Inv-loop μ-loop → tie.Start Inv-loop μ-loop
+start c = c .before .before .before .before
+
+abbrev inside : tie.After-count-row-arg Inv-loop μ-loop → tie.In-loop Inv-loop μ-loop
+inside c = c .before .before .before
+
+-- the row ends within the table
+fits : (c : tie.In-loop Inv-loop μ-loop) → let l = c .before .loop in let a = start (c .before) .args in
+    RowFits (a .k) (l .at) (l .at + getD (now (a .counts)) (l .row) 0) (l .from) (l .from + a .width) (now (a .letters)) (l .table)
+fits c = row-fits _ _ _ _ _ _ _ (start (c .before) .pre) _ _ _ _ (c .before .loop .inv) (c .loop-test .taken)
+
 loop-holds : tie.Need-loop-holds Inv-loop μ-loop
-loop-holds c =
-    let s = c .before .before .before in
-    rows-start (s .args .k) (s .args .width) (now (s .args .negatives)) (now (s .args .counts)) (now (s .args .letters)) (s .args .first) (now (s .args .table)) (s .pre)
+loop-holds c = rows-start _ _ _ _ _ _ _ (c .before .before .before .pre)
 
 mul-end : tie.Need-mul-end Inv-loop μ-loop
 mul-end c = omega arith
@@ -29,10 +40,8 @@ cast-end c = omega (arith, c .shared-slice-known4 .given (c .before .before .loo
 
 add-end : tie.Need-add-end Inv-loop μ-loop
 add-end c =
-    let s = c .before .before .before .before .before .before in
-    let l = c .before .before .loop in
-    let q = row-fits (s .args .k) (s .args .width) (now (s .args .negatives)) (now (s .args .counts)) (now (s .args .letters)) (s .args .first) (now (s .args .table)) (s .pre) (l .table) (l .row) (l .at) (l .from) (l .inv) (c .before .loop-test .taken) in
-    let r = l .inv .kept in
+    let q = fits (c .before) in
+    let r = c .before .before .loop .inv .kept in
     omega arith
 
 shared-slice-read-count-row : tie.Need-shared-slice-read-count-row Inv-loop μ-loop
@@ -40,24 +49,17 @@ shared-slice-read-count-row c = omega arith
 
 add-count-row : tie.Need-add-count-row Inv-loop μ-loop
 add-count-row c =
-    let s = c .before .before .before .before .before .before .before .before in
-    let l = c .before .before .before .before .loop in
-    let q = row-fits (s .args .k) (s .args .width) (now (s .args .negatives)) (now (s .args .counts)) (now (s .args .letters)) (s .args .first) (now (s .args .table)) (s .pre) (l .table) (l .row) (l .at) (l .from) (l .inv) (c .before .before .before .loop-test .taken) in
-    let r = l .inv .kept in
+    let q = fits (inside c) in
+    let r = inside c .before .loop .inv .kept in
     omega arith
 
 count-row-requires : tie.Need-count-row-requires Inv-loop μ-loop
-count-row-requires c κs =
-    let s = c .before .before .before .before .before .before .before .before in
-    let l = c .before .before .before .before .loop in
-    row-fits (s .args .k) (s .args .width) (now (s .args .negatives)) (now (s .args .counts)) (now (s .args .letters)) (s .args .first) (now (s .args .table)) (s .pre) (l .table) (l .row) (l .at) (l .from) (l .inv) (c .before .before .before .loop-test .taken)
+count-row-requires c κs = fits (inside c)
 
 add-from : tie.Need-add-from Inv-loop μ-loop
 add-from c =
-    let s = c .before .before .before .before .before .before .before .before .before .before in
-    let l = c .before .before .before .before .before .before .loop in
-    let q = row-fits (s .args .k) (s .args .width) (now (s .args .negatives)) (now (s .args .counts)) (now (s .args .letters)) (s .args .first) (now (s .args .table)) (s .pre) (l .table) (l .row) (l .at) (l .from) (l .inv) (c .before .before .before .before .before .loop-test .taken) in
-    let r = l .inv .kept in
+    let q = fits (inside (c .before .before)) in
+    let r = inside (c .before .before) .before .loop .inv .kept in
     omega arith
 
 add-row : tie.Need-add-row Inv-loop μ-loop
@@ -68,36 +70,18 @@ loop-less c = omega arith
 
 loop-again : tie.Need-loop-again Inv-loop μ-loop
 loop-again c =
-    let s = c .before .before .before .before .before .before .before .before .before .before in
-    let l = c .before .before .before .before .before .before .loop in
-    rows-next (s .args .k) (s .args .width) (now (s .args .negatives)) (now (s .args .counts)) (now (s .args .letters)) (s .args .first) (now (s .args .table)) (s .pre) (l .table) (l .row) (l .at) (l .from) (l .inv) (c .before .before .before .before .before .loop-test .taken) _ (c .before .count-row .ensures)
+    let w = c .before in
+    let i = inside (w .before) in
+    rows-next _ _ _ _ _ _ _ (start (i .before) .pre) _ _ _ _ (i .before .loop .inv) (i .loop-test .taken) _ (w .count-row .ensures)
 
 same-length : tie.Need-same-length Inv-loop μ-loop
 same-length c = c .before .loop .inv .kept
 
 returns : tie.Need-returns Inv-loop μ-loop
-returns c =
-    let s = c .before .before .before .before .before in
-    let l = c .before .loop in
-    rows-done (s .args .k) (s .args .width) (now (s .args .negatives)) (now (s .args .counts)) (now (s .args .letters)) (s .args .first) (now (s .args .table)) (s .pre) (l .table) (l .row) (l .at) (l .from) (l .inv) (c .loop-test .left)
+returns c = rows-done _ _ _ _ _ _ _ (start (c .before) .pre) _ _ _ _ (c .before .loop .inv) (c .loop-test .left)
 
 pub count-rows-spec : {M : Type 1} → statement M
 count-rows-spec =
     tie.close
-    (tie.spec
-    Inv-loop
-    μ-loop
-    loop-holds
-    mul-end
-    shared-slice-read-end
-    cast-end
-    add-end
-    shared-slice-read-count-row
-    add-count-row
-    count-row-requires
-    add-from
-    add-row
-    loop-less
-    loop-again
-    same-length
-    returns)
+    (tie.spec Inv-loop μ-loop loop-holds mul-end shared-slice-read-end cast-end add-end shared-slice-read-count-row add-count-row count-row-requires
+    add-from add-row loop-less loop-again same-length returns)

@@ -3,12 +3,28 @@ use native.Mathlib.Omega.{arith}
 use denote.Ref.{now}
 use mathlib.Core.Path.{_≡_, refl}
 use lib.ListN.{length, replicate}
-use Rattle.params.specs.Numbers.{tableOf, partsOf}
+use Rattle.params.specs.Numbers.{Table, Parts, tableOf, partsOf}
 use Rattle.desk.proofs.PieceLaws.{put-as}
 use Rattle.desk.proofs.AnswerLaws.{answer-few, answer-text}
 use borrow.Author.Needs.{needs}
 use Rattle.desk.proofs.memory.search.Statement.{statement}
 use Rattle.desk.proofs.memory.search.Tie as tie
+
+-- the lent data, and the places: once the queue has its room, and once the answer is found
+abbrev table : tie.Start → Table
+table s = tableOf (now (s .args .starts)) (now (s .args .ends)) (now (s .args .sizes)) (now (s .args .features))
+
+abbrev parts : tie.Start → Parts
+parts s = partsOf (now (s .args .part-sizes)) (now (s .args .part-features))
+
+abbrev start : tie.After-queue-room → tie.Start
+start c = c .before .before .before .before
+
+abbrev rooms : tie.After-apply-haplotype → tie.After-key-room
+rooms c = c .before .before .before .before .before
+
+abbrev found : tie.After-print-arg → tie.After-apply-haplotype
+found c = c .before .before .before .before .before .before
 
 queue-room-requires : tie.Need-queue-room-requires
 queue-room-requires c κs = search needs
@@ -39,11 +55,11 @@ slice-aggregate-print c = search needs
 
 print-requires : tie.Need-print-requires
 print-requires c κs =
-    let s = c .before .before .before .before .before .before .before .before .before .before .before .before .before .before .before .before .before in
-    let r = c .before .before .before .before .before .before .apply-haplotype in
-    let l : length (r .last .1 .1 .1 .1 .1 .1 .1 .1 .1 .1 .0) ≡ 16 = omega arith in
-    let few = answer-few (s .args .s) (tableOf (now (s .args .starts)) (now (s .args .ends)) (now (s .args .sizes)) (now (s .args .features))) (partsOf (now (s .args .part-sizes)) (now (s .args .part-features))) (c .before .before .before .before .before .before .before .before .before .before .before .before .before .queue-room .result) (c .before .before .before .before .before .before .before .before .before .before .before .before .queue-room2 .result) (c .before .before .before .before .before .before .before .before .before .before .before .key-room .result) (replicate 16 0)
-    (c .before .before .before .before .before .before .before .before .before .before .before .before .before .queue-room .ensures) (c .before .before .before .before .before .before .before .before .before .before .before .before .queue-room2 .ensures) (c .before .before .before .before .before .before .before .before .before .before .before .key-room .ensures) refl (r .result) (r .ensures .0) (r .last .1 .1 .1 .1 .1 .1 .1 .1 .1 .1 .0) (r .ensures .1 .0) l in
+    let a = found c .apply-haplotype in
+    let k = rooms (found c) in let p = k .before in let q = p .before in let s = start q in
+    let l : length (a .last .1 .1 .1 .1 .1 .1 .1 .1 .1 .1 .0) ≡ 16 = omega arith in
+    let few = answer-few (s .args .s) (table s) (parts s) (q .queue-room .result) (p .queue-room2 .result) (k .key-room .result) (replicate 16 0) (q .queue-room .ensures)
+    (p .queue-room2 .ensures) (k .key-room .ensures) refl (a .result) (a .ensures .0) (a .last .1 .1 .1 .1 .1 .1 .1 .1 .1 .1 .0) (a .ensures .1 .0) l in
     (omega arith, (omega arith, omega arith))
 
 same-length : tie.Need-same-length
@@ -51,24 +67,15 @@ same-length c = search needs
 
 returns : tie.Need-returns
 returns c =
-    let s = c .before .before .before .before .before .before .before .before .before .before .before .before .before .before .before .before .before .before .before .before in
-    let r = c .before .before .before .before .before .before .before .before .before .apply-haplotype in
-    put-as 281 (c .before .before .print .ensures) (answer-text (s .args .s) (tableOf (now (s .args .starts)) (now (s .args .ends)) (now (s .args .sizes)) (now (s .args .features))) (partsOf (now (s .args .part-sizes)) (now (s .args .part-features))) (c .before .before .before .before .before .before .before .before .before .before .before .before .before .before .before .before .queue-room .result) (c .before .before .before .before .before .before .before .before .before .before .before .before .before .before .before .queue-room2 .result) (c .before .before .before .before .before .before .before .before .before .before .before .before .before .before .key-room .result) (replicate 16 0)
-    (c .before .before .before .before .before .before .before .before .before .before .before .before .before .before .before .before .queue-room .ensures) (c .before .before .before .before .before .before .before .before .before .before .before .before .before .before .before .queue-room2 .ensures) (c .before .before .before .before .before .before .before .before .before .before .before .before .before .before .key-room .ensures) refl (r .result) (r .ensures .0) (r .last .1 .1 .1 .1 .1 .1 .1 .1 .1 .1 .0) (r .ensures .1 .0)) (omega arith)
+    let w = c .before .before in
+    let a = found (w .before) .apply-haplotype in
+    let k = rooms (found (w .before)) in let p = k .before in let q = p .before in let s = start q in
+    put-as 281 (w .print .ensures) (answer-text (s .args .s) (table s) (parts s) (q .queue-room .result) (p .queue-room2 .result) (k .key-room .result) (replicate 16 0) (q .queue-room .ensures)
+    (p .queue-room2 .ensures) (k .key-room .ensures) refl (a .result) (a .ensures .0) (a .last .1 .1 .1 .1 .1 .1 .1 .1 .1 .1 .0) (a .ensures .1 .0)) (omega arith)
 
 pub search-spec : {M : Type 1} → statement M
 search-spec =
     tie.close
-    (tie.spec
-    queue-room-requires
-    queue-room-requires-2
-    key-room-requires
-    slice-aggregate-apply-haplotype
-    slice-aggregate-apply-haplotype-2
-    slice-aggregate-apply-haplotype-3
-    slice-aggregate-apply-haplotype-4
-    apply-haplotype-requires
-    slice-aggregate-print
-    print-requires
-    same-length
+    (tie.spec queue-room-requires queue-room-requires-2 key-room-requires slice-aggregate-apply-haplotype slice-aggregate-apply-haplotype-2
+    slice-aggregate-apply-haplotype-3 slice-aggregate-apply-haplotype-4 apply-haplotype-requires slice-aggregate-print print-requires same-length
     returns)

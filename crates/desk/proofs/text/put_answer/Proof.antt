@@ -5,6 +5,13 @@ use borrow.Author.Needs.{needs}
 use Rattle.desk.proofs.text.put_answer.Statement.{statement}
 use Rattle.desk.proofs.text.put_answer.Tie as tie
 
+-- the places that the proof speaks of
+abbrev first : tie.After-put-similarities → tie.After-put-rows-line
+first c = c .before .before .before .before
+
+abbrev second : tie.After-put-reach → tie.After-put-similarities
+second c = c .before .before .before .before
+
 put-rows-line-requires : tie.Need-put-rows-line-requires
 put-rows-line-requires c κs = search needs
 
@@ -19,14 +26,9 @@ same-length c = search needs
 
 returns : tie.Need-returns
 unfolding sevenLines
-returns c = put-then (put-then (c .before .before .before .before .before .before .before .before .before .before .put-rows-line .ensures) (c .before .before .before .before .before .before .put-similarities .ensures)) (c .before .before .put-reach .ensures)
+returns c =
+    let f3 = c .before .before in let f2 = second f3 in
+    put-then (put-then (first f2 .put-rows-line .ensures) (f2 .put-similarities .ensures)) (f3 .put-reach .ensures)
 
 pub put-answer-spec : {M : Type 1} → statement M
-put-answer-spec =
-    tie.close
-    (tie.spec
-    put-rows-line-requires
-    put-similarities-requires
-    put-reach-requires
-    same-length
-    returns)
+put-answer-spec = tie.close (tie.spec put-rows-line-requires put-similarities-requires put-reach-requires same-length returns)

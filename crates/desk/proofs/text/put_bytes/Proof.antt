@@ -35,7 +35,12 @@ loop-less : tie.Need-loop-less Inv-loop μ-loop
 loop-less c = omega arith
 
 loop-again : tie.Need-loop-again Inv-loop μ-loop
-loop-again c = (copy-more (now (c .before .before .before .args .src)) (c .before .before .before .args .at) _ (c .before .before .loop .out) (c .before .loop-test .taken) ∙ c .before .before .loop .inv .0, (omega arith, length-set (c .before .before .loop .out) _ _ ∙ c .before .before .loop .inv .1 .1))
+loop-again c =
+    let l = c .before .before in
+    let a = l .before .args in (
+      copy-more (now (a .src)) (a .at) _ (l .loop .out) (c .before .loop-test .taken) ∙ l .loop .inv .0,
+      (omega arith, length-set (l .loop .out) _ _ ∙ l .loop .inv .1 .1),
+    )
 
 add-result : tie.Need-add-result Inv-loop μ-loop
 add-result c = omega arith

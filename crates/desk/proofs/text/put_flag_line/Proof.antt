@@ -21,7 +21,8 @@ same-length c = search needs
 returns : tie.Need-returns
 unfolding bytesOf flagLine
 returns c =
-    rw (c .before .before .before .before .before .if1 .taken) (put-wide 13 (put-then (c .before .before .before .before .before .before .before .before .put-bytes .ensures) (c .before .before .put-bytes2 .ensures)) (omega arith))
+    let f2 = c .before .before in let t = f2 .before .before .before in
+    rw (t .if1 .taken) (put-wide 13 (put-then (t .before .before .before .put-bytes .ensures) (f2 .put-bytes2 .ensures)) (omega arith))
 
 slice-aggregate-put-bytes-2 : tie.Need-slice-aggregate-put-bytes-2
 slice-aggregate-put-bytes-2 c = search needs
@@ -35,18 +36,11 @@ same-length-2 c = search needs
 returns-2 : tie.Need-returns-2
 unfolding bytesOf flagLine
 returns-2 c =
-    rw (c .before .before .before .before .before .if1 .left) (put-wide 13 (put-then (c .before .before .before .before .before .before .before .before .put-bytes .ensures) (c .before .before .put-bytes3 .ensures)) (omega arith))
+    let f3 = c .before .before in let t = f3 .before .before .before in
+    rw (t .if1 .left) (put-wide 13 (put-then (t .before .before .before .put-bytes .ensures) (f3 .put-bytes3 .ensures)) (omega arith))
 
 pub put-flag-line-spec : {M : Type 1} → statement M
 put-flag-line-spec =
     tie.close
-    (tie.spec
-    put-bytes-requires
-    slice-aggregate-put-bytes
-    put-bytes-requires-2
-    same-length
-    returns
-    slice-aggregate-put-bytes-2
-    put-bytes-requires-3
-    same-length-2
-    returns-2)
+    (tie.spec put-bytes-requires slice-aggregate-put-bytes put-bytes-requires-2 same-length returns slice-aggregate-put-bytes-2 put-bytes-requires-3
+    same-length-2 returns-2)

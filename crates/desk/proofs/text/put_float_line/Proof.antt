@@ -7,6 +7,16 @@ use borrow.Author.Needs.{needs}
 use Rattle.desk.proofs.text.put_float_line.Statement.{statement}
 use Rattle.desk.proofs.text.put_float_line.Tie as tie
 
+-- the places that the proof speaks of
+abbrev first : tie.After-bits-of → tie.After-put-bytes
+first c = c .before .before .before .before
+
+abbrev bits : tie.After-slice-known4 → tie.After-bits-of
+bits c = c .before .before .before .before .before .before .before .before
+
+abbrev second : tie.After-slice-known4 → tie.After-put-hex8
+second c = c .before .before .before .before .before .before .before
+
 put-bytes-requires : tie.Need-put-bytes-requires
 put-bytes-requires c κs = search needs
 
@@ -28,16 +38,10 @@ same-length c = search needs
 returns : tie.Need-returns
 unfolding bytesOf floatLine
 returns c =
-    rw (sym (c .before .before .before .before .before .before .before .before .bits-of .ensures)) (put-wide 18 (put-then (put-then (c .before .before .before .before .before .before .before .before .before .before .before .before .put-bytes .ensures) (c .before .before .before .before .before .before .before .put-hex8 .ensures)) (c .before .before .put-bytes2 .ensures)) (omega arith))
+    rw (sym (bits c .bits-of .ensures))
+    (put-wide 18 (put-then (put-then (first (bits c) .put-bytes .ensures) (second c .put-hex8 .ensures)) (c .before .before .put-bytes2 .ensures)) (omega arith))
 
 pub put-float-line-spec : {M : Type 1} → statement M
 put-float-line-spec =
     tie.close
-    (tie.spec
-    put-bytes-requires
-    bits-of-requires
-    put-hex8-requires
-    slice-aggregate-put-bytes
-    put-bytes-requires-2
-    same-length
-    returns)
+    (tie.spec put-bytes-requires bits-of-requires put-hex8-requires slice-aggregate-put-bytes put-bytes-requires-2 same-length returns)

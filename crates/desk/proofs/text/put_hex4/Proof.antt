@@ -5,6 +5,9 @@ use borrow.Author.Needs.{needs}
 use Rattle.desk.proofs.text.put_hex4.Statement.{statement}
 use Rattle.desk.proofs.text.put_hex4.Tie as tie
 
+abbrev first : tie.After-slice-known3 → tie.After-put-hex2
+first c = c .before .before .before .before .before .before
+
 put-hex2-requires : tie.Need-put-hex2-requires
 put-hex2-requires c κs = search needs
 
@@ -16,7 +19,7 @@ same-length c = search needs
 
 returns : tie.Need-returns
 unfolding hex4
-returns c = put-then (c .before .before .before .before .before .before .put-hex2 .ensures) (c .before .before .put-hex22 .ensures)
+returns c = put-then (first c .put-hex2 .ensures) (c .before .before .put-hex22 .ensures)
 
 pub put-hex4-spec : {M : Type 1} → statement M
 put-hex4-spec = tie.close (tie.spec put-hex2-requires put-hex2-requires-2 same-length returns)

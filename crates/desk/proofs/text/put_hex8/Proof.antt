@@ -5,6 +5,9 @@ use borrow.Author.Needs.{needs}
 use Rattle.desk.proofs.text.put_hex8.Statement.{statement}
 use Rattle.desk.proofs.text.put_hex8.Tie as tie
 
+abbrev first : tie.After-slice-known3 → tie.After-put-hex4
+first c = c .before .before .before .before .before .before
+
 put-hex4-requires : tie.Need-put-hex4-requires
 put-hex4-requires c κs = search needs
 
@@ -16,7 +19,7 @@ same-length c = search needs
 
 returns : tie.Need-returns
 unfolding hex8
-returns c = put-then (c .before .before .before .before .before .before .put-hex4 .ensures) (c .before .before .put-hex42 .ensures)
+returns c = put-then (first c .put-hex4 .ensures) (c .before .before .put-hex42 .ensures)
 
 pub put-hex8-spec : {M : Type 1} → statement M
 put-hex8-spec = tie.close (tie.spec put-hex4-requires put-hex4-requires-2 same-length returns)

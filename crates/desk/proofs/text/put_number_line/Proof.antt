@@ -6,6 +6,13 @@ use borrow.Author.Needs.{needs}
 use Rattle.desk.proofs.text.put_number_line.Statement.{statement}
 use Rattle.desk.proofs.text.put_number_line.Tie as tie
 
+-- the places that the proof speaks of
+abbrev first : tie.After-put-digits → tie.After-put-bytes
+first c = c .before .before .before .before
+
+abbrev second : tie.After-put-bytes2 → tie.After-put-digits
+second c = c .before .before .before .before .before
+
 put-bytes-requires : tie.Need-put-bytes-requires
 put-bytes-requires c κs = search needs
 
@@ -24,15 +31,8 @@ same-length c = search needs
 returns : tie.Need-returns
 unfolding bytesOf numberLine
 returns c =
-    put-wide 20 (put-then (put-then (c .before .before .before .before .before .before .before .before .before .before .before .put-bytes .ensures) (c .before .before .before .before .before .before .before .put-digits .ensures)) (c .before .before .put-bytes2 .ensures)) (omega arith)
+    let f3 = c .before .before in let f2 = second f3 in
+    put-wide 20 (put-then (put-then (first f2 .put-bytes .ensures) (f2 .put-digits .ensures)) (f3 .put-bytes2 .ensures)) (omega arith)
 
 pub put-number-line-spec : {M : Type 1} → statement M
-put-number-line-spec =
-    tie.close
-    (tie.spec
-    put-bytes-requires
-    put-digits-requires
-    slice-aggregate-put-bytes
-    put-bytes-requires-2
-    same-length
-    returns)
+put-number-line-spec = tie.close (tie.spec put-bytes-requires put-digits-requires slice-aggregate-put-bytes put-bytes-requires-2 same-length returns)

@@ -6,6 +6,13 @@ use borrow.Author.Needs.{needs}
 use Rattle.desk.proofs.text.put_reach.Statement.{statement}
 use Rattle.desk.proofs.text.put_reach.Tie as tie
 
+-- the places that the proof speaks of
+abbrev first : tie.After-put-number-line → tie.After-put-flag-line
+first c = c .before .before .before .before .before
+
+abbrev second : tie.After-put-flag-line2 → tie.After-put-number-line
+second c = c .before .before .before .before .before
+
 slice-aggregate-put-flag-line : tie.Need-slice-aggregate-put-flag-line
 slice-aggregate-put-flag-line c = search needs
 
@@ -33,18 +40,11 @@ same-length c = search needs
 returns : tie.Need-returns
 unfolding bytesOf reachLines
 returns c =
-    rw (sym (c .before .before .before .before .before .before .before .before .before .before .before .before .before .is-whole .ensures)) (put-then (put-then (c .before .before .before .before .before .before .before .before .before .before .before .before .put-flag-line .ensures) (c .before .before .before .before .before .before .before .put-number-line .ensures)) (c .before .before .put-flag-line2 .ensures))
+    let f3 = c .before .before in let f2 = second f3 in let f1 = first f2 in
+    rw (sym (f1 .before .is-whole .ensures)) (put-then (put-then (f1 .put-flag-line .ensures) (f2 .put-number-line .ensures)) (f3 .put-flag-line2 .ensures))
 
 pub put-reach-spec : {M : Type 1} → statement M
 put-reach-spec =
     tie.close
-    (tie.spec
-    slice-aggregate-put-flag-line
-    is-whole-requires
-    put-flag-line-requires
-    slice-aggregate-put-number-line
-    put-number-line-requires
-    slice-aggregate-put-flag-line-2
-    put-flag-line-requires-2
-    same-length
-    returns)
+    (tie.spec slice-aggregate-put-flag-line is-whole-requires put-flag-line-requires slice-aggregate-put-number-line put-number-line-requires
+    slice-aggregate-put-flag-line-2 put-flag-line-requires-2 same-length returns)

@@ -5,6 +5,9 @@ use borrow.Author.Needs.{needs}
 use Rattle.desk.proofs.text.put_row.Statement.{statement}
 use Rattle.desk.proofs.text.put_row.Tie as tie
 
+abbrev first : tie.After-slice-known3 → tie.After-put-bytes
+first c = c .before .before .before .before .before .before
+
 slice-aggregate-put-bytes : tie.Need-slice-aggregate-put-bytes
 slice-aggregate-put-bytes c = search needs
 
@@ -19,7 +22,7 @@ same-length c = search needs
 
 returns : tie.Need-returns
 unfolding bytesOf rowText
-returns c = put-then (c .before .before .before .before .before .before .put-bytes .ensures) (c .before .before .put-digits .ensures)
+returns c = put-then (first c .put-bytes .ensures) (c .before .before .put-digits .ensures)
 
 pub put-row-spec : {M : Type 1} → statement M
 put-row-spec =

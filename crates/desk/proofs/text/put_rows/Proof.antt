@@ -17,8 +17,12 @@ Inv-loop out₀ at rows i₀ end₀ out i end = Put (11 * i) out₀ out at end (
 abbrev μ-loop : tie.MeasureT-loop
 μ-loop out₀ at rows i₀ end₀ out i end = length rows - i
 
+-- the places that the proof speaks of
+abbrev start : tie.At-loop Inv-loop μ-loop → tie.Start Inv-loop μ-loop
+start c = c .before .before .before
+
 loop-holds : tie.Need-loop-holds Inv-loop μ-loop
-loop-holds c = (no-rows (now (c .before .before .args .out)) (c .before .before .args .at) (now (c .before .before .args .rows)), omega arith)
+loop-holds c = let s = c .before .before in (no-rows (now (s .args .out)) (s .args .at) (now (s .args .rows)), omega arith)
 
 mul-put-row : tie.Need-mul-put-row Inv-loop μ-loop
 mul-put-row c = omega arith
@@ -36,29 +40,20 @@ loop-less : tie.Need-loop-less Inv-loop μ-loop
 loop-less c = omega arith
 
 loop-again : tie.Need-loop-again Inv-loop μ-loop
-loop-again c = (next-row (c .before .before .before .before .before .before .loop .i) (now (c .before .before .before .before .before .before .before .before .before .args .rows)) (c .before .before .before .before .before .loop-test .taken) (c .before .before .before .before .before .before .loop .inv .0) (c .before .before .put-row .ensures), omega arith)
+loop-again c =
+    let p = c .before .before in let i = p .before .before .before in let l = i .before in
+    (next-row (l .loop .i) (now (start l .args .rows)) (i .loop-test .taken) (l .loop .inv .0) (p .put-row .ensures), omega arith)
 
 same-length : tie.Need-same-length Inv-loop μ-loop
 same-length c = c .before .loop .inv .0 .kept
 
 returns : tie.Need-returns Inv-loop μ-loop
 returns c =
-    let s = c .before .before .before .before in
-    let whole = take-all (c .before .loop .i) (now (s .args .rows)) (c .loop-test .left) in
-    rw (sym whole) (put-wide 176 (c .before .loop .inv .0) (omega arith))
+    let l = c .before in let s = start l in
+    let whole = take-all (l .loop .i) (now (s .args .rows)) (c .loop-test .left) in
+    rw (sym whole) (put-wide 176 (l .loop .inv .0) (omega arith))
 
 pub put-rows-spec : {M : Type 1} → statement M
 put-rows-spec =
     tie.close
-    (tie.spec
-    Inv-loop
-    μ-loop
-    loop-holds
-    mul-put-row
-    shared-slice-read-put-row
-    put-row-requires
-    add-i
-    loop-less
-    loop-again
-    same-length
-    returns)
+    (tie.spec Inv-loop μ-loop loop-holds mul-put-row shared-slice-read-put-row put-row-requires add-i loop-less loop-again same-length returns)

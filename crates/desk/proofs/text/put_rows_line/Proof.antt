@@ -5,6 +5,13 @@ use borrow.Author.Needs.{needs}
 use Rattle.desk.proofs.text.put_rows_line.Statement.{statement}
 use Rattle.desk.proofs.text.put_rows_line.Tie as tie
 
+-- the places that the proof speaks of
+abbrev first : tie.After-put-rows → tie.After-put-bytes
+first c = c .before .before .before .before
+
+abbrev second : tie.After-put-bytes2 → tie.After-put-rows
+second c = c .before .before .before .before .before
+
 slice-aggregate-put-bytes : tie.Need-slice-aggregate-put-bytes
 slice-aggregate-put-bytes c = search needs
 
@@ -25,16 +32,11 @@ same-length c = search needs
 
 returns : tie.Need-returns
 unfolding bytesOf rowsLine
-returns c = put-then (put-then (c .before .before .before .before .before .before .before .before .before .before .before .put-bytes .ensures) (c .before .before .before .before .before .before .before .put-rows .ensures)) (c .before .before .put-bytes2 .ensures)
+returns c =
+    let f3 = c .before .before in let f2 = second f3 in
+    put-then (put-then (first f2 .put-bytes .ensures) (f2 .put-rows .ensures)) (f3 .put-bytes2 .ensures)
 
 pub put-rows-line-spec : {M : Type 1} → statement M
 put-rows-line-spec =
     tie.close
-    (tie.spec
-    slice-aggregate-put-bytes
-    put-bytes-requires
-    put-rows-requires
-    slice-aggregate-put-bytes-2
-    put-bytes-requires-2
-    same-length
-    returns)
+    (tie.spec slice-aggregate-put-bytes put-bytes-requires put-rows-requires slice-aggregate-put-bytes-2 put-bytes-requires-2 same-length returns)

@@ -5,6 +5,13 @@ use borrow.Author.Needs.{needs}
 use Rattle.desk.proofs.text.put_similarities.Statement.{statement}
 use Rattle.desk.proofs.text.put_similarities.Tie as tie
 
+-- the places that the proof speaks of
+abbrev first : tie.After-put-float-line2 → tie.After-put-float-line
+first c = c .before .before .before .before .before
+
+abbrev second : tie.After-put-float-line3 → tie.After-put-float-line2
+second c = c .before .before .before .before .before
+
 slice-aggregate-put-float-line : tie.Need-slice-aggregate-put-float-line
 slice-aggregate-put-float-line c = search needs
 
@@ -28,17 +35,12 @@ same-length c = search needs
 
 returns : tie.Need-returns
 unfolding bytesOf similarityLines
-returns c = put-then (put-then (c .before .before .before .before .before .before .before .before .before .before .before .before .put-float-line .ensures) (c .before .before .before .before .before .before .before .put-float-line2 .ensures)) (c .before .before .put-float-line3 .ensures)
+returns c =
+    let f3 = c .before .before in let f2 = second f3 in
+    put-then (put-then (first f2 .put-float-line .ensures) (f2 .put-float-line2 .ensures)) (f3 .put-float-line3 .ensures)
 
 pub put-similarities-spec : {M : Type 1} → statement M
 put-similarities-spec =
     tie.close
-    (tie.spec
-    slice-aggregate-put-float-line
-    put-float-line-requires
-    slice-aggregate-put-float-line-2
-    put-float-line-requires-2
-    slice-aggregate-put-float-line-3
-    put-float-line-requires-3
-    same-length
-    returns)
+    (tie.spec slice-aggregate-put-float-line put-float-line-requires slice-aggregate-put-float-line-2 put-float-line-requires-2
+    slice-aggregate-put-float-line-3 put-float-line-requires-3 same-length returns)

@@ -29,6 +29,9 @@ inside c = c .before .before .before .before .before .before .before .before
 abbrev filled : tie.After-body-len Inv-loop μ-loop → tie.After-fill-variant Inv-loop μ-loop
 filled c = c .before .before .before .before .before .before .before .before .before .before
 
+abbrev held : tie.At-loop Inv-loop μ-loop → Rows
+held l = rows (l .loop .starts) (l .loop .ends) (l .loop .sizes) (l .loop .negatives) (l .loop .counts)
+
 loop-holds : tie.Need-loop-holds Inv-loop μ-loop
 loop-holds c = (refl, zero-le)
 
@@ -67,16 +70,13 @@ loop-less c = omega (arith, inside (filled c) .loop-test .taken)
 loop-again : tie.Need-loop-again Inv-loop μ-loop
 loop-again c =
     let f = filled c in let i = inside f in let l = i .before in (
-      put-more putRow variantHere (now (start l .args .s)) (l .loop .at) (i .loop-test .taken) _ _ _ _ _ (c .body-len .ensures) (f .fill-variant .ensures .is)
+      put-more putRow variantHere (now (start l .args .s)) (l .loop .at) (i .loop-test .taken) (held l) _ _ _ _ (c .body-len .ensures) (f .fill-variant .ensures .is)
           (f .fill-variant .ensures .next) ∙ l .loop .inv .0,
       omega (arith, f .fill-variant .ensures .one, l .loop .inv .1),
     )
 
 abbrev lent : tie.Start Inv-loop μ-loop → Rows
 lent s = rows (now (s .args .starts)) (now (s .args .ends)) (now (s .args .sizes)) (now (s .args .negatives)) (now (s .args .counts))
-
-abbrev held : tie.At-loop Inv-loop μ-loop → Rows
-held l = rows (l .loop .starts) (l .loop .ends) (l .loop .sizes) (l .loop .negatives) (l .loop .counts)
 
 done : (c : tie.After-loop Inv-loop μ-loop) → held (c .before) ≡ stores putRow (lent (start (c .before))) 0 (gather variantHere (now (start (c .before) .args .s)) 0)
 done c = let l = c .before in sym (put-done putRow variantHere _ (l .loop .at) (held l) (l .loop .v) (c .loop-test .left)) ∙ l .loop .inv .0

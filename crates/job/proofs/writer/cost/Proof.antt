@@ -25,7 +25,9 @@ add-result-3 : tie.Need-add-result-3
 add-result-3 c = omega (arith, short-body (c .before .before .args .kind), c .body-len .ensures)
 
 returns-2 : tie.Need-returns-2
-returns-2 c = (cost-bytes (c .before .before .args .kind) (c .before .before .args .count) _ (c .before .if1 .left) (c .body-len .ensures), omega (arith, short-body (c .before .before .args .kind), c .body-len .ensures))
+returns-2 c =
+    let a = c .before .before .args in
+    (cost-bytes (a .kind) (a .count) _ (c .before .if1 .left) (c .body-len .ensures), omega (arith, short-body (a .kind), c .body-len .ensures))
 
 pub cost-spec : {M : Type 1} → statement M
 cost-spec =

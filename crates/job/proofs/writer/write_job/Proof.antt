@@ -7,7 +7,7 @@ use borrow.Author.Tests.{not-true, not-false}
 use Rattle.job.specs.Reading.{Lent, lent}
 use Rattle.job.specs.Writing.{anyOver, agree}
 use Rattle.job.specs.Steps.{JobFits}
-use Rattle.job.proofs.JobLaws.{write-rows, write-parts, write-letters, all-agree, write-over, write-part-over, write-short, write-fits, wrote}
+use Rattle.job.proofs.JobLaws.{rowsAgree, partsAgree, write-rows, write-parts, write-letters, all-agree, write-over, write-part-over, write-short, write-fits, wrote}
 use borrow.Author.Needs.{needs}
 use Rattle.job.proofs.writer.write_job.Statement.{statement}
 use Rattle.job.proofs.writer.write_job.Tie as tie
@@ -17,16 +17,26 @@ slices s =
     lent (now (s .args .starts)) (now (s .args .ends)) (now (s .args .sizes)) (now (s .args .negatives)) (now (s .args .letter-counts))
     (now (s .args .part-sizes)) (now (s .args .part-negatives)) (now (s .args .part-letter-counts)) (now (s .args .letters))
 
--- all slices agree
+-- rows, parts and letters agree
+abbrev start1 : tie.Else1 → tie.Start
+start1 c = c .before .before .before .before .before .before .before .before .before .before
+
+rows-agreed : (c : tie.Else1) → rowsAgree (slices (start1 c)) ≡ true
+rows-agreed c = sym (c .before .rows-agree .ensures) ∙ not-false _ (c .if1 .left)
+
+abbrev start2 : tie.Else2 → tie.Start
+start2 c = start1 (c .before .before)
+
+parts-agreed : (c : tie.Else2) → partsAgree (slices (start2 c)) ≡ true
+parts-agreed c = sym (c .before .parts-agree .ensures) ∙ not-false _ (c .if2 .left)
+
 abbrev start : tie.Else3 → tie.Start
-start c = c .before .before .before .before .before .before .before .before .before .before .before .before .before .before
+start c = start2 (c .before .before)
 
 agreeing : (c : tie.Else3) → agree (slices (start c)) ≡ true
 agreeing c =
     let p = c .before .before in
-    let r = p .before .before in
-    all-agree (slices (start c)) (sym (r .before .rows-agree .ensures) ∙ not-false _ (r .if1 .left)) (sym (p .before .parts-agree .ensures) ∙ not-false _ (p .if2 .left))
-    (sym (c .before .letters-agree .ensures) ∙ not-false _ (c .if3 .left))
+    all-agree (slices (start c)) (rows-agreed (p .before .before)) (parts-agreed p) (sym (c .before .letters-agree .ensures) ∙ not-false _ (c .if3 .left))
 
 -- no sequence is too long
 abbrev agreed : tie.Else5 → tie.Else3
@@ -58,9 +68,7 @@ parts-agree-requires : tie.Need-parts-agree-requires
 parts-agree-requires c κs = search needs
 
 returns-2 : tie.Need-returns-2
-returns-2 c =
-    let r = c .before .before in
-    write-parts _ _ _ (sym (r .before .rows-agree .ensures) ∙ not-false _ (r .if1 .left)) (sym (c .before .parts-agree .ensures) ∙ not-true _ (c .if2 .taken))
+returns-2 c = write-parts _ _ _ (rows-agreed (c .before .before)) (sym (c .before .parts-agree .ensures) ∙ not-true _ (c .if2 .taken))
 
 letters-agree-requires : tie.Need-letters-agree-requires
 letters-agree-requires c κs = search needs
@@ -68,9 +76,7 @@ letters-agree-requires c κs = search needs
 returns-3 : tie.Need-returns-3
 returns-3 c =
     let p = c .before .before in
-    let r = p .before .before in
-    write-letters _ _ _ (sym (r .before .rows-agree .ensures) ∙ not-false _ (r .if1 .left)) (sym (p .before .parts-agree .ensures) ∙ not-false _ (p .if2 .left))
-    (sym (c .before .letters-agree .ensures) ∙ not-true _ (c .if3 .taken))
+    write-letters _ _ _ (rows-agreed (p .before .before)) (parts-agreed p) (sym (c .before .letters-agree .ensures) ∙ not-true _ (c .if3 .taken))
 
 any-over-requires : tie.Need-any-over-requires
 any-over-requires c κs = search needs
@@ -112,7 +118,7 @@ returns-7 c =
     let w = c .before .before in
     let r = w .before .before .before in
     let l = checked r in
-    wrote _ _ _ (agreeing (agreed l)) (few l) (part-few l) (fits r) (w .lay-job .ensures)
+    wrote _ _ (now (begin r .args .out)) (agreeing (agreed l)) (few l) (part-few l) (fits r) (w .lay-job .ensures)
 
 pub write-job-spec : {M : Type 1} → statement M
 write-job-spec =
