@@ -20,7 +20,7 @@ use Rattle.kplib.specs.declared.pathscore.Target.{Target}
 use Rattle.kplib.specs.declared.pathscore.Target.the-variants.{Nothing, Whole, Partial}
 use Rattle.kplib.specs.declared.onetoone.Lone.{Lone}
 use Rattle.kplib.specs.declared.traverse.Answer.{Answer}
-use Rattle.kplib.specs.declared.traverse.Progress.{Progress}
+use Rattle.kplib.specs.declared.steps.Progress.{Progress}
 use Rattle.params.proofs.CheckedLaws.{accepted, queue-suffices}
 use Rattle.kplib.proofs.ExtensionLaws.{reverse-length}
 

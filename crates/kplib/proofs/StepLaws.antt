@@ -29,9 +29,9 @@ use Rattle.kplib.specs.Search.{distanceTo, haplotypeSize, resultWith, st
 use Rattle.kplib.specs.SearchSteps.{laterOf, advanced, endAt, Extending, Weighable, WeighedAs, Searchable, Startable, Going, Gone}
 use Rattle.params.specs.declared.Settings.{Settings}
 use Rattle.kplib.specs.declared.pathscore.Scored.{Scored}
-use Rattle.kplib.specs.declared.traverse.Leader.{Leader}
-use Rattle.kplib.specs.declared.traverse.Weighed.{Weighed}
-use Rattle.kplib.specs.declared.traverse.Progress.{Progress}
+use Rattle.kplib.specs.declared.steps.Leader.{Leader}
+use Rattle.kplib.specs.declared.steps.Weighed.{Weighed}
+use Rattle.kplib.specs.declared.steps.Progress.{Progress}
 use Rattle.kplib.proofs.WordLaws.{back}
 use Rattle.kplib.proofs.CodeLaws.{positions-length}
 use Rattle.kplib.proofs.SizeSumLaws.{size-le}

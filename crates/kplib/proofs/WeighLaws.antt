@@ -14,7 +14,7 @@ use Rattle.kplib.specs.Scoring.{chainTotal, Scorable}
 use Rattle.kplib.specs.Answer.{placed}
 use Rattle.kplib.specs.SearchSteps.{Rowed, Weighable, WeighedAs}
 use Rattle.params.specs.declared.Settings.{Settings}
-use Rattle.kplib.specs.declared.traverse.Weighed.{Weighed}
+use Rattle.kplib.specs.declared.steps.Weighed.{Weighed}
 use Rattle.kplib.proofs.SizeSumLaws.{size-le}
 use Rattle.kplib.proofs.RowSumLaws.{summable}
 

@@ -4,8 +4,8 @@ use native.Mathlib.Omega.{arith}
 use Rattle.metrics.proofs.Ints.{read-back}
 use Rattle.kplib.proofs.WeighLaws.{cut, rowed-as, scorable-as, weighed-as}
 use borrow.Author.Needs.{needs}
-use Rattle.kplib.proofs.traverse.weigh.Statement.{statement}
-use Rattle.kplib.proofs.traverse.weigh.Tie as tie
+use Rattle.kplib.proofs.steps.weigh.Statement.{statement}
+use Rattle.kplib.proofs.steps.weigh.Tie as tie
 
 slice-aggregate-read-chain : tie.Need-slice-aggregate-read-chain
 slice-aggregate-read-chain c = search needs

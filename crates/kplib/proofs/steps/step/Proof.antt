@@ -3,8 +3,8 @@ use mathlib.Core.Path.{refl, _∙_}
 use native.Mathlib.Omega.{arith}
 use Rattle.kplib.proofs.StepLaws.{counts-small, weighable, end-asks, entry-in, extending, gone-on}
 use borrow.Author.Needs.{needs}
-use Rattle.kplib.proofs.traverse.step.Statement.{statement}
-use Rattle.kplib.proofs.traverse.step.Tie as tie
+use Rattle.kplib.proofs.steps.step.Statement.{statement}
+use Rattle.kplib.proofs.steps.step.Tie as tie
 
 take-next-requires : tie.Need-take-next-requires
 take-next-requires c κs = search needs

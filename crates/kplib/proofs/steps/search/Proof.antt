@@ -7,8 +7,8 @@ use lib.Seq.{length-take-le}
 use denote.Ref.{now}
 use Rattle.kplib.proofs.StepLaws.{haplotype-small, size-passes, searchable-first, going-first}
 use borrow.Author.Needs.{needs}
-use Rattle.kplib.proofs.traverse.search.Statement.{statement}
-use Rattle.kplib.proofs.traverse.search.Tie as tie
+use Rattle.kplib.proofs.steps.search.Statement.{statement}
+use Rattle.kplib.proofs.steps.search.Tie as tie
 
 entries-requires : tie.Need-entries-requires
 entries-requires c κs = c .before .before .before .before .before .pre .checked .k-high

@@ -1,10 +1,10 @@
 -- The best is the later of two.
 use mathlib.Core.Path.{ap}
 use Prim.Native.Nat.{_+_, _-_}
-use Rattle.kplib.specs.declared.traverse.Leader.{Leader}
+use Rattle.kplib.specs.declared.steps.Leader.{Leader}
 use borrow.Author.Needs.{needs}
-use Rattle.kplib.proofs.traverse.advance.Statement.{statement}
-use Rattle.kplib.proofs.traverse.advance.Tie as tie
+use Rattle.kplib.proofs.steps.advance.Statement.{statement}
+use Rattle.kplib.proofs.steps.advance.Tie as tie
 
 later-of-requires : tie.Need-later-of-requires
 later-of-requires c κs = search needs

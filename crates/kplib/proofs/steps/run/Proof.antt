@@ -6,8 +6,8 @@ use lib.ListN.{length}
 use Rattle.params.specs.Numbers.{tableOf, partsOf}
 use Rattle.kplib.specs.SearchSteps.{Going}
 use Rattle.kplib.proofs.StepLaws.{searchable-keep, searchable-pass, gone-empty, gone-steps, pos-of, lt-of-ne, less-left}
-use Rattle.kplib.proofs.traverse.run.Statement.{statement}
-use Rattle.kplib.proofs.traverse.run.Tie as tie
+use Rattle.kplib.proofs.steps.run.Statement.{statement}
+use Rattle.kplib.proofs.steps.run.Tie as tie
 
 abbrev Inv-loop : tie.InvT-loop
 Inv-loop s starts ends sizes features part-sizes part-features codes list-sizes count target parents₀ lasts₀ keys₀ chain-row₀ list-row₀ steps at₀ parents lasts keys chain-row list-row at =
