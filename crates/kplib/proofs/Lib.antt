@@ -1,5 +1,7 @@
 -- What the proofs of several functions use.
 pub mod GraphLaws
+pub mod TogetherLaws
+pub mod LinkLaws
 mod CappedLaws
 pub mod WordLaws
 pub mod SimilarityLaws
