@@ -10,6 +10,7 @@ pub mod RowSumLaws
 pub mod SizeSumLaws
 pub mod PartLaws
 pub mod CodeLaws
+mod CodedLaws
 pub mod VerdictLaws
 pub mod OneToOneLaws
 pub mod LayLaws

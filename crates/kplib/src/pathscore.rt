@@ -1,7 +1,7 @@
 // The score of a chain against the part lists of a haplotype (pathscore.rs).
 ghost use mathlib.Core.Path.{_≡_};
 ghost use mathlib.Core.Bool.{_&&_};
-ghost use Prim.Native.Nat.{_^_, _≤_};
+ghost use Prim.Native.Nat.{_≤_};
 ghost use lib.Dec.{eqb};
 ghost use lib.IntN.{natAbs};
 ghost use lib.ListN.{length};
