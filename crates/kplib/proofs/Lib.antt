@@ -22,6 +22,7 @@ mod ScanLaws
 mod ExtensionLaws
 mod WeighLaws
 mod StepLaws
+mod SearchedLaws
 mod PlaceLaws
 pub mod FoundLaws
 mod CountedLaws
