@@ -1,60 +1,57 @@
--- From entry to parent: the rows still to come stand before those written.
-use mathlib.Core.Path.{_≡_, refl}
-use native.Mathlib.Omega.{arith}
-use lib.ListN.{length, length-set}
-use denote.Ref.{now}
-use Rattle.paths.proofs.TableLaws.{Reading, read-begin, read-room, read-on, read-done}
 use Rattle.kplib.proofs.queue.read_chain.Statement.{statement}
 use Rattle.kplib.proofs.queue.read_chain.Tie as tie
+use Rattle.kplib.proofs.queue.read_chain.Reads as reads
+use Rattle.kplib.proofs.queue.read_chain.Lts as lts
 
 abbrev Inv-loop : tie.InvT-loop
-Inv-loop parents lasts entry chain₀ at₀ i₀ chain at i = (length chain ≡ length chain₀) × Reading parents lasts entry chain at i
+Inv-loop links entry chain₀ at₀ i₀ chain at i = ?
 
 abbrev μ-loop : tie.MeasureT-loop
-μ-loop parents lasts entry chain₀ at₀ i₀ chain at i = i
+μ-loop links entry chain₀ at₀ i₀ chain at i = ?
 
+-- src/queue.rt:98:5
 loop-holds : tie.Need-loop-holds Inv-loop μ-loop
-loop-holds c = (refl, read-begin (now (c .args .parents)) (now (c .args .lasts)) (c .args .entry) (now (c .args .chain)) (c .pre .fits))
+loop-holds c = ?
 
+-- src/queue.rt:99:20
+mul-link : tie.Need-mul-link Inv-loop μ-loop
+mul-link c = ?
+
+-- src/queue.rt:99:20
+shared-slice-read-link : tie.Need-shared-slice-read-link Inv-loop μ-loop
+shared-slice-read-link c = ?
+
+-- src/queue.rt:100:9
 sub-at : tie.Need-sub-at Inv-loop μ-loop
-sub-at c = read-room (c .before .loop .inv .1) (c .before .before .pre .links) (omega arith)
+sub-at c = ?
 
+-- src/queue.rt:101:9
 mul-chain : tie.Need-mul-chain Inv-loop μ-loop
-mul-chain c = omega arith
+mul-chain c = ?
 
-shared-slice-read-chain : tie.Need-shared-slice-read-chain Inv-loop μ-loop
-shared-slice-read-chain c = omega arith
-
-mul-chain-2 : tie.Need-mul-chain-2 Inv-loop μ-loop
-mul-chain-2 c = omega arith
-
+-- src/queue.rt:101:9
 slice-write-chain : tie.Need-slice-write-chain Inv-loop μ-loop
-slice-write-chain c =
-    let l = c .before .before .loop in
-    omega (arith, read-room (l .inv .1) (c .before .before .before .pre .links) (omega arith), l .inv .1 .inside)
+slice-write-chain c = ?
 
-mul-i : tie.Need-mul-i Inv-loop μ-loop
-mul-i c = omega arith
-
-shared-slice-read-i : tie.Need-shared-slice-read-i Inv-loop μ-loop
-shared-slice-read-i c = omega arith
-
+-- src/queue.rt:102:13
 cast-i : tie.Need-cast-i Inv-loop μ-loop
-cast-i c = record { fits = omega (arith, c .shared-slice-known2 .given (c .before .before .before .loop .i)) }
+cast-i c = ?
 
+-- src/queue.rt:98:5
 loop-less : tie.Need-loop-less Inv-loop μ-loop
-loop-less c = c .before .before .before .before .pre .links _ (omega arith) (omega arith)
+loop-less c = ?
 
+-- src/queue.rt:98:5
 loop-again : tie.Need-loop-again Inv-loop μ-loop
-loop-again c =
-    let l = c .before .before .before .loop in
-    (simp length-set (l .inv .0), read-on (l .inv .1) (c .before .before .before .before .pre .links) (omega arith))
+loop-again c = ?
 
+-- src/queue.rt:92:1
 same-length : tie.Need-same-length Inv-loop μ-loop
-same-length c = omega arith
+same-length c = ?
 
+-- src/queue.rt:92:1
 returns : tie.Need-returns Inv-loop μ-loop
-returns c = (c .before .loop .inv .1 .inside, read-done (c .before .loop .inv .1) (omega arith))
+returns c = ?
 
 pub read-chain-spec : {M : Type 1} → statement M
 read-chain-spec =
@@ -63,13 +60,11 @@ read-chain-spec =
     Inv-loop
     μ-loop
     loop-holds
+    mul-link
+    shared-slice-read-link
     sub-at
     mul-chain
-    shared-slice-read-chain
-    mul-chain-2
     slice-write-chain
-    mul-i
-    shared-slice-read-i
     cast-i
     loop-less
     loop-again
