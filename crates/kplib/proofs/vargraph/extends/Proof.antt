@@ -1,49 +1,53 @@
+-- One law of `extendsAt` for each way out: a bare graph, the source, a row that is not later, a flag. Assumes nothing.
+use borrow.Author.Tests.{not-true, not-false}
+use mathlib.Core.Path.{sym}
+use native.Mathlib.Omega.{arith}
+use Rattle.kplib.proofs.GraphLaws.{at-bare, at-source, at-early, at-later}
 use borrow.Author.Needs.{needs}
 use Rattle.kplib.proofs.vargraph.extends.Statement.{statement}
 use Rattle.kplib.proofs.vargraph.extends.Tie as tie
-use Rattle.kplib.proofs.vargraph.extends.Reads as reads
-use Rattle.kplib.proofs.vargraph.extends.Lts as lts
-use Rattle.kplib.proofs.vargraph.row_of.Reads as row-of-reads
 
--- src/vargraph.rt:66:9
+-- the places: the chain's last row is known, and the graph is full and the chain not empty
+abbrev known : tie.After-result → tie.After-row-of
+known c = c .before .before .before .before .before .before
+
+abbrev longer : tie.After-row-of → tie.Else2
+longer c = c .before
+
+abbrev full : tie.Else2 → tie.Else1
+full c = c .before .before
+
 returns : tie.Need-returns
-returns c = ?
+returns c = sym (at-bare _ _ _ _ (not-true _ (c .if1 .taken)))
 
--- src/vargraph.rt:69:9
 returns-2 : tie.Need-returns-2
-returns-2 c = ?
+returns-2 c = sym (at-source _ _ _ _ (not-false _ (c .before .before .if1 .left)) (c .if2 .taken))
 
--- src/vargraph.rt:71:9
 row-of-requires : tie.Need-row-of-requires
 row-of-requires c κs = search needs
 
--- src/vargraph.rt:73:9
 returns-3 : tie.Need-returns-3
-returns-3 c = ?
+returns-3 c = sym (at-early _ _ _ _ (longer (c .before .before .before) .if2 .left) (omega arith))
 
--- src/vargraph.rt:75:20
 cast-result : tie.Need-cast-result
 cast-result c = search needs
 
--- src/vargraph.rt:75:14
 mul-result : tie.Need-mul-result
 mul-result c = search needs
 
--- src/vargraph.rt:75:40
 cast-result-2 : tie.Need-cast-result-2
 cast-result-2 c = search needs
 
--- src/vargraph.rt:75:14
 add-result : tie.Need-add-result
 add-result c = search needs
 
--- src/vargraph.rt:75:5
 element-copy-out-result : tie.Need-element-copy-out-result
 element-copy-out-result c = search needs
 
--- src/vargraph.rt:61:1
 returns-4 : tie.Need-returns-4
-returns-4 c = ?
+returns-4 c =
+    let k = known c in
+    rw (k .row-of .ensures) (sym (at-later _ _ _ _ (not-false _ (full (longer k) .if1 .left)) (longer k .if2 .left) (omega arith)))
 
 pub extends-spec : {M : Type 1} → statement M
 extends-spec =
