@@ -11,6 +11,8 @@ use lib.ListN.{length, getD, set, take}
 use lib.Seq.{length-take-le}
 use lib.Ieee.{le}
 use borrow.Author.Tests.{eq-eqb, ne-eqb}
+use mir.Syntax.{w32}
+use mir.Val.{toZ, ofZ}
 use Rattle.paths.specs.Chains.{isChain}
 use Rattle.paths.specs.Queue.{keyOf, Walk, Taken, Queued, Ended}
 use Rattle.paths.proofs.QueueLaws.{chain-parts, chain-end, chain-length}
@@ -23,6 +25,8 @@ use Rattle.kplib.specs.SearchSteps.{laterOf, advanced, notBegun, endAt, 
 use Rattle.kplib.specs.declared.steps.Leader.{Leader}
 use Rattle.kplib.specs.declared.steps.Weighed.{Weighed}
 use Rattle.kplib.specs.declared.steps.Progress.{Progress}
+use Rattle.kplib.proofs.WordLaws.{back}
+use Rattle.kplib.proofs.SizeSumLaws.{size-le}
 use Rattle.kplib.proofs.LinkLaws.{parents-length, lasts-length}
 use Rattle.kplib.proofs.ExtensionLaws.{reverse-length, end-at}
 
@@ -102,9 +106,12 @@ module _ {q : Told} {room : ℕ} {links keys : List ℕ} {at : Progress} (h : Se
     after : at .used + length (q .sizes) ≤ 1 + (q .plan .s .maxpaths + 1) * length (q .sizes)
     after = omega (arith, g .run .room, mul-le-mul-right (length (q .sizes)) less)
 
-    pub extending : {end : ℕ} {size : ℤ} → end ≡ endAt e (getD (lastsOf links) e 0) → size ≡ sizeOf (q .sizes) (reverse (chainOf links e))
-        → Extending (q .plan) (q .together) (q .sizes) links keys' (at .used) (at .queued - 1) e end size
-    extending he hs = record {
+    size-back : {size : ℤ} → size ≡ sizeOf (q .sizes) (reverse (chainOf links e)) → toZ w32 (ofZ w32 size) ≡ size
+    size-back {size} hs = back size (omega (arith, ap natAbs hs, size-le (q .sizes) (reverse (chainOf links e)) (h .sized) (omega (arith, reverse-length (chainOf links e), short e entry-in, few))))
+
+    pub extending : {end : ℕ} (size : ℤ) → end ≡ endAt e (getD (lastsOf links) e 0) → size ≡ sizeOf (q .sizes) (reverse (chainOf links e))
+        → Extending (q .plan) (q .together) (q .sizes) links keys' (at .used) (at .queued - 1) e end (toZ w32 (ofZ w32 size))
+    extending size he hs = record {
       link-room = omega (arith, h .link-room, after);
       key-room = omega (arith, h .key-room, after, key-count);
       few-entries = omega (arith, after, all-few);
@@ -112,7 +119,7 @@ module _ {q : Told} {room : ℕ} {links keys : List ℕ} {at : Progress} (h : Se
       target-small = h .target-small;
       entry-in = entry-in;
       end-is = he ∙ end-at (parentsOf links) (lastsOf links) e (λ i p z. g .run .queue .links i p (omega (arith, entry-in)));
-      size-is = hs;
+      size-is = size-back hs ∙ hs;
       queue = taken-queue (g .run) (g .queued-in) k;
     }
 

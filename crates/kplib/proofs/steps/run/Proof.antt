@@ -92,7 +92,7 @@ loop-less c =
 loop-again : tie.Need-loop-again Inv-loop μ-loop
 loop-again c =
     let v = at-steps (going (stepped c .before) .before) .loop .inv in
-    let k = stepped c .step .kept .1 .1 .1 .1 .1 .1 in
+    let k = stepped c .step .kept .1 .1 .1 .1 .1 .1 .1 in
     (v .0, k .0 ∙ v .1, k .1 .0 ∙ v .2, k .1 .1 .0 ∙ v .3, stepped c .step .ensures .0)
 
 pub run-spec : {M : Type 1} → statement M

@@ -52,7 +52,7 @@ queue-extensions-requires c κs =
     let w = weighed (ended c .before) in
     let k = taken (w .before) in
     let b = begin k .pre in
-    extending (b .0) (b .1 .2) (k .take-next .kept .0) (b .1 .0) (b .1 .1) (k .take-next .ensures) (ended c .end-node .ensures) (w .weigh .ensures .size-is)
+    extending (b .0) (b .1 .2) (k .take-next .kept .0) (b .1 .0) (b .1 .1) (k .take-next .ensures) _ (ended c .end-node .ensures) (w .weigh .ensures .size-is)
 
 advance-requires : tie.Need-advance-requires
 advance-requires c κs =
