@@ -11,7 +11,7 @@ use borrow.Author.Tests.{le-leb, lt-leb}
 use Rattle.paths.specs.Chains.{firstAfter, extends, chainsFrom}
 use Rattle.paths.specs.Count.{mayFollow}
 use Rattle.paths.proofs.CountLaws.{doc-full, doc-bare}
-use Rattle.kplib.specs.Graph.{edge, mayFollowIn, extendsIn, chainsOf}
+use Rattle.kplib.specs.Graph.{edge, mayFollowIn, chainsOf}
 use Rattle.kplib.specs.GraphWalk.{extendsAt}
 
 pub and-false : (b : Bool) → (b && false) ≡ false

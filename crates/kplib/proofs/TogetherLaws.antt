@@ -37,18 +37,21 @@ module _ (joins : ℕ → ℕ → Bool) (r : ℕ) (t : List Bool) where
   }
 
 -- the flags of the rows before r are laid
-abbrev pub LaidBefore : (ℕ → ℕ → Bool) → ℕ → ℕ → List Bool → Type 0
-LaidBefore joins v r t = (i : ℕ) → i < r → (s : ℕ) → i < s → s < v → flagOf t i s ≡ joins i s
+pub record LaidBefore (joins : ℕ → ℕ → Bool) (v r : ℕ) (t : List Bool) : Type 0 where
+  pub flags : (i : ℕ) → i < r → (s : ℕ) → i < s → s < v → flagOf t i s ≡ joins i s
 
 pub pairs-begin : (joins : ℕ → ℕ → Bool) (v : ℕ) (t : List Bool) → LaidBefore joins v 0 t
-pairs-begin joins v t i l = absurd (omega arith)
+pairs-begin joins v t = record { flags = λ i l s q m. absurd (omega arith) }
 
--- one row more: what is laid stands before it
-pub pairs-on : (joins : ℕ → ℕ → Bool) (v r : ℕ) (t u : List Bool) → v ≤ 64 → LaidBefore joins v r t → RowLaid joins v r t u → LaidBefore joins v (r + 1) u
-pairs-on joins v r t u few h k = below-more (λ i. (s : ℕ) → i < s → s < v → flagOf u i s ≡ joins i s) r (λ i l s q m. k .kept (64 * i + s) (omega arith) ∙ h i l s q m) (λ s q m. k .laid s q m)
+module _ {joins : ℕ → ℕ → Bool} {v r : ℕ} {t : List Bool} (h : LaidBefore joins v r t) where
+  -- one row more: what is laid stands before it
+  pub pairs-on : {u : List Bool} → v ≤ 64 → RowLaid joins v r t u → LaidBefore joins v (r + 1) u
+  pairs-on {u} few k = record {
+    flags = below-more (λ i. (s : ℕ) → i < s → s < v → flagOf u i s ≡ joins i s) r (λ i l s q m. k .kept (64 * i + s) (omega arith) ∙ h .flags i l s q m) (λ s q m. k .laid s q m);
+  }
 
-pub pairs-done : (joins : ℕ → ℕ → Bool) (v : ℕ) (t : List Bool) → LaidBefore joins v v t → Together joins v t
-pairs-done joins v t h i s q l = h i (omega arith) s q l
+  pub pairs-done : v ≤ r → Together joins v t
+  pairs-done e i s q l = h .flags i (omega arith) s q l
 
 -- ---- what they give
 -- two edges that agree on the pairs of the rows extend any chain alike

@@ -1,38 +1,48 @@
+-- Row by row: the flags of the rows passed are laid. Assumes nothing.
+use mathlib.Core.Path.{_≡_, _∙_}
+use mathlib.Core.Bool.{false}
+use Prim.Native.Nat.{_-_, _≤_}
+use native.Mathlib.Omega.{arith}
+use lib.ListN.{length, length-replicate}
+use borrow.Author.Needs.{needs}
+use Rattle.kplib.specs.Graph.{edge}
+use Rattle.kplib.proofs.TogetherLaws.{LaidBefore, pairs-begin, pairs-on, pairs-done}
 use Rattle.kplib.proofs.vargraph.pairs_together.Statement.{statement}
 use Rattle.kplib.proofs.vargraph.pairs_together.Tie as tie
-use Rattle.kplib.proofs.vargraph.pairs_together.Reads as reads
-use Rattle.kplib.proofs.vargraph.pairs_together.Lts as lts
-use Rattle.kplib.proofs.vargraph.lay_row.Reads as lay-row-reads
 
 abbrev Inv-loop : tie.InvT-loop
-Inv-loop starts ends together₀ r₀ together r = ?
+Inv-loop starts ends together₀ r₀ together r = (length together ≡ 4096) × (r ≤ length starts) × LaidBefore (edge starts ends) (length starts) r together
 
 abbrev μ-loop : tie.MeasureT-loop
-μ-loop starts ends together₀ r₀ together r = ?
+μ-loop starts ends together₀ r₀ together r = length starts - r
 
--- src/vargraph.rt:53:5
+-- the places: a turn of the loop, and the call's beginning
+abbrev begun : tie.At-loop Inv-loop μ-loop → tie.Start Inv-loop μ-loop
+begun l = l .before .before .before
+
+abbrev turn : tie.After-lay-row Inv-loop μ-loop → tie.At-loop Inv-loop μ-loop
+turn c = c .before .before .before
+
 loop-holds : tie.Need-loop-holds Inv-loop μ-loop
-loop-holds c = ?
+loop-holds c = (length-replicate 4096 false, omega arith, pairs-begin _ _ _)
 
--- src/vargraph.rt:54:9
 lay-row-requires : tie.Need-lay-row-requires Inv-loop μ-loop
-lay-row-requires c κs = ?
+lay-row-requires c κs = let l = c .before .before in let h = begun l .pre in (h .0, h .1, omega arith, l .loop .inv .0)
 
--- src/vargraph.rt:55:9
 add-r : tie.Need-add-r Inv-loop μ-loop
-add-r c = ?
+add-r c = search needs
 
--- src/vargraph.rt:53:5
 loop-less : tie.Need-loop-less Inv-loop μ-loop
-loop-less c = ?
+loop-less c = search needs
 
--- src/vargraph.rt:53:5
 loop-again : tie.Need-loop-again Inv-loop μ-loop
-loop-again c = ?
+loop-again c =
+    let l = turn c .loop in
+    let h = begun (turn c) .pre in
+    (c .lay-row .ensures .long ∙ l .inv .0, omega arith, pairs-on (l .inv .2) (h .1) (c .lay-row .ensures))
 
--- src/vargraph.rt:47:1
 returns : tie.Need-returns Inv-loop μ-loop
-returns c = ?
+returns c = pairs-done (c .before .loop .inv .2) (omega arith)
 
 pub pairs-together-spec : {M : Type 1} → statement M
 pairs-together-spec =
