@@ -2,7 +2,7 @@
 -- result is the definition's, skipped or scored. Assumes nothing.
 use mathlib.Core.Path.{_≡_, sym, ap, _∙_}
 use mathlib.Core.Bool.{Bool, true, false}
-use mathlib.Core.List.{List, [], _++_, append-nil}
+use mathlib.Core.List.{List, _++_, append-nil}
 use Prim.Native.Nat.{ℕ, _+_, _-_, _/_, _≤_}
 use native.Mathlib.Omega.{arith}
 use lib.IntN.{ℤ, natAbs}
@@ -11,10 +11,9 @@ use lib.Seq.{length-take-le, take-length, drop-length, take-at, drop-at}
 use borrow.Rule.Slice.PartMut.{putMid, post-is}
 use mir.Syntax.{w32}
 use mir.Val.{toZ, ofZ}
-use Rattle.metrics.specs.Similarity.{magnitudeSum}
 use Rattle.kplib.specs.Sums.{featuresOf}
 use Rattle.kplib.specs.Score.{listScore, greaterOf}
-use Rattle.kplib.specs.Scoring.{listOfCode, Summable, Ready, total, chainTotal, Comparable, Paired, mayWin, afterCode, Attempt, Attempted}
+use Rattle.kplib.specs.Scoring.{listOfCode, Summable, Ready, total, Comparable, Paired, mayWin, afterCode, Attempt, Attempted}
 use Rattle.kplib.specs.declared.pathscore.Scored.{Scored}
 use Rattle.kplib.specs.declared.pathscore.Verdict.{Verdict}
 use Rattle.kplib.specs.declared.pathscore.Best.{Best}

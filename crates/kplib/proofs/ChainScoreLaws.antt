@@ -25,7 +25,7 @@ pub tables-of : {s : Settings} {t : Table} {p : Parts} → Checked s t p → Tab
 tables-of c = record { minkfreq = c .minkfreq; sized = c .sized; rows = c .rows; part-sized = c .part-sized; part-rows = c .part-rows }
 
 -- ---- the lists one after another
-module _ (after : Scored → ℕ → ℤ → Scored) {codes : List ℕ} {sizes : List ℤ} {i : ℕ} (best : Scored) where
+module _ (after : Scored → ℕ → ℤ → Scored) (codes : List ℕ) (sizes : List ℤ) (best : Scored) {i : ℕ} where
   codes-turn : {best' x : Scored} → length sizes ≡ length codes → i < length codes → best' ≡ after best (getD codes i 0) (getD sizes i (pos 0))
       → afterCodes after best (drop i codes) (drop i sizes) ≡ x → afterCodes after best' (drop (i + 1) codes) (drop (i + 1) sizes) ≡ x
   unfolding afterCodes
@@ -81,10 +81,11 @@ module _ {plan : Plan} {features : List ℤ} {chain : List ℕ} {chainSize : ℤ
     one-more best scratch' v a =
         let after = afterCode plan partFeatures (chainTotal (plan .width) features chain (toZ w32 (ofZ w32 chainSize))) in (
           a .ready,
-          codes-turn after (best .scored) (y .coded .alike) h (rw s-back at (a .best-is)) (v .1),
+          codes-turn after codes sizes (best .scored) (y .coded .alike) h (rw s-back at (a .best-is)) (v .1),
         )
 
   pub all-tried : {i : ℕ} → length codes ≤ i → (best : Best) (scratch' : List ℤ) → Tried plan features chain (toZ w32 (ofZ w32 chainSize)) partFeatures codes sizes best scratch' i
       → best .scored ≡ codedScore plan partFeatures codes sizes (chainTotal (plan .width) features chain chainSize)
   all-tried h best scratch' v =
-      rw c-back at (codes-done (afterCode plan partFeatures (chainTotal (plan .width) features chain (toZ w32 (ofZ w32 chainSize)))) (best .scored) h (v .1))
+      let after = afterCode plan partFeatures (chainTotal (plan .width) features chain (toZ w32 (ofZ w32 chainSize))) in
+      rw c-back at (codes-done after codes sizes (best .scored) h (v .1))

@@ -1,11 +1,5 @@
 use Rattle.kplib.proofs.onetoone.match_rows.Statement.{statement}
 use Rattle.kplib.proofs.onetoone.match_rows.Tie as tie
-use Rattle.kplib.proofs.onetoone.match_rows.Reads as reads
-use Rattle.kplib.proofs.onetoone.match_rows.Lts as lts
-use Rattle.kplib.proofs.onetoone.latest_of.Reads as latest-of-reads
-use Rattle.kplib.proofs.pathscore.greater_of.Reads as greater-of-reads
-use Rattle.kplib.proofs.pathscore.list_score.Reads as list-score-reads
-use Rattle.kplib.proofs.pathscore.nothing.Reads as nothing-reads
 
 abbrev Inv-loop : tie.InvT-loop
 Inv-loop plan sizes features whole-row best₀ s width r₀ best r = ?

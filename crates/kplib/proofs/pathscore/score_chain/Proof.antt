@@ -20,7 +20,7 @@ abbrev μ-loop : tie.MeasureT-loop
 
 -- the places that the proof speaks of
 abbrev begin : tie.At-loop Inv-loop μ-loop → tie.Start Inv-loop μ-loop
-begin l = l .before .before .before .before
+begin l = l .before .before .before .before .before
 
 abbrev inside : tie.After-try-list-arg3 Inv-loop μ-loop → tie.In-loop Inv-loop μ-loop
 inside c = c .before .before .before .before
@@ -52,7 +52,7 @@ try-list-requires c κs =
     attempt (begin l .pre) (i .loop-test .taken) (l .loop .inv .1) (l .loop .inv .2) (l .loop .inv .3 .0)
 
 add-i : tie.Need-add-i Inv-loop μ-loop
-add-i c = search needs
+add-i c = let i = inside (tried c .before) in omega (arith, i .loop-test .taken, begin (i .before) .good)
 
 loop-less : tie.Need-loop-less Inv-loop μ-loop
 loop-less c = search needs
