@@ -1,95 +1,87 @@
--- The best so far, after the rows that are left and the sink, is the answer; the source was passed before.
-use native.Mathlib.Omega.{arith}
-use borrow.Author.Needs.{needs}
-use Prim.Native.Nat.{_-_, _≤_}
-use lib.ListN.{length}
-use Rattle.params.specs.Numbers.{partsOf}
-use Rattle.kplib.specs.Scoring.{unplaced}
-use Rattle.kplib.proofs.OneToOneLaws.{Matched, none-matched, row-matched, all-matched, row-room, row-comparable, row-scored}
 use Rattle.kplib.proofs.onetoone.match_rows.Statement.{statement}
 use Rattle.kplib.proofs.onetoone.match_rows.Tie as tie
 
 abbrev Inv-loop : tie.InvT-loop
-Inv-loop s sizes features part-sizes part-features whole-row whole-size best₀ width m r₀ best r =
-    (r ≤ length sizes) × Matched s (unplaced sizes features) (partsOf part-sizes part-features) best r
+Inv-loop plan sizes features whole-row best₀ s width r₀ best r = ?
 
 abbrev μ-loop : tie.MeasureT-loop
-μ-loop s sizes features part-sizes part-features whole-row whole-size best₀ width m r₀ best r = length sizes - r
+μ-loop plan sizes features whole-row best₀ s width r₀ best r = ?
 
+-- src/onetoone.rt:45:9
 nothing-requires : tie.Need-nothing-requires Inv-loop μ-loop
-nothing-requires c κs = search needs
+nothing-requires c κs = ?
 
+-- src/onetoone.rt:53:5
 loop-holds : tie.Need-loop-holds Inv-loop μ-loop
-loop-holds c =
-    (omega arith, none-matched (c .before .pre .tables) (c .nothing .ensures))
+loop-holds c = ?
 
+-- src/onetoone.rt:54:17
 mul-a : tie.Need-mul-a Inv-loop μ-loop
-mul-a c =
-    let s = c .before .before .before in
-    omega (arith, row-room (s .pre) (c .loop-test .taken))
+mul-a c = ?
 
+-- src/onetoone.rt:55:17
 add-e : tie.Need-add-e Inv-loop μ-loop
-add-e c =
-    let s = c .before .before .before in
-    omega (arith, row-room (s .pre) (c .loop-test .taken))
+add-e c = ?
 
+-- src/onetoone.rt:58:13
 mul-list-score : tie.Need-mul-list-score Inv-loop μ-loop
-mul-list-score c = search needs
+mul-list-score c = ?
 
+-- src/onetoone.rt:58:13
 shared-slice-copy-out-list-score : tie.Need-shared-slice-copy-out-list-score Inv-loop μ-loop
-shared-slice-copy-out-list-score c = search needs
+shared-slice-copy-out-list-score c = ?
 
+-- src/onetoone.rt:59:13
 mul-list-score-2 : tie.Need-mul-list-score-2 Inv-loop μ-loop
-mul-list-score-2 c =
-    let s = c .before .before .before .before in
-    omega (arith, row-room (s .pre) (c .before .loop-test .taken))
+mul-list-score-2 c = ?
 
+-- src/onetoone.rt:59:13
 sub-list-score : tie.Need-sub-list-score Inv-loop μ-loop
-sub-list-score c =
-    let s = c .before .before .before .before in
-    omega (arith, row-room (s .pre) (c .before .loop-test .taken))
+sub-list-score c = ?
 
+-- src/onetoone.rt:59:13
 part-list-score-start : tie.Need-part-list-score-start Inv-loop μ-loop
-part-list-score-start c = search needs
+part-list-score-start c = ?
 
+-- src/onetoone.rt:59:13
 part-list-score-end : tie.Need-part-list-score-end Inv-loop μ-loop
-part-list-score-end c =
-    let s = c .before .before .before .before in
-    row-room (s .pre) (c .before .loop-test .taken) .0
+part-list-score-end c = ?
 
+-- src/onetoone.rt:56:13
 list-score-requires : tie.Need-list-score-requires Inv-loop μ-loop
-list-score-requires c κs =
-    let s = c .before .before .before .before .before in
-    row-comparable (s .pre) (c .before .before .loop-test .taken)
+list-score-requires c κs = ?
 
+-- src/onetoone.rt:66:28
 nothing-requires-2 : tie.Need-nothing-requires-2 Inv-loop μ-loop
-nothing-requires-2 c κs = search needs
+nothing-requires-2 c κs = ?
 
+-- src/onetoone.rt:66:13
 greater-of-requires : tie.Need-greater-of-requires Inv-loop μ-loop
-greater-of-requires c κs = search needs
+greater-of-requires c κs = ?
 
-cast-t29 : tie.Need-cast-t29 Inv-loop μ-loop
-cast-t29 c = omega (arith, c .before .before .before .before .before .before .before .before .pre .tables .sized .few, c .before .before .before .before .before .loop-test .taken)
+-- src/onetoone.rt:67:23
+cast-t26 : tie.Need-cast-t26 Inv-loop μ-loop
+cast-t26 c = ?
 
+-- src/onetoone.rt:68:9
 latest-of-requires : tie.Need-latest-of-requires Inv-loop μ-loop
-latest-of-requires c κs = omega (arith, c .before .before .before .before .before .before .before .before .pre .tables .sized .few, c .before .before .before .before .before .loop-test .taken)
+latest-of-requires c κs = ?
 
+-- src/onetoone.rt:69:9
 add-r : tie.Need-add-r Inv-loop μ-loop
-add-r c = omega (arith, c .before .before .before .before .before .before .before .before .before .pre .tables .sized .few, c .before .before .before .before .before .before .loop-test .taken)
+add-r c = ?
 
+-- src/onetoone.rt:53:5
 loop-less : tie.Need-loop-less Inv-loop μ-loop
-loop-less c = search needs
+loop-less c = ?
 
+-- src/onetoone.rt:53:5
 loop-again : tie.Need-loop-again Inv-loop μ-loop
-loop-again c =
-    let s = c .before .before .before .before .before .before .before .before .before in
-    let l = c .before .before .before .before .before .before .before in
-    (omega (arith, c .before .before .before .before .before .before .loop-test .taken), row-matched (s .pre .tables) (l .loop .best) (c .before .before .before .before .before .before .loop-test .taken) (row-scored (s .pre) (c .before .before .before .before .before .before .loop-test .taken) (c .before .before .nothing2 .ensures) (c .before .before .before .list-score .ensures) (c .before .greater-of .ensures)) (c .latest-of .ensures) (l .loop .inv .1))
+loop-again c = ?
 
+-- src/onetoone.rt:41:1
 returns : tie.Need-returns Inv-loop μ-loop
-returns c =
-    let s = c .before .before .before in
-    all-matched (s .pre .tables) (omega (arith, c .before .loop .inv .0, c .loop-test .left)) (c .before .loop .inv .1)
+returns c = ?
 
 pub match-rows-spec : {M : Type 1} → statement M
 match-rows-spec =
@@ -110,7 +102,7 @@ match-rows-spec =
     list-score-requires
     nothing-requires-2
     greater-of-requires
-    cast-t29
+    cast-t26
     latest-of-requires
     add-r
     loop-less
