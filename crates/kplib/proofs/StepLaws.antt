@@ -1,6 +1,6 @@
 -- What a step of the search asks of its callees follows from where the search stands; and what they promise is where it stands after the step. Assumes nothing.
 use mathlib.Core.Path.{_≡_, refl, ap, _∙_}
-use Prim.Native.Nat.{ℕ, _+_, _-_, _*_, _^_, _≤_, _<_}
+use Prim.Native.Nat.{ℕ, _+_, _-_, _*_, _≤_, _<_}
 use native.Mathlib.Omega.{arith}
 use native.Mathlib.Nat.{mul-le-mul-right}
 use mathlib.Core.Bool.{Bool, true, false, cond}
@@ -18,10 +18,9 @@ use Rattle.paths.specs.Queue.{keyOf, Walk, Taken, Queued, Ended}
 use Rattle.paths.proofs.QueueLaws.{chain-parts, chain-end, chain-length}
 use Rattle.paths.proofs.RunLaws.{taken-in, taken-queue, begin, step-on, end-empty, end-steps}
 use Rattle.kplib.specs.Sums.{sizeFrom, sizeOf}
-use Rattle.kplib.specs.Score.{start}
 use Rattle.kplib.specs.Scoring.{Below}
 use Rattle.kplib.specs.Search.{distanceTo, resultWith, startResult, noLower}
-use Rattle.kplib.specs.SearchSteps.{laterOf, advanced, notBegun, endAt, parentsOf, lastsOf, chainOf, Told, followsTold, distanceTold, scoreBy, resultTold, Extending, Weighable, WeighedAs, Searchable, bestAt, Going, Gone}
+use Rattle.kplib.specs.SearchSteps.{laterOf, advanced, notBegun, endAt, parentsOf, lastsOf, chainOf, Told, followsTold, distanceTold, resultTold, Extending, Weighable, WeighedAs, Searchable, bestAt, Going, Gone}
 use Rattle.kplib.specs.declared.steps.Leader.{Leader}
 use Rattle.kplib.specs.declared.steps.Weighed.{Weighed}
 use Rattle.kplib.specs.declared.steps.Progress.{Progress}
@@ -125,7 +124,7 @@ module _ {q : Told} {room : ℕ} {links keys : List ℕ} {at : Progress} (h : Se
 
     module _ (links' keys'' : List ℕ) {added : ℕ} {w : Weighed} {to : Progress}
         (p : Queued (followsTold q) (length (q .sizes)) (distanceTold q) (parentsOf links) (lastsOf links) (take (at .queued - 1) keys') (at .used) e
-            (parentsOf links') (lastsOf links') (take (at .queued - 1 + added) keys'') added)
+        (parentsOf links') (lastsOf links') (take (at .queued - 1 + added) keys'') added)
         (within : at .queued - 1 + added ≤ length keys'')
         (hw : WeighedAs (q .plan) (q .sizes) (q .features) (q .partFeatures) (q .codes) (q .listSizes) (reverse (chainOf links e)) w)
         (hr : to ≡ advanced at e (w .scored) added) where

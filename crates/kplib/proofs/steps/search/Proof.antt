@@ -26,11 +26,11 @@ sized c = c .before .before .before
 abbrev laid : tie.After-whole-size → tie.After-lay-lists
 laid c = c .before .before .before
 
-abbrev keyed2 : tie.After-run-arg2 → tie.After-key
-keyed2 c = c .before .before .before .before .before
+abbrev whole : tie.After-together → tie.After-whole-size
+whole c = c .before .before .before
 
-abbrev keyed : tie.After-not-begun → tie.After-key
-keyed c = keyed2 (c .before .before)
+abbrev keyed : tie.After-run-arg2 → tie.After-key
+keyed c = c .before .before .before .before .before
 
 abbrev ended : tie.After-scratch2 → tie.After-run
 ended c = c .before .before .before .before .before
@@ -77,32 +77,32 @@ slice-write-keys : tie.Need-slice-write-keys
 slice-write-keys c = search needs
 
 array-share-prefix-codes : tie.Need-array-share-prefix-codes
-array-share-prefix-codes c = laid (c .before .before .before) .lay-lists .ensures .room
+array-share-prefix-codes c = laid (whole c) .lay-lists .ensures .room
 
 slice-aggregate-run : tie.Need-slice-aggregate-run
-slice-aggregate-run c = sym (length-take-le _ _ (laid (c .before .before .before .before) .lay-lists .ensures .room))
+slice-aggregate-run c = sym (length-take-le _ _ (laid (whole (c .before)) .lay-lists .ensures .room))
 
 array-share-prefix-list-sizes : tie.Need-array-share-prefix-list-sizes
-array-share-prefix-list-sizes c = laid (c .before .before .before .before) .lay-lists .ensures .beside
+array-share-prefix-list-sizes c = laid (whole (c .before)) .lay-lists .ensures .beside
 
 slice-aggregate-run-2 : tie.Need-slice-aggregate-run-2
-slice-aggregate-run-2 c = sym (length-take-le _ _ (laid (c .before .before .before .before .before) .lay-lists .ensures .beside))
+slice-aggregate-run-2 c = sym (length-take-le _ _ (laid (whole (c .before .before)) .lay-lists .ensures .beside))
 
 mul-scratch : tie.Need-mul-scratch
-mul-scratch c = record { fits = omega (arith, width-few (keyed2 c .before .before)) }
+mul-scratch c = record { fits = omega (arith, width-few (keyed c .before .before)) }
 
 array-borrow-prefix-scratch : tie.Need-array-borrow-prefix-scratch
-array-borrow-prefix-scratch c = omega (arith, width-few (keyed2 c .before .before))
+array-borrow-prefix-scratch c = omega (arith, width-few (keyed c .before .before))
 
 slice-aggregate-run-3 : tie.Need-slice-aggregate-run-3
-slice-aggregate-run-3 c = sym (length-take-le _ _ (omega (arith, width-few (keyed2 (c .before) .before .before))))
+slice-aggregate-run-3 c = sym (length-take-le _ _ (omega (arith, width-few (keyed (c .before) .before .before))))
 
 not-begun-requires : tie.Need-not-begun-requires
 not-begun-requires c κs = tt
 
 run-requires : tie.Need-run-requires
 run-requires c κs =
-    let k = keyed c in
+    let k = keyed (c .before .before) in
     let z = k .before .before in
     let b = start z in (
       searchable-first (b .pre) (planned z) (laid z .lay-lists .ensures) _ refl (simp length-set refl) (two-rows _ _ (omega (arith, width-few z))),
@@ -117,7 +117,7 @@ same-length-2 c = ended c .run .kept .1 .1 .1 .1 .1 .1 .1 .1 .0 ∙ simp length-
 
 returns : tie.Need-returns
 returns c =
-    let k = keyed (ended c .before) in
+    let k = keyed (ended c .before .before .before) in
     let z = k .before .before in
     searched-as (start z .pre) (planned z) (laid z .lay-lists .ensures) (k .before .pairs-together .ensures) (ended c .run .ensures)
 
