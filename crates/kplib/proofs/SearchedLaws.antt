@@ -1,4 +1,5 @@
--- An accepted job gives a search what it asks; and what the steps end with, told the flags, the width and the part lists as they lie, is document 01's answer for the table and the haplotype. Assumes nothing.
+-- An accepted job gives a search what it asks; and what the steps end with, told the flags, the width and the part lists as they lie, is document 01's
+-- answer for the table and the haplotype. Assumes nothing.
 use mathlib.Core.Path.{_≡_, refl, ap, _∙_}
 use Prim.Native.Nat.{ℕ, _+_, _*_, _^_, _≤_}
 use native.Mathlib.Omega.{arith}

@@ -20,7 +20,8 @@ use Rattle.paths.proofs.RunLaws.{taken-in, taken-queue, begin, step-on, end-emp
 use Rattle.kplib.specs.Sums.{sizeFrom, sizeOf}
 use Rattle.kplib.specs.Scoring.{Below}
 use Rattle.kplib.specs.Search.{distanceTo, resultWith, startResult, noLower}
-use Rattle.kplib.specs.SearchSteps.{laterOf, advanced, notBegun, endAt, parentsOf, lastsOf, chainOf, Told, followsTold, distanceTold, resultTold, Extending, Weighable, WeighedAs, Searchable, bestAt, Going, Gone}
+use Rattle.kplib.specs.SearchSteps.{laterOf, advanced, notBegun, endAt, parentsOf, lastsOf, chainOf, Told, followsTold, distanceTold, resultTold}
+use Rattle.kplib.specs.SearchSteps.{Extending, Weighable, WeighedAs, Searchable, bestAt, Going, Gone}
 use Rattle.kplib.specs.declared.steps.Leader.{Leader}
 use Rattle.kplib.specs.declared.steps.Weighed.{Weighed}
 use Rattle.kplib.specs.declared.steps.Progress.{Progress}
@@ -138,7 +139,8 @@ module _ {q : Told} {room : ℕ} {links keys : List ℕ} {at : Progress} (h : Se
           let x : Leader = record { entry = e; scored = w .scored } in
           let b = le (at .best .scored .score) (w .scored .score) in
           let in-old = later-in (at .used) r (at .best) x b hr (g .best-in) entry-in in
-          let same : resultWith (reverse (chainOf links' (r .entry))) (r .scored) ≡ cond (noLower (bestAt links at) (resultTold q (chainOf links e))) (resultTold q (chainOf links e)) (bestAt links at) =
+          let same : resultWith (reverse (chainOf links' (r .entry))) (r .scored)
+          ≡ cond (noLower (bestAt links at) (resultTold q (chainOf links e))) (resultTold q (chainOf links e)) (bestAt links at) =
           rw (p .kept (r .entry) in-old, result-is) (later-result r (at .best) x b (λ i. chainOf links i) hr) in
           record {
             best-in = omega (arith, in-old);
