@@ -230,26 +230,38 @@ module _ {s : Settings} {t : Table} {p : Parts} {chosen : List ℕ} {wholeRow : 
   pub whole-ok : Summable (length wholeRow) (p .features) list
   whole-ok = rw (f, y .whole-row) (whole-sum (y .tables))
 
-  module _ {row : List ℤ} (g : row ≡ featuresOf (length wholeRow) (p .features) list) (plan : Plan) (es : plan .s ≡ s) (ew : plan .width ≡ length row) (em : plan .m ≡ length (p .sizes))
-      (et : plan .target ≡ sizeOf (p .sizes) (wholeOf (length (p .sizes)))) where
-    row-is : row ≡ featuresOf (4 ^ s .k) (p .features) (wholeOf (length (p .sizes)))
+  module _ {row : List ℤ} (g : row ≡ featuresOf (length wholeRow) (p .features) list) {size : ℤ} (h : size ≡ sizeOf (p .sizes) (wholeOf (length (p .sizes)))) where
+    abbrev everyPart : List ℕ
+    everyPart = wholeOf (length (p .sizes))
+
+    abbrev plan : Plan
+    plan = record { s = s; width = length row; m = length (p .sizes); target = toZ w32 (ofZ w32 size) }
+
+    row-is : row ≡ featuresOf (4 ^ s .k) (p .features) everyPart
     row-is = g ∙ rw (f, y .whole-row)
 
-    width-is : plan .width ≡ 4 ^ s .k
-    width-is = ew ∙ ap length row-is ∙ features-length (4 ^ s .k) (p .features) (wholeOf (length (p .sizes))) (whole-sum (y .tables))
+    width-is : length row ≡ 4 ^ s .k
+    width-is = ap length row-is ∙ features-length (4 ^ s .k) (p .features) everyPart (whole-sum (y .tables))
+
+    size-small : natAbs size ≤ 8388608
+    size-small = rw h (size-le (p .sizes) everyPart (y .tables .part-sized) (all-few (y .tables)))
+
+    target-is : toZ w32 (ofZ w32 size) ≡ sizeOf (p .sizes) everyPart
+    target-is = back size (omega (arith, size-small)) ∙ h
 
     pub matching : Matching plan (t .sizes) (t .features) row
     matching = record {
-      planned = record { minkfreq = rw es (y .tables .minkfreq); width-is = rw es width-is; few = omega (arith, em, y .tables .part-sized .few) };
-      target-small = rw et (size-le (p .sizes) (wholeOf (length (p .sizes))) (y .tables .part-sized) (all-few (y .tables)));
+      planned = record { minkfreq = y .tables .minkfreq; width-is = width-is; few = y .tables .part-sized .few };
+      target-small = rw (back size (omega (arith, size-small))) size-small;
       sized = y .tables .sized;
       rows = rw width-is (y .tables .rows);
-      width-is = sym ew;
-      whole-sum = rw row-is (features-sum (4 ^ s .k) (p .features) (wholeOf (length (p .sizes))) (whole-sum (y .tables)));
+      width-is = refl;
+      whole-sum = omega (arith, ap magnitudeSum row-is, features-sum (4 ^ s .k) (p .features) everyPart (whole-sum (y .tables)));
     }
 
-    pub matched : bestAlone plan (t .sizes) (t .features) row ≡ oneToOne s t p
+    pub matched : {r : Lone} → r ≡ bestAlone plan (t .sizes) (t .features) row → r ≡ oneToOne s t p
     unfolding bestAlone oneToOne
-    matched =
-        nodes-same (nodeStep (scoreAlone plan row) (plan .width) (t .sizes) (t .features)) (nodeStep (aloneScore s p) (4 ^ s .k) (t .sizes) (t .features))
-        (λ best node. rw (width-is, alone-same plan p es em et row-is (nodeTotal (4 ^ s .k) (t .sizes) (t .features) node))) noLone 0 (length (t .sizes) + 2)
+    matched e =
+        e
+        ∙ nodes-same (nodeStep (scoreAlone plan row) (length row) (t .sizes) (t .features)) (nodeStep (aloneScore s p) (4 ^ s .k) (t .sizes) (t .features))
+        (λ best node. rw (width-is, alone-same plan p refl refl target-is row-is (nodeTotal (4 ^ s .k) (t .sizes) (t .features) node))) noLone 0 (length (t .sizes) + 2)

@@ -187,7 +187,7 @@ fn add_row(acc: &mut [i32], row: &[i32])
     }
 }
 
-fn clear(row: &mut [i32])
+fn clear_row(row: &mut [i32])
     ensures { λ _. ⌜ now (row .exit) ≡ zeros (length (now (row .entry))) ⌝ }
 {
     let mut i: usize = 0;
@@ -212,11 +212,11 @@ fn add_rows(table: &[i32], rows: &[u32], out: &mut [i32])
     }
 }
 
-pub(crate) fn sum_rows(table: &[i32], rows: &[u32], out: &mut [i32])
+pub(crate) fn sum_features(table: &[i32], rows: &[u32], out: &mut [i32])
     requires { ⌜ Summable (length (now out)) (now table) (now rows) ⌝ }
     ensures { λ _. ⌜ now (out .exit) ≡ featuresOf (length (now (out .entry))) (now (table .entry)) (now (rows .entry)) ⌝ }
 {
-    clear(out);
+    clear_row(out);
     add_rows(table, rows, out);
 }
 
@@ -228,7 +228,7 @@ fn ready(table: &[i32], chain: &[u32], row: &mut [i32], summed: bool)
     if summed {
         return;
     }
-    sum_rows(table, chain, row);
+    sum_features(table, chain, row);
 }
 
 // Whether a list passes the sign and size tests and could still beat the best: with seqsim 1.0 it scores no less than with its own.
@@ -311,7 +311,7 @@ fn try_list(
     let w = plan.width;
     let d = positions(code, plan.m, chosen);
     ready(features, chain, &mut scratch[..w], best.summed);
-    sum_rows(part_features, &chosen[..d], &mut scratch[w..]);
+    sum_features(part_features, &chosen[..d], &mut scratch[w..]);
     let verdict = score_rows(plan, chain_size, len, size, n, scratch);
     let scored = greater_of(old, partial, verdict);
     Best {

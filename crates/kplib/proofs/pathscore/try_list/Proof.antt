@@ -21,7 +21,7 @@ placed c = c .before .before
 abbrev asked : tie.After-positions → tie.After-may-win
 asked c = c .before .before .before
 
-abbrev chained : tie.After-sum-rows-arg → tie.After-ready
+abbrev chained : tie.After-sum-features-arg → tie.After-ready
 chained c = c .before .before
 
 abbrev listed : tie.After-ready → tie.After-positions
@@ -30,10 +30,10 @@ listed c = placed (c .before .before)
 abbrev given : tie.After-ready → tie.Start
 given c = begun (asked (listed c))
 
-abbrev summed : tie.After-score-rows-arg → tie.After-sum-rows
+abbrev summed : tie.After-score-rows-arg → tie.After-sum-features
 summed c = c .before .before
 
-abbrev both : tie.After-sum-rows → tie.After-ready
+abbrev both : tie.After-sum-features → tie.After-ready
 both c = chained (c .before .before)
 
 cast-n : tie.Need-cast-n
@@ -64,33 +64,33 @@ slice-aggregate-ready c = sym (front-length (begun (asked (placed (c .before))) 
 ready-requires : tie.Need-ready-requires
 ready-requires c κs = ready-ok (begun (asked (placed (c .before))) .pre)
 
-slice-reshare-prefix-sum-rows : tie.Need-slice-reshare-prefix-sum-rows
-slice-reshare-prefix-sum-rows c = search needs
+slice-reshare-prefix-sum-features : tie.Need-slice-reshare-prefix-sum-features
+slice-reshare-prefix-sum-features c = search needs
 
-slice-aggregate-sum-rows : tie.Need-slice-aggregate-sum-rows
-slice-aggregate-sum-rows c =
+slice-aggregate-sum-features : tie.Need-slice-aggregate-sum-features
+slice-aggregate-sum-features c =
     let p = listed (chained c) .positions in let s = given (chained c) in
     sym (length-take-le (p .result) _ (omega (arith, p .ensures .0, p .kept .1 .1 .0, s .pre .room, s .pre .planned .few)))
 
-mul-sum-rows : tie.Need-mul-sum-rows
-mul-sum-rows c = omega (arith, given (chained c) .pre .part-rows .short)
+mul-sum-features : tie.Need-mul-sum-features
+mul-sum-features c = omega (arith, given (chained c) .pre .part-rows .short)
 
-sub-sum-rows : tie.Need-sub-sum-rows
-sub-sum-rows c = let r = chained c in omega (arith, fronted-length (given r .pre) (r .ready .ensures))
+sub-sum-features : tie.Need-sub-sum-features
+sub-sum-features c = let r = chained c in omega (arith, fronted-length (given r .pre) (r .ready .ensures))
 
-part-sum-rows-start : tie.Need-part-sum-rows-start
-part-sum-rows-start c = let r = chained c in omega (arith, fronted-length (given r .pre) (r .ready .ensures))
+part-sum-features-start : tie.Need-part-sum-features-start
+part-sum-features-start c = let r = chained c in omega (arith, fronted-length (given r .pre) (r .ready .ensures))
 
-part-sum-rows-end : tie.Need-part-sum-rows-end
-part-sum-rows-end c = search needs
+part-sum-features-end : tie.Need-part-sum-features-end
+part-sum-features-end c = search needs
 
-sum-rows-requires : tie.Need-sum-rows-requires
-sum-rows-requires c κs = let r = chained (c .before) in list-ok (given r .pre) (r .ready .ensures) (listed r .positions .ensures .1)
+sum-features-requires : tie.Need-sum-features-requires
+sum-features-requires c κs = let r = chained (c .before) in list-ok (given r .pre) (r .ready .ensures) (listed r .positions .ensures .1)
 
 score-rows-requires : tie.Need-score-rows-requires
 score-rows-requires c κs =
     let l = summed c in let r = both l in
-    paired (given r .pre) (r .ready .ensures) (listed r .positions .ensures .1) (l .sum-rows .ensures)
+    paired (given r .pre) (r .ready .ensures) (listed r .positions .ensures .1) (l .sum-features .ensures)
 
 greater-of-requires : tie.Need-greater-of-requires
 greater-of-requires c κs = omega (arith, given (both (summed (c .before))) .pre .planned .few)
@@ -104,11 +104,11 @@ same-length-2 c = search needs
 returns-2 : tie.Need-returns-2
 returns-2 c =
     let l = summed (c .before .before) in let r = both l in let s = given r in
-    attempt-scored (s .pre) (r .ready .ensures) (listed r .positions .ensures .1) (l .sum-rows .ensures) (s .args .best .scored) (c .before .score-rows .ensures) (c .greater-of .ensures)
+    attempt-scored (s .pre) (r .ready .ensures) (listed r .positions .ensures .1) (l .sum-features .ensures) (s .args .best .scored) (c .before .score-rows .ensures) (c .greater-of .ensures)
 
 pub try-list-spec : {M : Type 1} → statement M
 try-list-spec =
     tie.close
     (tie.spec cast-n sub-partial may-win-requires returns positions-requires slice-relend-prefix-ready slice-aggregate-ready ready-requires
-    slice-reshare-prefix-sum-rows slice-aggregate-sum-rows mul-sum-rows sub-sum-rows part-sum-rows-start part-sum-rows-end sum-rows-requires
+    slice-reshare-prefix-sum-features slice-aggregate-sum-features mul-sum-features sub-sum-features part-sum-features-start part-sum-features-end sum-features-requires
     score-rows-requires greater-of-requires same-length same-length-2 returns-2)
