@@ -7,10 +7,12 @@ use native.Mathlib.Numerals.{add-one}
 use mathlib.Core.Bool.{Bool, true, false, cond}
 use mathlib.Core.List.{List}
 use lib.Dec.{leb·zero}
-use lib.ListN.{getD}
+use lib.ListN.{length, getD}
 use Rattle.paths.specs.Count.{sumRowsFrom, rowCount, chainCount}
 use Rattle.paths.proofs.CountLaws.{row-up, chainCount-up}
-use Rattle.kplib.specs.GraphWalk.{extendsAt, Stop, Counting}
+use Rattle.kplib.specs.Graph.{edge, chainsOf}
+use Rattle.kplib.specs.GraphWalk.{extendsAt, flagOf, Together, Stop, Stopping, Counting}
+use Rattle.kplib.proofs.TogetherLaws.{flags-count}
 
 -- rows at which p fails add nothing
 sum-none : (p : ℕ → Bool) (w : ℕ → ℕ) (k s : ℕ) → ((j : ℕ) → s ≤ j → j < s + k → p j ≡ false) → sumRowsFrom p w k s ≡ 0
@@ -92,3 +94,14 @@ module _ {linked : ℕ → ℕ → Bool} {stops : List ℕ} {end row : ℕ} (h :
 
   pub longer-counting : row < getD stops 0 0 → Counting linked stops (row + 1) (row + 1)
   longer-counting l = record { stopping = h .stopping; few = h .few; end-in = omega arith; row-in = omega arith }
+
+-- the empty chain, which ends at the source, and the first row
+pub counting-begin : {linked : ℕ → ℕ → Bool} {v : ℕ} {stops : List ℕ} → Stopping linked v stops → v ≤ 64 → Counting linked stops 0 0
+counting-begin h l = record { stopping = rw (h .source) h; few = omega (arith, h .source); end-in = omega arith; row-in = omega arith }
+
+-- what the walk leaves of the cap, but for the empty chain, is what N leaves of it
+module _ (starts ends : List ℕ) (together : List Bool) (laid : Together (edge starts ends) (length starts) together) where
+  pub graph-count : {stops : List ℕ} (full : Bool) (cap left : ℕ) → Stopping (flagOf together) (length starts) stops → full ≡ true → (cap ≡ 0 → ⊥)
+      → left ≡ cap - 1 - onward (flagOf together) (getD stops 0 0) 0 0 → cap - 1 - left + 1 ≡ min (chainsOf starts ends full) cap
+  graph-count full cap left s f z e =
+      full-count (flagOf together) (length starts) full cap left f z (rw (s .source) at e) ∙ ap (λ (n : ℕ). min n cap) (flags-count starts ends together laid full)

@@ -1,47 +1,55 @@
+-- A bare graph has one chain; a full one has the empty chain and those that go on from the source by a row. Assumes nothing.
+use borrow.Author.Tests.{not-true, not-false}
 use borrow.Author.Needs.{needs}
+use Rattle.kplib.proofs.CappedLaws.{bare-count, counting-begin, graph-count}
 use Rattle.kplib.proofs.vargraph.count_capped.Statement.{statement}
 use Rattle.kplib.proofs.vargraph.count_capped.Tie as tie
-use Rattle.kplib.proofs.vargraph.count_capped.Reads as reads
-use Rattle.kplib.proofs.vargraph.count_capped.Lts as lts
-use Rattle.kplib.proofs.vargraph.count_rows.Reads as count-rows-reads
-use Rattle.kplib.proofs.vargraph.pairs_together.Reads as pairs-together-reads
-use Rattle.kplib.proofs.vargraph.stops_of.Reads as stops-of-reads
 
--- src/vargraph.rt:141:9
+-- the places: the graph is full, its flags are laid, and its stops
+abbrev stopped : tie.After-stops → tie.After-stops-of
+stopped c = c .before .before
+
+abbrev paired : tie.After-stops-of → tie.After-pairs-together
+paired c = c .before .before
+
+abbrev full : tie.After-pairs-together → tie.Else2
+full c = c .before
+
+abbrev begun : tie.Else1 → tie.Start
+begun c = c .before .before .before
+
 returns : tie.Need-returns
 returns c = search needs
 
--- src/vargraph.rt:144:9
 returns-2 : tie.Need-returns-2
-returns-2 c = ?
+returns-2 c = bare-count _ _ _ _ (not-true _ (c .if2 .taken)) (c .before .if1 .left)
 
--- src/vargraph.rt:146:20
 pairs-together-requires : tie.Need-pairs-together-requires
 pairs-together-requires c κs = search needs
 
--- src/vargraph.rt:147:17
 stops-of-requires : tie.Need-stops-of-requires
 stops-of-requires c κs = search needs
 
--- src/vargraph.rt:148:18
 sub-others : tie.Need-sub-others
 sub-others c = search needs
 
--- src/vargraph.rt:149:14
 count-rows-requires : tie.Need-count-rows-requires
-count-rows-requires c κs = ?
+count-rows-requires c κs =
+    let s = stopped c in
+    counting-begin (s .stops-of .ensures) (begun (full (paired s) .before) .pre .1)
 
--- src/vargraph.rt:149:5
 sub-result : tie.Need-sub-result
 sub-result c = search needs
 
--- src/vargraph.rt:149:5
 add-result : tie.Need-add-result
 add-result c = search needs
 
--- src/vargraph.rt:136:1
 returns-3 : tie.Need-returns-3
-returns-3 c = ?
+returns-3 c =
+    let s = stopped (c .before) in
+    let p = paired s in
+    let f = full p in
+    graph-count _ _ (p .pairs-together .result) (p .pairs-together .ensures) _ _ _ (s .stops-of .ensures) (not-false _ (f .if2 .left)) (f .before .if1 .left) (c .count-rows .ensures)
 
 pub count-capped-spec : {M : Type 1} → statement M
 count-capped-spec =
