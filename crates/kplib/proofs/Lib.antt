@@ -11,6 +11,7 @@ pub mod RowSumLaws
 pub mod SizeSumLaws
 pub mod PartLaws
 pub mod CodeLaws
+mod CodedLaws
 pub mod VerdictLaws
 pub mod OneToOneLaws
 pub mod LayLaws
@@ -22,6 +23,7 @@ mod ScanLaws
 mod ExtensionLaws
 mod WeighLaws
 mod StepLaws
+mod SearchedLaws
 mod PlaceLaws
 pub mod FoundLaws
 mod CountedLaws
