@@ -121,9 +121,9 @@ impl Room {
         Self::default()
     }
 
-    /// How much memory it holds: 16 bytes an entry.
+    /// How much memory it holds: 12 bytes an entry.
     pub fn bytes(&self) -> usize {
-        16 * self.keys.len()
+        12 * self.keys.len()
     }
 }
 

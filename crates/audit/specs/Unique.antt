@@ -38,7 +38,7 @@ ReadsInto bytes t u r =
     ReadJobPromise bytes (t .starts) (t .ends) (t .sizes) (t .negatives) (t .counts) (t .partSizes) (t .partNegatives) (t .partCounts) (t .letters)
     (u .starts) (u .ends) (u .sizes) (u .negatives) (u .counts) (u .partSizes) (u .partNegatives) (u .partCounts) (u .letters) r
 
--- what a search leaves: the queue's three slices, the rows, and what it says
+-- what a search leaves: the queue's two slices, the rows, and what it says
 pub record Left (A : Type 0) : Type 0 where
   pub links : List ℕ
   pub keys : List ℕ
