@@ -25,14 +25,14 @@ static void worked_example(void)
 {
     uint64_t starts[V] = {10, 20}, ends[V] = {10, 20}, keys[ROOM];
     int32_t sizes[V] = {2, 2}, features[V * ENTRIES], part_sizes[1] = {2}, part_features[ENTRIES];
-    uint32_t parents[ROOM], last_rows[ROOM], rows[V] = {7, 7}, report[ND_REPORT_LEN], chains = 0;
+    uint32_t links[ROOM], rows[V] = {7, 7}, report[ND_REPORT_LEN], chains = 0;
     count("AG", features);
     count("CT", features + ENTRIES);
     count("AG", part_features);
     expect("refusal",
            nd_apply_haplotype(K, false, false, true, MAXPATHS, 10, 1, 5, 1, 0.5f, 0.5f, 0, 0, starts,
                               V, ends, V, sizes, V, features, V * ENTRIES, part_sizes, 1,
-                              part_features, ENTRIES, parents, ROOM, last_rows, ROOM, keys, ROOM,
+                              part_features, ENTRIES, links, ROOM, keys, ROOM,
                               rows, V, report),
            0);
     expect("rows", report[ND_ROWS], 1);

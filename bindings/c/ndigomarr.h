@@ -48,7 +48,7 @@ enum nd_report {
 /* The path of a table that best explains a haplotype. Rows are row numbers of the table handed
  * over, from 0, ascending, at the front of rows, whose rest stays as it was. Of equally good paths
  * the later one wins. V is starts_len, m is part_sizes_len; feature rows of 4^k entries lie one
- * behind the other. The three queue buffers hold at least 1 + (maxpaths + 1) * V entries each in a
+ * behind the other. The two queue buffers hold at least 1 + (maxpaths + 1) * V entries each in a
  * search; their content afterwards is open. rows holds at least V. Refuses by 1 to 12; the report
  * is then all zeros. */
 uint32_t nd_apply_haplotype(uint8_t k, bool squish, bool one_to_one, bool full, uint32_t maxpaths,
@@ -59,8 +59,7 @@ uint32_t nd_apply_haplotype(uint8_t k, bool squish, bool one_to_one, bool full, 
                             size_t sizes_len, const int32_t *features, size_t features_len,
                             const int32_t *part_sizes, size_t part_sizes_len,
                             const int32_t *part_features, size_t part_features_len,
-                            uint32_t *parents, size_t parents_len, uint32_t *last_rows,
-                            size_t last_rows_len, uint64_t *keys, size_t keys_len, uint32_t *rows,
-                            size_t rows_len, uint32_t report[ND_REPORT_LEN]);
+                            uint32_t *links, size_t links_len, uint64_t *keys, size_t keys_len,
+                            uint32_t *rows, size_t rows_len, uint32_t report[ND_REPORT_LEN]);
 
 #endif

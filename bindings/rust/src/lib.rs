@@ -112,8 +112,7 @@ pub struct Answer {
 /// The queue's room. It grows to the largest search that it was lent to, and says nothing about any.
 #[derive(Clone, Debug, Default)]
 pub struct Room {
-    parents: Vec<u32>,
-    last_rows: Vec<u32>,
+    links: Vec<u32>,
     keys: Vec<u64>,
 }
 
@@ -122,9 +121,9 @@ impl Room {
         Self::default()
     }
 
-    /// How much memory it holds: 16 bytes an entry.
+    /// How much memory it holds: 12 bytes an entry.
     pub fn bytes(&self) -> usize {
-        16 * self.keys.len()
+        12 * self.keys.len()
     }
 }
 

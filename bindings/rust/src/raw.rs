@@ -38,10 +38,8 @@ mod archive {
             part_sizes_len: usize,
             part_features: *const i32,
             part_features_len: usize,
-            parents: *mut u32,
-            parents_len: usize,
-            last_rows: *mut u32,
-            last_rows_len: usize,
+            links: *mut u32,
+            links_len: usize,
             keys: *mut u64,
             keys_len: usize,
             rows: *mut u32,
@@ -81,8 +79,7 @@ impl Room {
         let asked = settings.maxpaths <= 4095 && variants <= 64 && !settings.one_to_one;
         let entries = if asked { 1 + (settings.maxpaths as usize + 1) * variants } else { 0 };
         if entries > self.keys.len() {
-            self.parents.resize(entries, 0);
-            self.last_rows.resize(entries, 0);
+            self.links.resize(entries, 0);
             self.keys.resize(entries, 0);
         }
     }
@@ -144,10 +141,8 @@ fn search(settings: &Settings, table: &Table, haplotype: &Haplotype, room: &mut 
             haplotype.sizes().len(),
             haplotype.features().as_ptr(),
             haplotype.features().len(),
-            room.parents.as_mut_ptr(),
-            room.parents.len(),
-            room.last_rows.as_mut_ptr(),
-            room.last_rows.len(),
+            room.links.as_mut_ptr(),
+            room.links.len(),
             room.keys.as_mut_ptr(),
             room.keys.len(),
             rows.as_mut_ptr(),

@@ -28,16 +28,15 @@ NdCountChainsPromise starts ends full cap count count' r =
     (r ≡ countNumber (cappedCount starts ends full cap)) × (count' ≡ countValue (cappedCount starts ends full cap))
 
 abbrev pub NdApplyHaplotypePromise : ℕ → Bool → Bool → Bool → ℕ → ℕ → ℕ → ℕ → ℕ → Float → Float → Float → Float
-    → List ℕ → List ℕ → List ℤ → List ℤ → List ℤ → List ℤ → List ℕ → List ℕ → List ℕ → List ℕ → List ℕ
-    → List ℕ → List ℕ → List ℕ → List ℕ → List ℕ → ℕ → Type 0
+    → List ℕ → List ℕ → List ℤ → List ℤ → List ℤ → List ℤ → List ℕ → List ℕ → List ℕ → List ℕ
+    → List ℕ → List ℕ → List ℕ → List ℕ → ℕ → Type 0
 NdApplyHaplotypePromise k squish oneToOne full maxpaths maxnodes fnmax pileupmax minkfreq sizesim seqsim fpenalty gpenalty
-    starts ends sizes features partSizes partFeatures parents lastRows keys rows report
-    parents' lastRows' keys' rows' report' r =
+    starts ends sizes features partSizes partFeatures links keys rows report
+    links' keys' rows' report' r =
     let s = settingsOf k squish oneToOne full maxpaths maxnodes fnmax pileupmax minkfreq sizesim seqsim fpenalty gpenalty in
-    let c = callLent s starts ends sizes features partSizes partFeatures parents lastRows keys rows in
+    let c = callLent s starts ends sizes features partSizes partFeatures links keys rows in
     (r ≡ answerOf c .refusal)
     × ((report' ≡ reportOf (answerOf c))
     × ((rows' ≡ placed rows (rowsOf c))
-    × (QueueKept c parents parents'
-    × (QueueKept c lastRows lastRows'
-    × QueueKept c keys keys'))))
+    × (QueueKept c links links'
+    × QueueKept c keys keys')))

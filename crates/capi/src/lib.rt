@@ -99,16 +99,14 @@ pub extern "C" fn nd_apply_haplotype(
     features: &[i32],
     part_sizes: &[i32],
     part_features: &[i32],
-    parents: &mut [u32],
-    last_rows: &mut [u32],
+    links: &mut [u32],
     keys: &mut [u64],
     rows: &mut [u32],
     report: &mut [u32; 7],
 ) -> u32
     ensures { λ r. ⌜ NdApplyHaplotypePromise k squish «one_to_one» full maxpaths maxnodes fnmax pileupmax minkfreq sizesim seqsim fpenalty gpenalty (now (starts .entry))
-        (now (ends .entry)) (now (sizes .entry)) (now (features .entry)) (now («part_sizes» .entry)) (now («part_features» .entry)) (now (parents .entry))
-        (now («last_rows» .entry)) (now (keys .entry)) (now (rows .entry)) (now (report .entry)) (now (parents .exit)) (now («last_rows» .exit)) (now (keys .exit))
-        (now (rows .exit)) (now (report .exit)) r ⌝ }
+        (now (ends .entry)) (now (sizes .entry)) (now (features .entry)) (now («part_sizes» .entry)) (now («part_features» .entry)) (now (links .entry))
+        (now (keys .entry)) (now (rows .entry)) (now (report .entry)) (now (links .exit)) (now (keys .exit)) (now (rows .exit)) (now (report .exit)) r ⌝ }
 {
     let s = Settings {
         k,
@@ -133,8 +131,7 @@ pub extern "C" fn nd_apply_haplotype(
         features,
         part_sizes,
         part_features,
-        parents,
-        last_rows,
+        links,
         keys,
         rows,
     );

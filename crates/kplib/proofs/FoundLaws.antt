@@ -6,21 +6,20 @@ use mathlib.Core.Bool.{true, false}
 use mathlib.Core.List.{List, _++_, reverse}
 use lib.Dec.{eqb}
 use lib.ListN.{length, drop}
-use Rattle.paths.specs.Queue.{chainAt}
 use Rattle.params.specs.Numbers.{Table, Parts, Call, callOf, firstFault, searchMode}
 use Rattle.kplib.specs.Score.{start}
 use Rattle.kplib.specs.OneToOne.{oneToOne, loneRowsAt}
 use Rattle.kplib.specs.Scoring.{unplaced}
 use Rattle.kplib.specs.Search.{rowsFor}
 use Rattle.kplib.specs.Answer.{searched, matchedAlone, inSearchMode, foundAfter, answerWith, answerOf, rowsOf, placed, queueRoom, searches}
-use Rattle.kplib.specs.SearchSteps.{answerParts, Gone, Startable}
+use Rattle.kplib.specs.SearchSteps.{chainOf, answerParts, Startable, Searched}
 use Rattle.params.specs.declared.Settings.{Settings}
 use Rattle.kplib.specs.declared.pathscore.Scored.{Scored}
 use Rattle.kplib.specs.declared.pathscore.Target.{Target}
 use Rattle.kplib.specs.declared.pathscore.Target.the-variants.{Nothing, Whole, Partial}
 use Rattle.kplib.specs.declared.onetoone.Lone.{Lone}
 use Rattle.kplib.specs.declared.traverse.Answer.{Answer}
-use Rattle.kplib.specs.declared.traverse.Progress.{Progress}
+use Rattle.kplib.specs.declared.steps.Progress.{Progress}
 use Rattle.params.proofs.CheckedLaws.{accepted, queue-suffices}
 use Rattle.kplib.proofs.ExtensionLaws.{reverse-length}
 
@@ -43,18 +42,21 @@ unfolding matchedAlone oneToOne
 alone-answers s t p rows {lone = lone} e h k = rw (← e) (k ∙ ap (λ (m : ℕ). answerParts 0 m (lone .scored) (length (t .starts) + 2) true) (h .0), h .1)
 
 -- what a search answers
-pub search-answers : {s : Settings} {t : Table} {p : Parts} {parents lasts : List ℕ} {at : Progress} (rows : List ℕ) {rows' : List ℕ} {n : ℕ} {r : Answer} → Gone s t p parents lasts at
-    → (n ≡ length (rowsFor (at .best .scored .target) (reverse (chainAt parents lasts (at .best .entry))))) × (rows' ≡ placed rows (rowsFor (at .best .scored .target) (reverse (chainAt parents lasts (at .best .entry)))))
-    → r ≡ answerParts 0 n (at .best .scored) (at .count) (eqb (at .queued) 0)
-    → (r ≡ answerWith 0 (searched s t p)) × (rows' ≡ placed rows (searched s t p .rows))
-unfolding searched
-search-answers {at = at} rows g h k =
-    rw (← g .ended .best-is, ← g .ended .count-is, ← g .ended .complete-is) (k ∙ ap (λ (m : ℕ). answerParts 0 m (at .best .scored) (at .count) (eqb (at .queued) 0)) (h .0), h .1)
+module _ {s : Settings} {t : Table} {p : Parts} {links : List ℕ} {at : Progress} (g : Searched s t p links at) where
+  abbrev found : List ℕ
+  found = rowsFor (at .best .scored .target) (reverse (chainOf links (at .best .entry)))
 
-pub search-few : {s : Settings} {t : Table} {p : Parts} {parents lasts : List ℕ} {at : Progress} {n : ℕ} → Gone s t p parents lasts at
-    → n ≡ length (rowsFor (at .best .scored .target) (reverse (chainAt parents lasts (at .best .entry)))) → (n ≤ 64) × (at .count ≤ 4096)
-search-few {parents = parents} {lasts} {at} g e =
-    (omega (arith, e, rows-few (at .best .scored .target) (reverse (chainAt parents lasts (at .best .entry))), reverse-length (chainAt parents lasts (at .best .entry)), g .walk .fits), g .few)
+  pub search-answers : (rows : List ℕ) {rows' : List ℕ} {n : ℕ} {r : Answer} → (n ≡ length found) × (rows' ≡ placed rows found)
+      → r ≡ answerParts 0 n (at .best .scored) (at .count) (eqb (at .queued) 0)
+      → (r ≡ answerWith 0 (searched s t p)) × (rows' ≡ placed rows (searched s t p .rows))
+  unfolding searched
+  search-answers rows h k =
+      rw (← g .ended .best-is, ← g .ended .count-is, ← g .ended .complete-is) (k ∙ ap (λ (m : ℕ). answerParts 0 m (at .best .scored) (at .count) (eqb (at .queued) 0)) (h .0), h .1)
+
+  pub search-few : {n : ℕ} → n ≡ length found → (n ≤ 64) × (at .count ≤ 4096)
+  search-few e =
+      let c = chainOf links (at .best .entry) in
+      (omega (arith, e, rows-few (at .best .scored .target) (reverse c), reverse-length c, g .read .walk .fits), g .read .few)
 
 -- ---- by the checks
 
@@ -75,7 +77,8 @@ module _ (c : Call) where
       (hr ∙ ap (λ (y : Scored). answerParts (suc n) 0 y 0 false) hx ∙ answer-at (suc n) e, ap (λ (l : List ℕ). l ++ drop (length l) rows) (rows-at (suc n) e))
 
   module _ (e : firstFault c ≡ 0) where
-    with-rows : {r : Answer} (rows : List ℕ) {rows' : List ℕ} → (r ≡ answerWith 0 (foundAfter 0 c)) × (rows' ≡ placed rows (foundAfter 0 c .rows)) → (r ≡ answerOf c) × (rows' ≡ placed rows (rowsOf c))
+    with-rows : {r : Answer} (rows : List ℕ) {rows' : List ℕ} → (r ≡ answerWith 0 (foundAfter 0 c)) × (rows' ≡ placed rows (foundAfter 0 c .rows))
+        → (r ≡ answerOf c) × (rows' ≡ placed rows (rowsOf c))
     with-rows rows h = (h .0 ∙ answer-at 0 (sym e), h .1 ∙ ap (λ (l : List ℕ). placed rows l) (rows-at 0 (sym e)))
 
     pub searched-accepted : {r : Answer} (rows : List ℕ) {rows' : List ℕ} → inSearchMode c ≡ true
@@ -96,14 +99,9 @@ module _ (c : Call) where
         let z : _≡_ {A = ℕ} 0 1 = cc in
         absurd (omega arith)
 
-pub startable : {s : Settings} {t : Table} {p : Parts} (parents lasts keys : List ℕ) (a : ℕ) → firstFault (callOf s t p (queueRoom parents lasts keys) a) ≡ 0 → searchMode s (length (t .starts)) ≡ true
-    → Startable s t p (length parents) (length lasts) (length keys)
-startable {s} {t} {p} parents lasts keys a e m =
-    let c = callOf s t p (queueRoom parents lasts keys) a in
+pub startable : {s : Settings} {t : Table} {p : Parts} (links keys : List ℕ) (a : ℕ) → firstFault (callOf s t p (queueRoom links keys) a) ≡ 0 → searchMode s (length (t .starts)) ≡ true
+    → Startable s t p (length links) (length keys)
+startable {s} {t} {p} links keys a e m =
+    let c = callOf s t p (queueRoom links keys) a in
     let h = queue-suffices c e m in
-    record {
-      checked = accepted c e;
-      parent-room = omega (arith, h);
-      last-room = omega (arith, h);
-      key-room = omega (arith, h);
-    }
+    record { checked = accepted c e; link-room = omega (arith, h); key-room = omega (arith, h) }

@@ -1,5 +1,8 @@
 -- What the proofs of several functions use.
 pub mod GraphLaws
+pub mod TogetherLaws
+pub mod LinkLaws
+mod StopLaws
 mod CappedLaws
 pub mod WordLaws
 pub mod SimilarityLaws
@@ -8,6 +11,7 @@ pub mod RowSumLaws
 pub mod SizeSumLaws
 pub mod PartLaws
 pub mod CodeLaws
+mod CodedLaws
 pub mod VerdictLaws
 pub mod OneToOneLaws
 pub mod LayLaws
@@ -19,6 +23,7 @@ mod ScanLaws
 mod ExtensionLaws
 mod WeighLaws
 mod StepLaws
+mod SearchedLaws
 mod PlaceLaws
 pub mod FoundLaws
 mod CountedLaws

@@ -70,9 +70,9 @@ rowsOf c = foundAfter (firstFault c) c .rows
 unfoldable pub placed : List ℕ → List ℕ → List ℕ
 placed buffer rows = rows ++ drop (length rows) buffer
 
--- queue room is the shortest of the queue's slices
-abbrev pub queueRoom : List ℕ → List ℕ → List ℕ → ℕ
-queueRoom parents lastRows keys = min (length parents) (min (length lastRows) (length keys))
+-- queue room is the shorter of the queue's slices
+abbrev pub queueRoom : List ℕ → List ℕ → ℕ
+queueRoom links keys = min (length links) (length keys)
 
 -- the queue's slices are written by a search only
 unfoldable pub searches : Call → Bool

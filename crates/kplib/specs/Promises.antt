@@ -17,20 +17,19 @@ abbrev pub CountChainsPromise : List ℕ → List ℕ → Bool → ℕ → Chain
 CountChainsPromise starts ends full cap r = r ≡ cappedCount starts ends full cap
 
 -- the call that the settings and the lent slices make
-abbrev pub callLent : Settings → List ℕ → List ℕ → List ℤ → List ℤ → List ℤ → List ℤ → List ℕ → List ℕ → List ℕ → List ℕ → Call
-callLent s starts ends sizes features partSizes partFeatures parents lastRows keys rows =
-    callOf s (tableOf starts ends sizes features) (partsOf partSizes partFeatures) (queueRoom parents lastRows keys) (length rows)
+abbrev pub callLent : Settings → List ℕ → List ℕ → List ℤ → List ℤ → List ℤ → List ℤ → List ℕ → List ℕ → List ℕ → Call
+callLent s starts ends sizes features partSizes partFeatures links keys rows =
+    callOf s (tableOf starts ends sizes features) (partsOf partSizes partFeatures) (queueRoom links keys) (length rows)
 
 -- a slice of the queue, which only a search may write
 abbrev pub QueueKept : Call → List ℕ → List ℕ → Type 0
 QueueKept c old new = searches c ≡ false → new ≡ old
 
-abbrev pub ApplyHaplotypePromise : Settings → List ℕ → List ℕ → List ℤ → List ℤ → List ℤ → List ℤ → List ℕ → List ℕ → List ℕ → List ℕ
-    → List ℕ → List ℕ → List ℕ → List ℕ → Answer → Type 0
-ApplyHaplotypePromise s starts ends sizes features partSizes partFeatures parents lastRows keys rows parents' lastRows' keys' rows' r =
-    let c = callLent s starts ends sizes features partSizes partFeatures parents lastRows keys rows in
+abbrev pub ApplyHaplotypePromise : Settings → List ℕ → List ℕ → List ℤ → List ℤ → List ℤ → List ℤ → List ℕ → List ℕ → List ℕ
+    → List ℕ → List ℕ → List ℕ → Answer → Type 0
+ApplyHaplotypePromise s starts ends sizes features partSizes partFeatures links keys rows links' keys' rows' r =
+    let c = callLent s starts ends sizes features partSizes partFeatures links keys rows in
     (r ≡ answerOf c)
     × ((rows' ≡ placed rows (rowsOf c))
-    × (QueueKept c parents parents'
-    × (QueueKept c lastRows lastRows'
-    × QueueKept c keys keys')))
+    × (QueueKept c links links'
+    × QueueKept c keys keys'))

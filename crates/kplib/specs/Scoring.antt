@@ -5,17 +5,20 @@ use mathlib.Core.Bool.{Bool, true, false, cond, not, _&&_}
 use mathlib.Core.List.{List, [], _∷_, _++_, map}
 use lib.Dec.{eqb}
 use lib.IntN.{ℤ, pos, natAbs}
-use lib.ListN.{length, getD, take}
+use lib.ListN.{length, getD, take, drop}
 use lib.Ieee.{Float, lt, le}
 use Rattle.metrics.specs.Similarity.{whole, sizesimValue, magnitudeSum}
 use Rattle.params.specs.Checked.{Flat, Sized}
 use Rattle.params.specs.Numbers.{Table, Parts, tableOf, rowAt}
 use Rattle.kplib.specs.Parts.{positionsFrom, wholeOf, choices, fallingLists, partLists}
 use Rattle.kplib.specs.Sums.{sizeOf, featuresOf, Total}
-use Rattle.kplib.specs.Score.{sign, gapOf, scoreValue, start, afterList}
+use Rattle.kplib.specs.Score.{sign, gapOf, scoreValue, start, listScore, greaterOf}
+use Rattle.kplib.specs.OneToOne.{nodeTotal, latestOf, overNodes, noLone}
 use Rattle.params.specs.declared.Settings.{Settings}
 use Rattle.kplib.specs.declared.pathscore.Scored.{Scored}
 use Rattle.kplib.specs.declared.pathscore.Best.{Best}
+use Rattle.kplib.specs.declared.onetoone.Lone.{Lone}
+use Rattle.kplib.specs.declared.plan.Plan.{Plan}
 
 -- a table whose rows stand nowhere: a score, and one-to-one, ask only for sizes and features
 abbrev pub unplaced : List ℤ → List ℤ → Table
@@ -138,17 +141,28 @@ abbrev pub chainTotal : ℕ → List ℤ → List ℕ → ℤ → Total
 unfolding featuresOf
 chainTotal e features chain size = total size (featuresOf e features chain) (length chain)
 
+-- the sizes and lengths of a chain and of a list that leaves so many parts out, within the limits
+pub record Testable (chainSize : ℤ) (chainLen : ℕ) (listSize : ℤ) (listLen partial : ℕ) : Type 0 where
+  pub chain-size : natAbs chainSize ≤ 8388608
+  pub list-size : natAbs listSize ≤ 8388608
+  pub chain-few : chainLen ≤ 64
+  pub list-few : listLen ≤ 64
+  pub partial-few : partial ≤ 64
+
 -- a summed chain and a summed list, within what the similarities take
 pub record Comparable (s : Settings) (chainSize : ℤ) (chainRow : List ℤ) (chainLen : ℕ) (listSize : ℤ) (listRow : List ℤ) (listLen partial : ℕ) : Type 0 where
   pub minkfreq : s .minkfreq ≤ 16777216
   pub widths : length chainRow ≡ length listRow
   pub chain-row : magnitudeSum chainRow ≤ 8388608
   pub list-row : magnitudeSum listRow ≤ 8388608
-  pub chain-size : natAbs chainSize ≤ 8388608
-  pub list-size : natAbs listSize ≤ 8388608
-  pub chain-few : chainLen ≤ 64
-  pub list-few : listLen ≤ 64
-  pub partial-few : partial ≤ 64
+  pub tests : Testable chainSize chainLen listSize listLen partial
+
+-- a summed chain and a summed list of so many parts in one slice, the chain's row in front
+pub record Paired (plan : Plan) (chainSize : ℤ) (chainLen : ℕ) (listSize : ℤ) (listLen : ℕ) (rows : List ℤ) : Type 0 where
+  pub short : plan .width ≤ 4096
+  pub rows-are : length rows ≡ plan .width + plan .width
+  pub most : listLen ≤ plan .m
+  pub comparable : Comparable (plan .s) chainSize (take (plan .width) rows) chainLen listSize (drop (plan .width) rows) listLen (plan .m - listLen)
 
 -- whether a list passes the sign and size tests and, were its seqsim 1.0, would score above the best
 unfoldable pub mayWin : Settings → ℤ → ℕ → ℤ → ℕ → ℕ → Float → Bool
@@ -157,22 +171,57 @@ mayWin s chainSize chainLen listSize listLen partial best =
     eqb (sign chainSize) (sign listSize)
     && (not (lt size (s .sizesim)) && not (le (scoreValue s (whole 1) size partial (gapOf (s .squish) listLen chainLen)) best))
 
--- one laid list about to be tried against a chain, with the scratch
-pub record Attempt (s : Settings) (features : List ℤ) (chain : List ℕ) (chainSize : ℤ) (p : Parts) (code : ℕ) (size : ℤ) (chosen : List ℕ) (chainRow listRow : List ℤ) (summed : Bool) : Type 0 where
-  pub minkfreq : s .minkfreq ≤ 16777216
-  pub chained : Summable (4 ^ s .k) features chain
-  pub chain-size : natAbs chainSize ≤ 8388608
-  pub part-sized : Sized (p .sizes)
-  pub part-rows : Flat (length (p .sizes)) (4 ^ s .k) (p .features)
-  pub listed : LaidList (p .sizes) code size (listOfCode (length (p .sizes)) code)
-  pub room : 64 ≤ length chosen
-  pub chain-row : length chainRow ≡ 4 ^ s .k
-  pub list-row : length listRow ≡ 4 ^ s .k
-  pub ready : Ready summed chainRow (featuresOf (4 ^ s .k) features chain)
+-- ---- the lists as they lie, each a code and a size
 
-pub record Attempted (s : Settings) (features : List ℤ) (chain : List ℕ) (chainSize : ℤ) (p : Parts) (list : List ℕ) (best : Scored) (r : Best) (chainRow : List ℤ) : Type 0 where
-  pub best-is : r .scored ≡ afterList s p (chainTotal (4 ^ s .k) features chain chainSize) best list
-  pub ready : Ready (r .summed) chainRow (featuresOf (4 ^ s .k) features chain)
+-- a plan within the limits, whose rows have 4^k entries
+pub record Planned (plan : Plan) : Type 0 where
+  pub minkfreq : plan .s .minkfreq ≤ 16777216
+  pub width-is : plan .width ≡ 4 ^ plan .s .k
+  pub few : plan .m ≤ 64
+
+-- what a code and a size say of a list of m parts
+pub record CodedList (m code : ℕ) (size : ℤ) : Type 0 where
+  pub count-is : code / 65536 ≡ length (listOfCode m code)
+  pub within : Below m (listOfCode m code)
+  pub most : code / 65536 ≤ m
+  pub size-small : natAbs size ≤ 8388608
+
+pub record Coded (m : ℕ) (codes : List ℕ) (sizes : List ℤ) : Type 0 where
+  pub alike : length sizes ≡ length codes
+  pub each : (i : ℕ) → i < length codes → CodedList m (getD codes i 0) (getD sizes i (pos 0))
+
+-- the best after one more list
+unfoldable pub afterCode : Plan → List ℤ → Total → Scored → ℕ → ℤ → Scored
+unfolding listScore greaterOf featuresOf
+afterCode plan partFeatures chain best code size =
+    let partial = plan .m - code / 65536 in
+    greaterOf best partial (listScore (plan .s) chain (total size (featuresOf (plan .width) partFeatures (listOfCode (plan .m) code)) (code / 65536)) partial)
+
+-- and after all of them, in order
+unfoldable pub afterCodes : (Scored → ℕ → ℤ → Scored) → Scored → List ℕ → List ℤ → Scored
+afterCodes after best [] sizes = best
+afterCodes after best (code ∷ codes) [] = best
+afterCodes after best (code ∷ codes) (size ∷ sizes) = afterCodes after (after best code size) codes sizes
+
+-- a chain, by its total, against the lists as they lie
+unfoldable pub codedScore : Plan → List ℤ → List ℕ → List ℤ → Total → Scored
+unfolding afterCodes afterCode
+codedScore plan partFeatures codes sizes chain = afterCodes (afterCode plan partFeatures chain) start codes sizes
+
+-- one laid list about to be tried against a chain, with the scratch: its front is the chain's row, its rest the list's
+pub record Attempt (plan : Plan) (features : List ℤ) (chain : List ℕ) (chainSize : ℤ) (partFeatures : List ℤ) (code : ℕ) (size : ℤ) (chosen : List ℕ) (scratch : List ℤ) (summed : Bool) : Type 0 where
+  pub planned : Planned plan
+  pub chained : Summable (plan .width) features chain
+  pub chain-size : natAbs chainSize ≤ 8388608
+  pub part-rows : Flat (plan .m) (plan .width) partFeatures
+  pub listed : CodedList (plan .m) code size
+  pub room : 64 ≤ length chosen
+  pub scratch-is : length scratch ≡ plan .width + plan .width
+  pub ready : Ready summed (take (plan .width) scratch) (featuresOf (plan .width) features chain)
+
+pub record Attempted (plan : Plan) (features : List ℤ) (chain : List ℕ) (chainSize : ℤ) (partFeatures : List ℤ) (code : ℕ) (size : ℤ) (best : Scored) (r : Best) (scratch : List ℤ) : Type 0 where
+  pub best-is : r .scored ≡ afterCode plan partFeatures (chainTotal (plan .width) features chain chainSize) best code size
+  pub ready : Ready (r .summed) (take (plan .width) scratch) (featuresOf (plan .width) features chain)
 
 -- ---- a chain, and one-to-one
 
@@ -180,25 +229,37 @@ pub record Attempted (s : Settings) (features : List ℤ) (chain : List ℕ) (ch
 abbrev pub noneTried : Best
 noneTried = record { scored = start; summed = false }
 
--- what scoring a chain asks: its rows and size, the parts, the lists laid down, and the scratch
-pub record Scorable (s : Settings) (features : List ℤ) (chain : List ℕ) (chainSize : ℤ) (p : Parts) (codes : List ℕ) (listSizes : List ℤ) (count : ℕ) (chosen : List ℕ) (chainRow listRow : List ℤ) : Type 0 where
-  pub minkfreq : s .minkfreq ≤ 16777216
-  pub chained : Summable (4 ^ s .k) features chain
+-- what scoring a chain asks: its rows and size, the parts' rows, the lists laid down, and the scratch
+pub record Scorable (plan : Plan) (features : List ℤ) (chain : List ℕ) (chainSize : ℤ) (partFeatures : List ℤ) (codes : List ℕ) (listSizes : List ℤ) (chosen : List ℕ) (scratch : List ℤ) : Type 0 where
+  pub planned : Planned plan
+  pub chained : Summable (plan .width) features chain
   pub chain-size : natAbs chainSize ≤ 8388608
-  pub part-sized : Sized (p .sizes)
-  pub part-rows : Flat (length (p .sizes)) (4 ^ s .k) (p .features)
-  pub laid : LaidDown s (p .sizes) codes listSizes count
+  pub part-rows : Flat (plan .m) (plan .width) partFeatures
+  pub coded : Coded (plan .m) codes listSizes
   pub room : 64 ≤ length chosen
-  pub chain-row : length chainRow ≡ 4 ^ s .k
-  pub list-row : length listRow ≡ 4 ^ s .k
+  pub scratch-is : length scratch ≡ plan .width + plan .width
 
 pub record Matchable (s : Settings) (t : Table) (p : Parts) (chosen : List ℕ) (wholeRow : List ℤ) : Type 0 where
   pub tables : Tables s t p
   pub room : 64 ≤ length chosen
   pub whole-row : length wholeRow ≡ 4 ^ s .k
 
+-- a node alone against the whole haplotype, whose row is summed
+unfoldable pub scoreAlone : Plan → List ℤ → Total → Scored
+unfolding listScore greaterOf
+scoreAlone plan wholeRow node = greaterOf start 0 (listScore (plan .s) node (total (plan .target) wholeRow (plan .m)) 0)
+
+-- the best node
+unfoldable pub bestAlone : Plan → List ℤ → List ℤ → List ℤ → Lone
+unfolding scoreAlone
+bestAlone plan sizes features wholeRow =
+    overNodes (λ best node. latestOf best node (scoreAlone plan wholeRow (nodeTotal (plan .width) sizes features node))) noLone 0 (length sizes + 2)
+
 -- the whole haplotype summed, before the rows are gone through
-pub record Matching (s : Settings) (t : Table) (p : Parts) (wholeRow : List ℤ) (wholeSize : ℤ) : Type 0 where
-  pub tables : Tables s t p
-  pub row-is : wholeRow ≡ featuresOf (4 ^ s .k) (p .features) (wholeOf (length (p .sizes)))
-  pub size-is : wholeSize ≡ sizeOf (p .sizes) (wholeOf (length (p .sizes)))
+pub record Matching (plan : Plan) (sizes features wholeRow : List ℤ) : Type 0 where
+  pub planned : Planned plan
+  pub target-small : natAbs (plan .target) ≤ 8388608
+  pub sized : Sized sizes
+  pub rows : Flat (length sizes) (plan .width) features
+  pub width-is : length wholeRow ≡ plan .width
+  pub whole-sum : magnitudeSum wholeRow ≤ 8388608

@@ -1,29 +1,31 @@
 -- What the functions behind the search ask and promise one another. No public promise cites this file.
-use Prim.Native.Nat.{ℕ, zero, suc, _+_, _-_, _*_, _^_, _≤_, _<_}
+use Prim.Native.Nat.{ℕ, zero, suc, _+_, _-_, _*_, _/_, _%_, _≤_, _<_}
 use mathlib.Core.Path.{_≡_}
 use mathlib.Core.Bool.{Bool, true, false, cond}
-use mathlib.Core.List.{List, reverse}
+use mathlib.Core.List.{List, map, reverse}
 use lib.Dec.{eqb}
 use lib.Ieee.{le}
 use lib.IntN.{ℤ, natAbs}
 use lib.ListN.{length, take}
 use Rattle.paths.specs.Chains.{firstAfter}
+use Rattle.paths.specs.Count.{mayFollow}
 use Rattle.paths.specs.Queue.{chainAt, Walk, Queue, Running, Ended}
-use Rattle.params.specs.Checked.{Sized, Checked}
+use Rattle.params.specs.Checked.{Flat, Sized, Checked}
 use Rattle.params.specs.Numbers.{Table, Parts}
-use Rattle.kplib.specs.Sums.{sizeOf}
-use Rattle.kplib.specs.Score.{chainScore}
-use Rattle.kplib.specs.Scoring.{Below, Tables, LaidDown}
-use Rattle.kplib.specs.Graph.{mayFollowIn}
-use Rattle.kplib.specs.Search.{distanceTo, haplotypeSize, resultWith, startResult, noLower, followsIn, distanceIn, resultOf}
+use Rattle.kplib.specs.Sums.{sizeOf, featuresOf, totalOf}
+use Rattle.kplib.specs.Score.{start}
+use Rattle.kplib.specs.Scoring.{Below, Planned, Coded, codedScore}
+use Rattle.kplib.specs.GraphWalk.{flagOf}
+use Rattle.kplib.specs.Search.{Result, distanceTo, resultWith, startResult, noLower, followsIn, distanceIn, resultOf}
 use Rattle.params.specs.declared.Settings.{Settings}
 use Rattle.kplib.specs.declared.pathscore.Scored.{Scored}
 use Rattle.kplib.specs.declared.pathscore.Target.{Target}
 use Rattle.kplib.specs.declared.pathscore.Target.the-variants.{Nothing, Whole, Partial}
 use Rattle.kplib.specs.declared.traverse.Answer.{Answer}
-use Rattle.kplib.specs.declared.traverse.Leader.{Leader}
-use Rattle.kplib.specs.declared.traverse.Weighed.{Weighed}
-use Rattle.kplib.specs.declared.traverse.Progress.{Progress}
+use Rattle.kplib.specs.declared.steps.Leader.{Leader}
+use Rattle.kplib.specs.declared.steps.Weighed.{Weighed}
+use Rattle.kplib.specs.declared.steps.Progress.{Progress}
+use Rattle.kplib.specs.declared.plan.Plan.{Plan}
 
 -- the fields of an answer
 abbrev pub answerParts : ℕ → ℕ → Scored → ℕ → Bool → Answer
@@ -68,65 +70,133 @@ pub record Rowed (sizes : List ℤ) (rows : List ℕ) : Type 0 where
   pub within : Below (length sizes) rows
   pub most : length rows ≤ 64
 
+-- ---- the queue's links
+
+-- a link is parent x 64 + row
+abbrev pub parentsOf : List ℕ → List ℕ
+parentsOf links = map (λ l. l / 64) links
+
+abbrev pub lastsOf : List ℕ → List ℕ
+lastsOf links = map (λ l. l % 64) links
+
+-- the chain of entry e, last row first
+abbrev pub chainOf : List ℕ → ℕ → List ℕ
+chainOf links e = chainAt (parentsOf links) (lastsOf links) e
+
+-- ---- what the steps are told
+
+pub record Told : Type 0 where
+  pub plan : Plan
+  pub together : List Bool
+  pub sizes : List ℤ
+  pub features : List ℤ
+  pub partFeatures : List ℤ
+  pub codes : List ℕ
+  pub listSizes : List ℤ
+
+abbrev pub told : Plan → List Bool → List ℤ → List ℤ → List ℤ → List ℕ → List ℤ → Told
+told plan together sizes features partFeatures codes listSizes = record {
+  plan = plan;
+  together = together;
+  sizes = sizes;
+  features = features;
+  partFeatures = partFeatures;
+  codes = codes;
+  listSizes = listSizes;
+}
+
+-- the graph's rule by the flags, the distance to the target, and a chain's score and result by the lists as they lie
+abbrev pub followsBy : Plan → List Bool → List ℕ → ℕ → Bool
+followsBy plan together = mayFollow (flagOf together) (plan .s .full)
+
+unfoldable pub scoreBy : Plan → List ℤ → List ℤ → List ℤ → List ℕ → List ℤ → List ℕ → Scored
+unfolding codedScore sizeOf featuresOf
+scoreBy plan sizes features partFeatures codes listSizes rows = codedScore plan partFeatures codes listSizes (totalOf (plan .width) sizes features rows)
+
+module _ (q : Told) where
+  abbrev pub followsTold : List ℕ → ℕ → Bool
+  followsTold = followsBy (q .plan) (q .together)
+
+  abbrev pub distanceTold : List ℕ → ℕ
+  distanceTold = distanceTo (q .sizes) (q .plan .target)
+
+  unfoldable pub resultTold : List ℕ → Result
+  resultTold c = resultWith (reverse c) (scoreBy (q .plan) (q .sizes) (q .features) (q .partFeatures) (q .codes) (q .listSizes) (reverse c))
+
 -- an entry whose extensions are to be queued
-pub record Extending (starts ends : List ℕ) (sizes : List ℤ) (full : Bool) (target : ℤ) (parents lasts keys : List ℕ) (used queued entry end : ℕ) (size : ℤ) : Type 0 where
-  pub parent-room : used + length starts ≤ length parents
-  pub last-room : used + length starts ≤ length lasts
-  pub key-room : queued + length starts ≤ length keys
-  pub few-entries : used + length starts ≤ 1048576
-  pub few : length starts ≤ 64
-  pub ends-are : length ends ≡ length starts
-  pub sizes-are : length sizes ≡ length starts
+pub record Extending (plan : Plan) (together : List Bool) (sizes : List ℤ) (links keys : List ℕ) (used queued entry end : ℕ) (size : ℤ) : Type 0 where
+  pub link-room : used + length sizes ≤ length links
+  pub key-room : queued + length sizes ≤ length keys
+  pub few-entries : used + length sizes ≤ 1048576
   pub sized : Sized sizes
-  pub target-small : natAbs target ≤ 8388608
+  pub target-small : natAbs (plan .target) ≤ 8388608
   pub entry-in : entry < used
-  pub end-is : end ≡ firstAfter (chainAt parents lasts entry)
-  pub size-is : size ≡ sizeOf sizes (reverse (chainAt parents lasts entry))
-  pub queue : Queue (mayFollowIn starts ends full) (length starts) (distanceTo sizes target) parents lasts (take queued keys) used
+  pub end-is : end ≡ firstAfter (chainOf links entry)
+  pub size-is : size ≡ sizeOf sizes (reverse (chainOf links entry))
+  pub queue : Queue (followsBy plan together) (length sizes) (distanceTo sizes (plan .target)) (parentsOf links) (lastsOf links) (take queued keys) used
 
 -- an entry whose chain is to be scored
-pub record Weighable (s : Settings) (t : Table) (p : Parts) (codes : List ℕ) (listSizes : List ℤ) (count : ℕ) (parents lasts : List ℕ) (entry : ℕ) (chainRow listRow : List ℤ) : Type 0 where
-  pub tables : Tables s t p
-  pub laid : LaidDown s (p .sizes) codes listSizes count
-  pub walk : Walk parents lasts entry 64
-  pub within : Below (length (t .sizes)) (reverse (chainAt parents lasts entry))
-  pub most : length (reverse (chainAt parents lasts entry)) ≤ 64
-  pub chain-row : length chainRow ≡ 4 ^ s .k
-  pub list-row : length listRow ≡ 4 ^ s .k
+pub record Weighable (plan : Plan) (sizes features partFeatures : List ℤ) (codes : List ℕ) (listSizes : List ℤ) (links : List ℕ) (entry : ℕ) (scratch : List ℤ) : Type 0 where
+  pub planned : Planned plan
+  pub sized : Sized sizes
+  pub rows : Flat (length sizes) (plan .width) features
+  pub part-rows : Flat (plan .m) (plan .width) partFeatures
+  pub coded : Coded (plan .m) codes listSizes
+  pub walk : Walk (parentsOf links) (lastsOf links) entry 64
+  pub within : Below (length sizes) (reverse (chainOf links entry))
+  pub most : length (reverse (chainOf links entry)) ≤ 64
+  pub scratch-is : length scratch ≡ plan .width + plan .width
 
-pub record WeighedAs (s : Settings) (t : Table) (p : Parts) (rows : List ℕ) (r : Weighed) : Type 0 where
-  pub size-is : r .size ≡ sizeOf (t .sizes) rows
-  pub scored-is : r .scored ≡ chainScore s t p rows
+pub record WeighedAs (plan : Plan) (sizes features partFeatures : List ℤ) (codes : List ℕ) (listSizes : List ℤ) (rows : List ℕ) (r : Weighed) : Type 0 where
+  pub size-is : r .size ≡ sizeOf sizes rows
+  pub scored-is : r .scored ≡ scoreBy plan sizes features partFeatures codes listSizes rows
 
 -- what does not change in a search
-pub record Searchable (s : Settings) (t : Table) (p : Parts) (target : ℤ) (codes : List ℕ) (listSizes : List ℤ) (count parentRoom lastRoom keyRoom chainRoom listRoom : ℕ) : Type 0 where
-  pub checked : Checked s t p
-  pub laid : LaidDown s (p .sizes) codes listSizes count
-  pub target-is : target ≡ haplotypeSize (p .sizes)
-  pub parent-room : 1 + (s .maxpaths + 1) * length (t .starts) ≤ parentRoom
-  pub last-room : 1 + (s .maxpaths + 1) * length (t .starts) ≤ lastRoom
-  pub key-room : 1 + (s .maxpaths + 1) * length (t .starts) ≤ keyRoom
-  pub chain-row : chainRoom ≡ 4 ^ s .k
-  pub list-row : listRoom ≡ 4 ^ s .k
+pub record Searchable (q : Told) (linkRoom keyRoom scratchRoom : ℕ) : Type 0 where
+  pub planned : Planned (q .plan)
+  pub target-small : natAbs (q .plan .target) ≤ 8388608
+  pub maxpaths : q .plan .s .maxpaths ≤ 4095
+  pub sized : Sized (q .sizes)
+  pub rows : Flat (length (q .sizes)) (q .plan .width) (q .features)
+  pub part-rows : Flat (q .plan .m) (q .plan .width) (q .partFeatures)
+  pub coded : Coded (q .plan .m) (q .codes) (q .listSizes)
+  pub link-room : 1 + (q .plan .s .maxpaths + 1) * length (q .sizes) ≤ linkRoom
+  pub key-room : 1 + (q .plan .s .maxpaths + 1) * length (q .sizes) ≤ keyRoom
+  pub scratch-is : scratchRoom ≡ q .plan .width + q .plan .width
+
+-- before the first step: the empty chain is queued
+abbrev pub notBegun : Progress
+notBegun = record { used = 1; queued = 1; count = 0; best = record { entry = 0; scored = start } }
+
+-- the result of the best chain so far
+abbrev pub bestAt : List ℕ → Progress → Result
+bestAt links at = resultWith (reverse (chainOf links (at .best .entry))) (at .best .scored)
 
 -- where a search stands
-pub record Going (s : Settings) (t : Table) (p : Parts) (parents lasts keys : List ℕ) (at : Progress) : Type 0 where
+pub record Going (q : Told) (links keys : List ℕ) (at : Progress) : Type 0 where
   pub best-in : at .best .entry < at .used
   pub queued-in : at .queued ≤ length keys
-  pub run : Running noLower startResult (resultOf s t p) (followsIn s t p) (length (t .starts)) (distanceIn s t p) (s .maxpaths + 1) parents lasts (take (at .queued) keys) (at .used) (at .count)
-      (resultWith (reverse (chainAt parents lasts (at .best .entry))) (at .best .scored))
+  pub run : Running noLower startResult (resultTold q) (followsTold q) (length (q .sizes)) (distanceTold q) (q .plan .s .maxpaths + 1) (parentsOf links) (lastsOf links) (take (at .queued) keys)
+      (at .used) (at .count) (bestAt links at)
+
+-- the chain of the best can be read back
+pub record BestRead (v : ℕ) (links : List ℕ) (at : Progress) : Type 0 where
+  pub walk : Walk (parentsOf links) (lastsOf links) (at .best .entry) 64
+  pub short : length (chainOf links (at .best .entry)) ≤ v
+  pub few : at .count ≤ 4096
 
 -- where it ends
-pub record Gone (s : Settings) (t : Table) (p : Parts) (parents lasts : List ℕ) (at : Progress) : Type 0 where
-  pub walk : Walk parents lasts (at .best .entry) 64
-  pub short : length (chainAt parents lasts (at .best .entry)) ≤ length (t .starts)
-  pub few : at .count ≤ 4096
-  pub ended : Ended noLower startResult (resultOf s t p) (followsIn s t p) (length (t .starts)) (distanceIn s t p) (s .maxpaths + 1) (at .count)
-      (resultWith (reverse (chainAt parents lasts (at .best .entry))) (at .best .scored)) (eqb (at .queued) 0)
+pub record Gone (q : Told) (links : List ℕ) (at : Progress) : Type 0 where
+  pub read : BestRead (length (q .sizes)) links at
+  pub ended : Ended noLower startResult (resultTold q) (followsTold q) (length (q .sizes)) (distanceTold q) (q .plan .s .maxpaths + 1) (at .count) (bestAt links at) (eqb (at .queued) 0)
 
 -- what a search is begun with
-pub record Startable (s : Settings) (t : Table) (p : Parts) (parentRoom lastRoom keyRoom : ℕ) : Type 0 where
+pub record Startable (s : Settings) (t : Table) (p : Parts) (linkRoom keyRoom : ℕ) : Type 0 where
   pub checked : Checked s t p
-  pub parent-room : 1 + (s .maxpaths + 1) * length (t .starts) ≤ parentRoom
-  pub last-room : 1 + (s .maxpaths + 1) * length (t .starts) ≤ lastRoom
+  pub link-room : 1 + (s .maxpaths + 1) * length (t .starts) ≤ linkRoom
   pub key-room : 1 + (s .maxpaths + 1) * length (t .starts) ≤ keyRoom
+
+-- and what it ends with, in document 01's words
+pub record Searched (s : Settings) (t : Table) (p : Parts) (links : List ℕ) (at : Progress) : Type 0 where
+  pub read : BestRead (length (t .starts)) links at
+  pub ended : Ended noLower startResult (resultOf s t p) (followsIn s t p) (length (t .starts)) (distanceIn s t p) (s .maxpaths + 1) (at .count) (bestAt links at) (eqb (at .queued) 0)

@@ -2,6 +2,8 @@
 mod haplotype;
 mod onetoone;
 pub mod pathscore;
+mod plan;
 mod queue;
+mod steps;
 pub mod traverse;
 pub mod vargraph;

@@ -4,14 +4,15 @@ ghost use Prim.Native.Nat.{_≤_};
 ghost use Rattle.params.specs.Numbers.{partsOf};
 ghost use Rattle.kplib.specs.Graph.{nodeOf};
 ghost use Rattle.kplib.specs.OneToOne.{latestOf, oneToOne};
-ghost use Rattle.kplib.specs.Scoring.{unplaced, Matchable, Matching};
+ghost use Rattle.kplib.specs.Scoring.{unplaced, bestAlone, Matchable, Matching};
 use crate::haplotype::all_positions;
 use crate::haplotype::whole_size;
 use crate::pathscore::Scored;
 use crate::pathscore::greater_of;
 use crate::pathscore::list_score;
 use crate::pathscore::nothing;
-use crate::pathscore::sum_rows;
+use crate::pathscore::sum_features;
+use crate::plan::Plan;
 use crate::vargraph::Row;
 use params::Settings;
 
@@ -37,30 +38,31 @@ fn latest_of(best: Lone, row: Row, x: Scored) -> Lone
 }
 
 // Each row against the summed whole haplotype. Source and sink are left out: no anchor is ever chosen.
-fn match_rows(
-    s: Settings,
-    sizes: &[i32],
-    features: &[i32],
-    part_sizes: &[i32],
-    part_features: &[i32],
-    whole_row: &[i32],
-    whole_size: i32,
-) -> Lone
-    requires { ⌜ Matching s (unplaced (now sizes) (now features)) (partsOf (now «part_sizes») (now «part_features»)) (now «whole_row») «whole_size» ⌝ }
-    ensures { λ r. ⌜ r ≡ oneToOne s (unplaced (now (sizes .entry)) (now (features .entry))) (partsOf (now («part_sizes» .entry)) (now («part_features» .entry))) ⌝ }
+fn match_rows(plan: Plan, sizes: &[i32], features: &[i32], whole_row: &[i32]) -> Lone
+    requires { ⌜ Matching plan (now sizes) (now features) (now «whole_row») ⌝ }
+    ensures { λ r. ⌜ r ≡ bestAlone plan (now (sizes .entry)) (now (features .entry)) (now («whole_row» .entry)) ⌝ }
 {
     let none = nothing();
     let mut best = Lone {
         row: Row(0),
         scored: none,
     };
-    let width = whole_row.len();
-    let m = part_sizes.len();
+    let s = plan.s;
+    let width = plan.width;
     let mut r: usize = 0;
     while r < sizes.len() {
         let a = r * width;
         let e = a + width;
-        let verdict = list_score(s, sizes[r], &features[a..e], 1, whole_size, whole_row, m, 0);
+        let verdict = list_score(
+            s,
+            sizes[r],
+            &features[a..e],
+            1,
+            plan.target,
+            whole_row,
+            plan.m,
+            0,
+        );
         let x = greater_of(nothing(), 0, verdict);
         let row = Row(r as u32);
         best = latest_of(best, row, x);
@@ -83,15 +85,12 @@ pub(crate) fn one_to_one(
 {
     let m = part_sizes.len();
     all_positions(m, chosen);
-    sum_rows(part_features, &chosen[..m], whole_row);
-    let size = whole_size(part_sizes);
-    match_rows(
+    sum_features(part_features, &chosen[..m], whole_row);
+    let plan = Plan {
         s,
-        sizes,
-        features,
-        part_sizes,
-        part_features,
-        whole_row,
-        size,
-    )
+        width: whole_row.len(),
+        m,
+        target: whole_size(part_sizes),
+    };
+    match_rows(plan, sizes, features, whole_row)
 }

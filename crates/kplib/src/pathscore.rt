@@ -1,16 +1,16 @@
 // The score of a chain against the part lists of a haplotype (pathscore.rs).
 ghost use mathlib.Core.Path.{_≡_};
 ghost use mathlib.Core.Bool.{_&&_};
-ghost use Prim.Native.Nat.{_^_, _≤_};
-ghost use Rattle.params.specs.Numbers.{partsOf};
+ghost use Prim.Native.Nat.{_-_, _≤_};
 ghost use lib.Dec.{eqb};
 ghost use lib.IntN.{natAbs};
-ghost use lib.ListN.{length};
+ghost use lib.ListN.{length, take, drop};
 ghost use Rattle.metrics.specs.Similarity.{sizesimValue, magnitudeSum};
 ghost use Rattle.kplib.specs.Sums.{rowPlus, zeros, featuresFrom, featuresOf};
-ghost use Rattle.kplib.specs.Score.{sign, seqsimOfRows, gapOf, scoreValue, listScore, start, targetOf, greaterOf, totalScore};
-ghost use Rattle.kplib.specs.Scoring.{Summable, Ready, Comparable, mayWin, total, chainTotal, listOfCode, Attempt, Attempted, noneTried, Scorable};
+ghost use Rattle.kplib.specs.Score.{sign, seqsimOfRows, gapOf, scoreValue, listScore, start, targetOf, greaterOf};
+ghost use Rattle.kplib.specs.Scoring.{Summable, Ready, Testable, Comparable, Paired, mayWin, total, chainTotal, codedScore, Attempt, Attempted, noneTried, Scorable};
 use crate::haplotype::positions;
+use crate::plan::Plan;
 use metrics::Sim;
 use metrics::lanes::magnitude;
 use params::Settings;
@@ -187,7 +187,7 @@ fn add_row(acc: &mut [i32], row: &[i32])
     }
 }
 
-fn clear(row: &mut [i32])
+fn clear_row(row: &mut [i32])
     ensures { λ _. ⌜ now (row .exit) ≡ zeros (length (now (row .entry))) ⌝ }
 {
     let mut i: usize = 0;
@@ -212,11 +212,11 @@ fn add_rows(table: &[i32], rows: &[u32], out: &mut [i32])
     }
 }
 
-pub(crate) fn sum_rows(table: &[i32], rows: &[u32], out: &mut [i32])
+pub(crate) fn sum_features(table: &[i32], rows: &[u32], out: &mut [i32])
     requires { ⌜ Summable (length (now out)) (now table) (now rows) ⌝ }
     ensures { λ _. ⌜ now (out .exit) ≡ featuresOf (length (now (out .entry))) (now (table .entry)) (now (rows .entry)) ⌝ }
 {
-    clear(out);
+    clear_row(out);
     add_rows(table, rows, out);
 }
 
@@ -228,7 +228,7 @@ fn ready(table: &[i32], chain: &[u32], row: &mut [i32], summed: bool)
     if summed {
         return;
     }
-    sum_rows(table, chain, row);
+    sum_features(table, chain, row);
 }
 
 // Whether a list passes the sign and size tests and could still beat the best: with seqsim 1.0 it scores no less than with its own.
@@ -241,7 +241,7 @@ fn may_win(
     partial: usize,
     best: f32,
 ) -> bool
-    requires { ⌜ (natAbs «chain_size» ≤ 8388608) × (natAbs «list_size» ≤ 8388608) × («chain_len» ≤ 64) × («list_len» ≤ 64) × (partial ≤ 64) ⌝ }
+    requires { ⌜ Testable «chain_size» «chain_len» «list_size» «list_len» partial ⌝ }
     ensures { λ r. ⌜ r ≡ mayWin s «chain_size» «chain_len» «list_size» «list_len» partial best ⌝ }
 {
     if sign_of(chain_size) != sign_of(list_size) {
@@ -255,39 +255,65 @@ fn may_win(
     !(score_value(s, 1.0, size, partial, g) <= best)
 }
 
-// One laid list against the chain.
+// A list's score against a chain. The front of `rows` is the chain's row, its rest the list's.
+fn score_rows(
+    plan: Plan,
+    chain_size: i32,
+    chain_len: usize,
+    list_size: i32,
+    list_len: usize,
+    rows: &[i32],
+) -> Verdict
+    requires { ⌜ Paired plan «chain_size» «chain_len» «list_size» «list_len» (now rows) ⌝ }
+    ensures { λ r.
+        let chain = total «chain_size» (take (plan .width) (now (rows .entry))) «chain_len» in
+        let list = total «list_size» (drop (plan .width) (now (rows .entry))) «list_len» in
+        ⌜ r ≡ listScore (plan .s) chain list (plan .m - «list_len») ⌝ }
+{
+    let w = plan.width;
+    let partial = plan.m - list_len;
+    list_score(
+        plan.s,
+        chain_size,
+        &rows[..w],
+        chain_len,
+        list_size,
+        &rows[w..],
+        list_len,
+        partial,
+    )
+}
+
+// One laid list against the chain. The front of `scratch` is the chain's row, its rest the list's.
 fn try_list(
-    s: Settings,
+    plan: Plan,
     features: &[i32],
     chain: &[u32],
     chain_size: i32,
-    part_sizes: &[i32],
     part_features: &[i32],
     code: u32,
     size: i32,
     chosen: &mut [u32],
-    chain_row: &mut [i32],
-    list_row: &mut [i32],
+    scratch: &mut [i32],
     best: Best,
 ) -> Best
-    requires { let p = partsOf (now «part_sizes») (now «part_features») in
-        ⌜ Attempt s (now features) (now chain) «chain_size» p code size (now chosen) (now «chain_row») (now «list_row») (best .summed) ⌝ }
-    ensures { λ r.
-        let p = partsOf (now («part_sizes» .entry)) (now («part_features» .entry)) in
-        ⌜ Attempted s (now (features .entry)) (now (chain .entry)) «chain_size» p (listOfCode (length (p .sizes)) code) (best .scored) r (now («chain_row» .exit)) ⌝ }
+    requires { ⌜ Attempt plan (now features) (now chain) «chain_size» (now «part_features») code size (now chosen) (now scratch) (best .summed) ⌝ }
+    ensures { λ r. ⌜ Attempted plan (now (features .entry)) (now (chain .entry)) «chain_size» (now («part_features» .entry)) code size (best .scored) r (now (scratch .exit)) ⌝ }
 {
-    let m = part_sizes.len();
+    let s = plan.s;
     let n = (code / 65536) as usize;
+    let partial = plan.m - n;
     let len = chain.len();
     let old = best.scored;
-    if !may_win(s, chain_size, len, size, n, m - n, old.score) {
+    if !may_win(s, chain_size, len, size, n, partial, old.score) {
         return best;
     }
-    let d = positions(code, m, chosen);
-    ready(features, chain, chain_row, best.summed);
-    sum_rows(part_features, &chosen[..d], list_row);
-    let verdict = list_score(s, chain_size, chain_row, len, size, list_row, n, m - n);
-    let scored = greater_of(old, m - n, verdict);
+    let w = plan.width;
+    let d = positions(code, plan.m, chosen);
+    ready(features, chain, &mut scratch[..w], best.summed);
+    sum_features(part_features, &chosen[..d], &mut scratch[w..]);
+    let verdict = score_rows(plan, chain_size, len, size, n, scratch);
+    let scored = greater_of(old, partial, verdict);
     Best {
         scored,
         summed: true,
@@ -307,40 +333,33 @@ fn none_tried() -> Best
 
 // The score of a chain of this size. The scratch is lent, so that nothing is cleared for a chain that no list passes the tests with.
 pub(crate) fn score_chain(
-    s: Settings,
+    plan: Plan,
     features: &[i32],
     chain: &[u32],
     chain_size: i32,
-    part_sizes: &[i32],
     part_features: &[i32],
     codes: &[u32],
     list_sizes: &[i32],
-    count: usize,
     chosen: &mut [u32],
-    chain_row: &mut [i32],
-    list_row: &mut [i32],
+    scratch: &mut [i32],
 ) -> Scored
-    requires { let p = partsOf (now «part_sizes») (now «part_features») in
-        ⌜ Scorable s (now features) (now chain) «chain_size» p (now codes) (now «list_sizes») count (now chosen) (now «chain_row») (now «list_row») ⌝ }
-    ensures { λ r.
-        let p = partsOf (now («part_sizes» .entry)) (now («part_features» .entry)) in
-        ⌜ r ≡ totalScore s p (chainTotal (4 ^ s .k) (now (features .entry)) (now (chain .entry)) «chain_size») ⌝ }
+    requires { ⌜ Scorable plan (now features) (now chain) «chain_size» (now «part_features») (now codes) (now «list_sizes») (now chosen) (now scratch) ⌝ }
+    ensures { λ r. ⌜ r ≡ codedScore plan (now («part_features» .entry)) (now (codes .entry)) (now («list_sizes» .entry))
+        (chainTotal (plan .width) (now (features .entry)) (now (chain .entry)) «chain_size») ⌝ }
 {
     let mut best = none_tried();
     let mut i: usize = 0;
-    while i < count {
+    while i < codes.len() {
         best = try_list(
-            s,
+            plan,
             features,
             chain,
             chain_size,
-            part_sizes,
             part_features,
             codes[i],
             list_sizes[i],
             chosen,
-            chain_row,
-            list_row,
+            scratch,
             best,
         );
         i += 1;

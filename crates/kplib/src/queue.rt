@@ -1,16 +1,18 @@
-// The queue of the search, in three lent slices. Entries are only ever added: an entry has a parent and the row that it adds to
-// the parent's chain. `keys` holds, for each entry still queued, its distance × 2^20 + its number, in the order of queueing.
+// The queue of the search, in two lent slices. Entries are only ever added: an entry's link is its parent × 64 + the row that it
+// adds to the parent's chain. `keys` holds, for each entry still queued, its distance × 2^20 + its number, in the order of queueing.
 ghost use mathlib.Core.Path.{_≡_};
 ghost use mathlib.Core.Bool.{false};
 ghost use Prim.Native.Nat.{ℕ, _+_, _-_, _<_, _≤_};
 ghost use lib.ListN.{length, getD, take, drop};
 ghost use lib.IntN.{natAbs, _-ℤ_};
 ghost use mathlib.Core.List.{reverse};
-ghost use Rattle.paths.specs.Queue.{Least, Taken, Walk, Queued, chainAt, keyOf, without};
+ghost use Rattle.paths.specs.Count.{mayFollow};
+ghost use Rattle.paths.specs.Queue.{Least, Taken, Walk, Queued, keyOf, without};
 ghost use Rattle.kplib.specs.Sums.{sizeOf};
-ghost use Rattle.kplib.specs.Graph.{mayFollowIn};
+ghost use Rattle.kplib.specs.GraphWalk.{flagOf};
 ghost use Rattle.kplib.specs.Search.{distanceTo};
-ghost use Rattle.kplib.specs.SearchSteps.{Rowed, Extending, endAt};
+ghost use Rattle.kplib.specs.SearchSteps.{parentsOf, lastsOf, chainOf, Rowed, Extending, endAt};
+use crate::plan::Plan;
 use crate::vargraph::Node;
 use crate::vargraph::Row;
 use crate::vargraph::extends;
@@ -87,16 +89,17 @@ pub(crate) fn take_next(keys: &mut [u64], queued: usize) -> usize
 }
 
 // Reads an entry's chain back through its parents to the end of `chain`, rows ascending; says where it begins.
-pub(crate) fn read_chain(parents: &[u32], lasts: &[u32], entry: usize, chain: &mut [u32]) -> usize
-    requires { do ⌜ Walk (now parents) (now lasts) entry (← ⟦chain.len()⟧) ⌝ }
-    ensures { λ r. ⌜ (r ≤ length (now (chain .exit))) × (drop r (now (chain .exit)) ≡ reverse (chainAt (now (parents .entry)) (now (lasts .entry)) entry)) ⌝ }
+pub(crate) fn read_chain(links: &[u32], entry: usize, chain: &mut [u32]) -> usize
+    requires { do ⌜ Walk (parentsOf (now links)) (lastsOf (now links)) entry (← ⟦chain.len()⟧) ⌝ }
+    ensures { λ r. ⌜ (r ≤ length (now (chain .exit))) × (drop r (now (chain .exit)) ≡ reverse (chainOf (now (links .entry)) entry)) ⌝ }
 {
     let mut at = chain.len();
     let mut i = entry;
     while i > 0 {
+        let link = links[i];
         at -= 1;
-        chain[at] = lasts[i];
-        i = parents[i] as usize;
+        chain[at] = link % 64;
+        i = (link / 64) as usize;
     }
     at
 }
@@ -134,26 +137,23 @@ pub(crate) fn rows_size(sizes: &[i32], rows: &[u32]) -> i32
 }
 
 // The node at which an entry's chain ends.
-pub(crate) fn end_node(lasts: &[u32], entry: usize) -> Node
-    requires { do ⌜ (entry < (← ⟦lasts.len()⟧)) × ((entry ≡ 0 → ⊥) → getD (now lasts) entry 0 ≤ 64) ⌝ }
-    ensures { λ r. ⌜ r .0 ≡ endAt entry (getD (now (lasts .entry)) entry 0) ⌝ }
+pub(crate) fn end_node(links: &[u32], entry: usize) -> Node
+    requires { do ⌜ entry < (← ⟦links.len()⟧) ⌝ }
+    ensures { λ r. ⌜ r .0 ≡ endAt entry (getD (lastsOf (now (links .entry))) entry 0) ⌝ }
 {
     if entry == 0 {
         return Node(0);
     }
-    node_of(Row(lasts[entry]))
+    node_of(Row(links[entry] % 64))
 }
 
 // Queues the extensions of an entry's chain, highest node first, behind the `used` entries and the `queued` keys. Returns
-// how many. `end` is the node at which the chain ends, `size` its size, `target` the haplotype's.
+// how many. `end` is the node at which the chain ends, `size` its size.
 pub(crate) fn queue_extensions(
-    starts: &[u64],
-    ends: &[u64],
+    plan: Plan,
+    together: &[bool; 4096],
     sizes: &[i32],
-    full: bool,
-    target: i32,
-    parents: &mut [u32],
-    lasts: &mut [u32],
+    links: &mut [u32],
     keys: &mut [u64],
     used: usize,
     queued: usize,
@@ -161,23 +161,24 @@ pub(crate) fn queue_extensions(
     end: Node,
     size: i32,
 ) -> usize
-    requires { ⌜ Extending (now starts) (now ends) (now sizes) full target (now parents) (now lasts) (now keys) used queued entry (end .0) size ⌝ }
+    requires { ⌜ Extending plan (now together) (now sizes) (now links) (now keys) used queued entry (end .0) size ⌝ }
     ensures { λ r.
-        let follows = mayFollowIn (now (starts .entry)) (now (ends .entry)) full in
-        let distance = distanceTo (now (sizes .entry)) target in
-        ⌜ Queued follows (length (now (starts .entry))) distance (now (parents .entry)) (now (lasts .entry)) (take queued (now (keys .entry))) used entry
-        (now (parents .exit)) (now (lasts .exit)) (take (queued + r) (now (keys .exit))) r ⌝ }
+        let follows = mayFollow (flagOf (now (together .entry))) (plan .s .full) in
+        let distance = distanceTo (now (sizes .entry)) (plan .target) in
+        ⌜ Queued follows (length (now (sizes .entry))) distance (parentsOf (now (links .entry))) (lastsOf (now (links .entry))) (take queued (now (keys .entry))) used entry
+        (parentsOf (now (links .exit))) (lastsOf (now (links .exit))) (take (queued + r) (now (keys .exit))) r ⌝ }
     ensures { λ r. ⌜ queued + r ≤ length (now (keys .exit)) ⌝ }
 {
+    let full = plan.s.full;
+    let parent = (entry as u32) * 64;
     let mut added: usize = 0;
-    let mut r = starts.len();
+    let mut r = sizes.len();
     while r > 0 {
         r -= 1;
-        if extends(starts, ends, full, end, Row(r as u32)) {
+        if extends(together, full, end, Row(r as u32)) {
             let new = used + added;
-            parents[new] = entry as u32;
-            lasts[new] = r as u32;
-            keys[queued + added] = key(size + sizes[r], target, new);
+            links[new] = parent + (r as u32);
+            keys[queued + added] = key(size + sizes[r], plan.target, new);
             added += 1;
         }
     }

@@ -1,14 +1,14 @@
-// The graph of a table of variants (vargraph.rs): an edge is a test of two rows, and no edge is stored.
+// The graph of a table of variants (vargraph.rs): an edge is a test of two rows, asked once a search for each pair.
 use metrics::overlaps;
 use metrics::refusals::ACCEPTED;
 use params::checks::count_fault;
 ghost use mathlib.Core.Path.{_≡_};
 ghost use mathlib.Core.Bool.{true};
-ghost use Prim.Native.Nat.{_-_, _<_, min};
-ghost use lib.ListN.{length};
+ghost use Prim.Native.Nat.{_-_, _<_, _≤_, min};
+ghost use lib.ListN.{length, getD};
 ghost use Rattle.paths.specs.Count.{sumRowsFrom, rowCount};
 ghost use Rattle.kplib.specs.Graph.{nodeOf, rowOf, edge, chainsOf};
-ghost use Rattle.kplib.specs.GraphWalk.{extendsAt, Rows, Walk};
+ghost use Rattle.kplib.specs.GraphWalk.{extendsAt, flagOf, Together, RowLaid, Stop, Stopping, Counting};
 ghost use Rattle.kplib.specs.Promises.{CountChainsPromise};
 
 // A variant's row in the table, from 0.
@@ -31,10 +31,36 @@ pub(crate) fn row_of(node: Node) -> Row
     Row(node.0 - 1)
 }
 
+// The flags of row r and each later row.
+fn lay_row(starts: &[u64], ends: &[u64], r: usize, together: &mut [bool; 4096])
+    requires { ⌜ (length (now ends) ≡ length (now starts)) × (length (now starts) ≤ 64) × (r < length (now starts)) × (length (now together) ≡ 4096) ⌝ }
+    ensures { λ _. ⌜ RowLaid (edge (now (starts .entry)) (now (ends .entry))) (length (now (starts .entry))) r (now (together .entry)) (now (together .exit)) ⌝ }
+{
+    let mut s = r + 1;
+    while s < starts.len() {
+        together[64 * r + s] = !overlaps(starts[r], ends[r], starts[s], ends[s]);
+        s += 1;
+    }
+}
+
+// Which pairs of rows may stand together: the flag of rows r and s, the later last, at 64 r + s.
+pub(crate) fn pairs_together(starts: &[u64], ends: &[u64]) -> [bool; 4096]
+    requires { ⌜ (length (now ends) ≡ length (now starts)) × (length (now starts) ≤ 64) ⌝ }
+    ensures { λ r. ⌜ Together (edge (now (starts .entry)) (now (ends .entry))) (length (now (starts .entry))) r ⌝ }
+{
+    let mut together = [false; 4096];
+    let mut r: usize = 0;
+    while r < starts.len() {
+        lay_row(starts, ends, r, &mut together);
+        r += 1;
+    }
+    together
+}
+
 // Whether the row extends a chain that ends at this node, the empty chain ending at the source.
-pub(crate) fn extends(starts: &[u64], ends: &[u64], full: bool, end: Node, row: Row) -> bool
-    requires { ⌜ Rows (now starts) (now ends) (end .0) (row .0) ⌝ }
-    ensures { λ r. ⌜ r ≡ extendsAt (edge (now (starts .entry)) (now (ends .entry))) full (end .0) (row .0) ⌝ }
+pub(crate) fn extends(together: &[bool; 4096], full: bool, end: Node, row: Row) -> bool
+    requires { ⌜ (end .0 ≤ 64) × (row .0 < 64) ⌝ }
+    ensures { λ r. ⌜ r ≡ extendsAt (flagOf (now (together .entry))) full (end .0) (row .0) ⌝ }
 {
     if !full {
         return false;
@@ -46,37 +72,69 @@ pub(crate) fn extends(starts: &[u64], ends: &[u64], full: bool, end: Node, row: 
     if row.0 <= last.0 {
         return false;
     }
-    let r = last.0 as usize;
-    let s = row.0 as usize;
-    !overlaps(starts[r], ends[r], starts[s], ends[s])
+    together[64 * (last.0 as usize) + (row.0 as usize)]
 }
 
-// How many chains go on from a chain that ends at this node by this row or a later one; at most cap.
-fn count_rows(starts: &[u64], ends: &[u64], end: Node, row: Row, cap: u32) -> u32
-    requires { ⌜ Walk (now starts) (now ends) (end .0) (row .0) cap ⌝ }
-    ensures { λ r.
-        let linked = edge (now (starts .entry)) (now (ends .entry)) in
-        let v = length (now (starts .entry)) in
-        ⌜ r ≡ min cap (sumRowsFrom (extendsAt linked true (end .0)) (rowCount linked v) (v - row .0) (row .0)) ⌝ }
+// One more than the last row that may stand with row r, or 0 where no later row may.
+fn stop_after(together: &[bool; 4096], v: usize, r: usize) -> u32
+    requires { ⌜ (v ≤ 64) × (r < v) ⌝ }
+    ensures { λ stop. ⌜ Stop (flagOf (now (together .entry))) v (nodeOf r) stop ⌝ }
+{
+    let mut s = v;
+    while s > r + 1 {
+        s -= 1;
+        if together[64 * r + s] {
+            return (s as u32) + 1;
+        }
+    }
+    0
+}
+
+// For each node, the row from which on none of the v rows extends a chain that ends there.
+fn stops_of(together: &[bool; 4096], v: usize) -> [u32; 65]
+    requires { ⌜ v ≤ 64 ⌝ }
+    ensures { λ stops. ⌜ Stopping (flagOf (now (together .entry))) v stops ⌝ }
+{
+    let mut stops = [0; 65];
+    stops[0] = v as u32;
+    let mut r: usize = 0;
+    while r < v {
+        stops[r + 1] = stop_after(together, v, r);
+        r += 1;
+    }
+    stops
+}
+
+// What is left of the cap once the chains are counted that go on from a chain that ends at this node by this row or a later one.
+// The source's stop is the number of rows.
+fn count_rows(together: &[bool; 4096], stops: &[u32; 65], end: Node, row: Row, cap: u32) -> u32
+    requires { ⌜ Counting (flagOf (now together)) (now stops) (end .0) (row .0) ⌝ }
+    ensures { λ left.
+        let linked = flagOf (now (together .entry)) in
+        let v = getD (now (stops .entry)) 0 0 in
+        ⌜ left ≡ cap - sumRowsFrom (extendsAt linked true (end .0)) (rowCount linked v) (v - row .0) (row .0) ⌝ }
 {
     if cap == 0 {
         return 0;
     }
-    if (row.0 as usize) == starts.len() {
-        return 0;
+    if stops[end.0 as usize] <= row.0 {
+        return cap;
     }
     let next = Row(row.0 + 1);
-    if extends(starts, ends, true, end, row) {
-        let below = count_rows(starts, ends, node_of(row), next, cap - 1);
-        below + 1 + count_rows(starts, ends, end, next, cap - 1 - below)
-    } else {
-        count_rows(starts, ends, end, next, cap)
+    if !extends(together, true, end, row) {
+        return count_rows(together, stops, end, next, cap);
     }
+    let longer = node_of(row);
+    if stops[longer.0 as usize] <= next.0 {
+        return count_rows(together, stops, end, next, cap - 1);
+    }
+    let left = count_rows(together, stops, longer, next, cap - 1);
+    count_rows(together, stops, end, next, left)
 }
 
 // The smaller of N and cap.
 fn count_capped(starts: &[u64], ends: &[u64], full: bool, cap: u32) -> u32
-    requires { ⌜ Walk (now starts) (now ends) 0 0 cap ⌝ }
+    requires { ⌜ (length (now ends) ≡ length (now starts)) × (length (now starts) ≤ 64) × (cap ≤ 4096) ⌝ }
     ensures { λ r. ⌜ r ≡ min (chainsOf (now (starts .entry)) (now (ends .entry)) full) cap ⌝ }
 {
     if cap == 0 {
@@ -85,7 +143,10 @@ fn count_capped(starts: &[u64], ends: &[u64], full: bool, cap: u32) -> u32
     if !full {
         return 1;
     }
-    count_rows(starts, ends, Node(0), Row(0), cap - 1) + 1
+    let together = pairs_together(starts, ends);
+    let stops = stops_of(&together, starts.len());
+    let others = cap - 1;
+    others - count_rows(&together, &stops, Node(0), Row(0), others) + 1
 }
 
 // The number of chains up to a cap, or the number of a refusal.

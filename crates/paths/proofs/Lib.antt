@@ -10,3 +10,4 @@ pub mod TableLaws
 pub mod PickLaws
 pub mod QueueLaws
 pub mod RunLaws
+pub mod RuleLaws

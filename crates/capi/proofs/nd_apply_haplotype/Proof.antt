@@ -14,7 +14,7 @@ apply-haplotype-requires c κs = search needs
 -- src/lib.rt:155:5
 put-report-requires : tie.Need-put-report-requires
 put-report-requires c κs =
-    let applied = c .before .before .before .before .before .before .before .before .before .apply-haplotype in
+    let applied = c .before .before .before .before .before .before .before .apply-haplotype in
     rw (applied .ensures .0) (target-within _)
 
 -- src/lib.rt:93:1
@@ -30,13 +30,9 @@ same-length-3 : tie.Need-same-length-3
 same-length-3 c = search needs
 
 -- src/lib.rt:93:1
-same-length-4 : tie.Need-same-length-4
-same-length-4 c = search needs
-
--- src/lib.rt:93:1
 returns : tie.Need-returns
 returns c =
-    let applied = c .before .before .before .before .before .before .before .before .before .before .apply-haplotype in
+    let applied = c .before .before .before .before .before .before .before .before .apply-haplotype in
     (ap (λ a. a .refusal) (applied .ensures .0), (c .put-report .ensures ∙ ap reportOf (applied .ensures .0), applied .ensures .1))
 
 pub nd-apply-haplotype-spec : {M : Type 1} → statement M
@@ -48,5 +44,4 @@ nd-apply-haplotype-spec =
     same-length
     same-length-2
     same-length-3
-    same-length-4
     returns)

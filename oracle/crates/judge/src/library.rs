@@ -39,7 +39,7 @@ mod linked {
             starts: *const u64, starts_len: usize, ends: *const u64, ends_len: usize,
             sizes: *const i32, sizes_len: usize, features: *const i32, features_len: usize,
             part_sizes: *const i32, part_sizes_len: usize, part_features: *const i32, part_features_len: usize,
-            parents: *mut u32, parents_len: usize, lasts: *mut u32, lasts_len: usize, keys: *mut u64, keys_len: usize,
+            links: *mut u32, links_len: usize, keys: *mut u64, keys_len: usize,
             rows: *mut u32, rows_len: usize,
             report: *mut [u32; 7],
         ) -> u32;
@@ -55,9 +55,8 @@ mod linked {
     /// The buffers hold marks before the call, so that what was left alone is seen.
     pub fn answer(call: &Call) -> Result<Said, String> {
         let s = &call.settings;
-        let mut parents = vec![MARK; call.queue_room];
-        let mut lasts = vec![MARK; call.queue_room + 1];
-        let mut keys = vec![MARK_KEY; call.queue_room + 2];
+        let mut links = vec![MARK; call.queue_room];
+        let mut keys = vec![MARK_KEY; call.queue_room + 1];
         let mut rows = vec![MARK; call.answer_room];
         let mut report = [MARK; 7];
         // SAFETY: every pointer comes with its slice's length, and no two overlap.
@@ -69,7 +68,7 @@ mod linked {
                 call.starts.as_ptr(), call.starts.len(), call.ends.as_ptr(), call.ends.len(),
                 call.sizes.as_ptr(), call.sizes.len(), call.features.as_ptr(), call.features.len(),
                 call.part_sizes.as_ptr(), call.part_sizes.len(), call.part_features.as_ptr(), call.part_features.len(),
-                parents.as_mut_ptr(), parents.len(), lasts.as_mut_ptr(), lasts.len(), keys.as_mut_ptr(), keys.len(),
+                links.as_mut_ptr(), links.len(), keys.as_mut_ptr(), keys.len(),
                 rows.as_mut_ptr(), rows.len(),
                 &mut report,
             )
@@ -95,7 +94,7 @@ mod linked {
                 complete: complete == 1,
             },
             rest_unchanged: rows[count..].iter().all(|&x| x == MARK),
-            queue_unchanged: parents.iter().chain(&lasts).all(|&x| x == MARK) && keys.iter().all(|&x| x == MARK_KEY),
+            queue_unchanged: links.iter().all(|&x| x == MARK) && keys.iter().all(|&x| x == MARK_KEY),
         })
     }
 

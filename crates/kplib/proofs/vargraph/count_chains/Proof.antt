@@ -1,6 +1,6 @@
 -- The refusal's number and the count, each in its case. Assumes nothing.
 use Rattle.kplib.specs.Graph.{cappedCount}
-use Rattle.kplib.proofs.CountedLaws.{refused-case, counted-case, walk-ready}
+use Rattle.kplib.proofs.CountedLaws.{refused-case, counted-case, count-ready}
 use borrow.Author.Needs.{needs}
 use Rattle.kplib.proofs.vargraph.count_chains.Statement.{statement}
 use Rattle.kplib.proofs.vargraph.count_chains.Tie as tie
@@ -13,7 +13,7 @@ unfolding cappedCount
 returns c = refused-case _ _ _ (c .before .count-fault .ensures) (c .if1 .taken)
 
 count-capped-requires : tie.Need-count-capped-requires
-count-capped-requires c κs = walk-ready _ _ _ _ (c .before .count-fault .ensures) (c .if1 .left)
+count-capped-requires c κs = count-ready _ _ _ _ (c .before .count-fault .ensures) (c .if1 .left)
 
 returns-2 : tie.Need-returns-2
 unfolding cappedCount

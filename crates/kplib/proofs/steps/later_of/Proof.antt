@@ -1,6 +1,6 @@
 -- By the comparison.
-use Rattle.kplib.proofs.traverse.later_of.Statement.{statement}
-use Rattle.kplib.proofs.traverse.later_of.Tie as tie
+use Rattle.kplib.proofs.steps.later_of.Statement.{statement}
+use Rattle.kplib.proofs.steps.later_of.Tie as tie
 
 returns : tie.Need-returns
 returns c = rw (c .if1 .taken)

@@ -2,8 +2,8 @@
 use mathlib.Core.Path.{_∙_}
 use borrow.Author.Needs.{needs}
 use Rattle.metrics.proofs.Entries.{power}
-use Rattle.kplib.proofs.traverse.entries.Statement.{statement}
-use Rattle.kplib.proofs.traverse.entries.Tie as tie
+use Rattle.kplib.proofs.steps.entries.Statement.{statement}
+use Rattle.kplib.proofs.steps.entries.Tie as tie
 
 entries-requires : tie.Need-entries-requires
 entries-requires c κs = search needs
