@@ -11,7 +11,7 @@ use Rattle.params.specs.Numbers.{Table, Parts, Call, callOf, badK, firstFault}
 use Rattle.kplib.specs.Answer.{answerOf, rowsOf, placed, queueRoom}
 use Rattle.text.specs.Text.{answerText}
 use Rattle.text.specs.Written.{Written}
-use Rattle.text.proofs.AnswerLaws.{answer-short}
+use Rattle.text.proofs.TextLaws.{answer-short}
 use Rattle.desk.specs.Memory.{searchText, Printed}
 use Rattle.desk.proofs.DeskLaws.{printed-as}
 

@@ -11,7 +11,7 @@ use Rattle.job.specs.Job.{readJob}
 use Rattle.job.specs.Reading.{placed}
 use Rattle.text.specs.Text.{refusedText}
 use Rattle.text.specs.Written.{Written}
-use Rattle.text.proofs.AnswerLaws.{refused-short}
+use Rattle.text.proofs.TextLaws.{refused-short}
 use Rattle.desk.specs.Desk.{readText, deskText}
 use Rattle.desk.specs.Memory.{Printed}
 

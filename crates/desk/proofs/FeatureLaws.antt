@@ -130,8 +130,9 @@ module _ (k width : ℕ) (negatives : List Bool) (counts letters : List ℕ) (fi
       let no-counts : drop row counts ≡ [] = drop-of-length-le counts {i = row} end in
       let no-flags : drop row negatives ≡ [] = drop-of-length-le negatives {i = row} (omega arith) in
       let f : from ≡ length counts * width = now .from-is ∙ ap (λ (n : ℕ). n * width) r in
-      let w : take from table ++ [] ≡ rowsFrom k negatives counts (drop first letters) =
-      ap (λ (l : List ℤ). take from table ++ l) (sym (ap (λ (l : List Bool). rowsFrom k l (drop row counts) (drop at letters)) no-flags ∙ rows-none k (drop row counts) (drop at letters))) ∙ now .whole in
+      let none : rowsFrom k (drop row negatives) (drop row counts) (drop at letters) ≡ [] =
+      ap (λ (l : List Bool). rowsFrom k l (drop row counts) (drop at letters)) no-flags ∙ rows-none k (drop row counts) (drop at letters) in
+      let w : take from table ++ [] ≡ rowsFrom k negatives counts (drop first letters) = ap (λ (l : List ℤ). take from table ++ l) (sym none) ∙ now .whole in
       let s : at + 0 ≡ first + sum counts = ap (λ (n : ℕ). at + n) (sym (ap sum no-counts ∙ sum-none)) ∙ now .letters-left in
       record {
         front = rw (← f) (sym (append-nil (take from table)) ∙ w);

@@ -74,7 +74,7 @@ placed-long old new n e = rw length-append (omega arith)
 
 module _ (input : List ℕ) (short : length input ≤ 32768) (t : Lent) (room : Room t) where
   -- the job that was read, and that there was room for it
-  pub record Holds (s : Settings) (c : Counts) : Type 0 where
+  pub record JobRead (s : Settings) (c : Counts) : Type 0 where
     pub job : Job
     pub held : readJob input ≡ Held job
     pub enough : hasRoom (jobCounts job) t ≡ true
@@ -119,7 +119,7 @@ module _ (input : List ℕ) (short : length input ≤ 32768) (t : Lent) (room : 
         let m : n ≡ 30 = cc in
         rw (← told-room n m, large (ltb 16 (length (job .variants))) (ltb 8 (length (job .parts))) refl refl r)
 
-    given-held : (s : Settings) (c : Counts) (fits : Bool) → hasRoom (jobCounts job) t ≡ fits → Given s c ≡ cond fits (Given (job .settings) (jobCounts job)) (Declined 30) → Holds s c
+    given-held : (s : Settings) (c : Counts) (fits : Bool) → hasRoom (jobCounts job) t ≡ fits → Given s c ≡ cond fits (Given (job .settings) (jobCounts job)) (Declined 30) → JobRead s c
     given-held s c true r e = record { job = job; held = held; enough = r; settings-are = cc; counts-are = cc }
     given-held s c false r e = let z : _≡_ {A = ℕ} 0 1 = cc in let w : ⊥ = omega arith in absurd w
 
@@ -128,12 +128,12 @@ module _ (input : List ℕ) (short : length input ≤ 32768) (t : Lent) (room : 
   declined-as (Faulty m) r n e = let z : n ≡ m = cc in let h = form-fault input m r in rw z (ap refusedText (sym (told-other m (λ i. omega arith))))
   declined-as (Held job) r n e = declined-held job r n (hasRoom (jobCounts job) t) refl e
 
-  given-as : (q : Read) → readJob input ≡ q → (s : Settings) (c : Counts) → Given s c ≡ readingOf q t → Holds s c
+  given-as : (q : Read) → readJob input ≡ q → (s : Settings) (c : Counts) → Given s c ≡ readingOf q t → JobRead s c
   unfolding readingOf
   given-as (Faulty m) r s c e = let z : _≡_ {A = ℕ} 0 1 = cc in let w : ⊥ = omega arith in absurd w
   given-as (Held job) r s c e = given-held job r s c (hasRoom (jobCounts job) t) refl e
 
-  module _ (s : Settings) (c : Counts) (holds : Holds s c) where
+  module _ (s : Settings) (c : Counts) (holds : JobRead s c) where
     abbrev theJob : Job
     theJob = holds .job
 

@@ -1,2 +1,2 @@
 pub mod PieceLaws
-pub mod AnswerLaws
+pub mod TextLaws

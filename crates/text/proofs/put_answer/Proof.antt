@@ -4,7 +4,7 @@ use mathlib.Core.Path.{sym}
 use lib.ListN.{take}
 use lib.Seq.{length-take-le}
 use Rattle.text.proofs.PieceLaws.{written-as}
-use Rattle.text.proofs.AnswerLaws.{text-refused, text-accepted, text-of-all}
+use Rattle.text.proofs.TextLaws.{text-refused, text-accepted, text-of-all}
 use borrow.Author.Needs.{needs}
 use Rattle.text.proofs.put_answer.Statement.{statement}
 use Rattle.text.proofs.put_answer.Tie as tie
