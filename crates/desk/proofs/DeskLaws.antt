@@ -9,11 +9,12 @@ use lib.ListN.{length, drop}
 use lib.Seq.{sets-eq}
 use borrow.Author.Tests.{lt-ltb, le-ltb, eq-eqb, ne-eqb}
 use Rattle.kplib.specs.declared.traverse.Answer.{Answer}
-use Rattle.job.specs.declared.form.Scan.{Scan}
-use Rattle.job.specs.declared.form.Scan.the-variants.{Good, Refused}
-use Rattle.job.specs.declared.form.Counts.{Counts}
-use Rattle.job.specs.Job.{Job, Read, Faulty, Held, readJob}
-use Rattle.job.specs.Reading.{placed, jobCounts, scanOf}
+use Rattle.form.specs.declared.records.Scan.{Scan}
+use Rattle.form.specs.declared.records.Scan.the-variants.{Good, Refused}
+use Rattle.form.specs.declared.records.Counts.{Counts}
+use Rattle.form.specs.Job.{Job, Read, Faulty, Held, readJob}
+use Rattle.metrics.specs.Placed.{placed}
+use Rattle.form.specs.Lent.{jobCounts, scanOf}
 use Rattle.desk.specs.Text.{sevenLines, refusedText}
 use Rattle.desk.specs.Desk.{answerText, tooLarge, readText, deskText}
 use Rattle.desk.specs.Memory.{Holds}

@@ -14,14 +14,16 @@ use Rattle.metrics.specs.Letters.{entryCount}
 use Rattle.metrics.proofs.Entries.{power}
 use Rattle.params.specs.declared.Settings.{Settings}
 use Rattle.params.specs.Numbers.{tableOf, partsOf}
-use Rattle.job.specs.declared.form.Counts.{Counts}
-use Rattle.job.specs.declared.reader.Reading.{Reading}
-use Rattle.job.specs.declared.reader.Reading.the-variants.{Refused as Declined, Job as Given}
-use Rattle.job.specs.Job.{Variant, Part, Job, readJob}
-use Rattle.job.specs.Reading.{Lent, lent, variantLetters, partLetters, lettersOf, five, three, hasRoom, placed, lentWith, readingOf, lentAfter}
-use Rattle.job.specs.Reading.{jobCounts}
-use Rattle.job.specs.Writing.{sum}
-use Rattle.job.proofs.LetterLaws.{letters-within}
+use Rattle.form.specs.declared.records.Counts.{Counts}
+use Rattle.reader.specs.declared.Reading.{Reading}
+use Rattle.reader.specs.declared.Reading.the-variants.{Refused as Declined, Job as Given}
+use Rattle.form.specs.Job.{Variant, Part, Job, readJob}
+use Rattle.form.specs.Lent.{Lent, lent, variantLetters, partLetters, lettersOf}
+use Rattle.reader.specs.Reading.{five, three, hasRoom, lentWith, readingOf, lentAfter}
+use Rattle.metrics.specs.Placed.{placed}
+use Rattle.form.specs.Lent.{jobCounts}
+use Rattle.form.specs.Lent.{sum}
+use Rattle.form.proofs.LetterLaws.{letters-within}
 use Rattle.desk.specs.Text.{refusedText}
 use Rattle.desk.specs.Desk.{variantFeatures, partFeatures, tableOfJob, partsOfJob, callOfJob, answerText, tooLarge, jobText, readText}
 use Rattle.desk.specs.Rows.{rowsFrom, RowsFit, Counted}

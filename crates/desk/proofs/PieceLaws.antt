@@ -8,7 +8,7 @@ use mathlib.Core.List.{List, [], _∷_, _++_, append-nil, append-assoc}
 use lib.ListN.{length, getD, take, drop, set, length-append, length-set, drop-of-length-le}
 use lib.Seq.{sets, drop-cons, take-suc}
 use borrow.Author.Tests.{lt-ltb, le-ltb}
-use Rattle.job.proofs.FieldLaws.{sets-append}
+use Rattle.fields.proofs.FieldLaws.{sets-append}
 use Rattle.desk.specs.Text.{hexDigit, hex2, digitsWithin, rowText, rowsText}
 use Rattle.desk.specs.Pieces.{Put}
 

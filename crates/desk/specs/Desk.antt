@@ -9,7 +9,7 @@ use Rattle.metrics.specs.Letters.{countsOf}
 use Rattle.kplib.specs.declared.traverse.Answer.{Answer}
 use Rattle.params.specs.Numbers.{Table, Parts, Call, tableOf, partsOf, callOf}
 use Rattle.kplib.specs.Answer.{answerOf, rowsOf}
-use Rattle.job.specs.Job.{Variant, Part, Job, Read, Faulty, Held, readJob}
+use Rattle.form.specs.Job.{Variant, Part, Job, Read, Faulty, Held, readJob}
 use Rattle.desk.specs.Text.{sevenLines, refusedText}
 
 -- the feature rows of the variants one behind the other, and of the parts

@@ -8,9 +8,9 @@ use lib.ListN.{length, take, drop}
 use Rattle.params.specs.declared.Settings.{Settings}
 use Rattle.params.specs.Numbers.{Table, Parts, tableOf, partsOf, callOf}
 use Rattle.kplib.specs.Answer.{answerOf, rowsOf}
-use Rattle.job.specs.Job.{Job, Held, readJob}
-use Rattle.job.specs.Reading.{Lent, lent}
-use Rattle.job.specs.Writing.{sum}
+use Rattle.form.specs.Job.{Job, Held, readJob}
+use Rattle.form.specs.Lent.{Lent, lent}
+use Rattle.form.specs.Lent.{sum}
 use Rattle.desk.specs.Text.{refusedText}
 use Rattle.desk.specs.Rows.{rowsFrom}
 use Rattle.desk.specs.Desk.{answerText}

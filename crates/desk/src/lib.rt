@@ -6,8 +6,8 @@ mod text;
 
 use crate::memory::answer_held;
 use crate::text::put_refused;
-use job::form::Scan;
-use job::reader::scan;
+use form::records::Scan;
+use form::scan;
 use metrics::refusals::TOO_LARGE;
 ghost use Rattle.desk.specs.Promises.{AnswerPromise};
 

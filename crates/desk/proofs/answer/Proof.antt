@@ -2,7 +2,7 @@
 use native.Mathlib.Omega.{arith}
 use denote.Ref.{now}
 use mathlib.Core.Path.{_∙_}
-use Rattle.job.specs.Job.{readJob}
+use Rattle.form.specs.Job.{readJob}
 use Rattle.desk.proofs.PieceLaws.{put-as}
 use Rattle.desk.proofs.DeskLaws.{put-placed, desk-long, desk-read, scan-faulty, found-job, many-variants, many-parts, found-holds}
 use borrow.Author.Needs.{needs}
