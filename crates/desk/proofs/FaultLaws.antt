@@ -6,10 +6,11 @@ use mathlib.Core.Bool.{Bool, true, false, cond, not, _&&_}
 use mathlib.Core.List.{List, [], _∷_}
 use lib.Dec.{ltb, eqb}
 use lib.ListN.{length}
-use Rattle.job.specs.declared.form.Scan.{Scan}
-use Rattle.job.specs.declared.form.Scan.the-variants.{Good, Refused}
-use Rattle.job.specs.Form.{bodyLen, inPlace, flagsOk, countOf, padOk, faultOf, after, start, counted, judge, run}
-use Rattle.job.specs.Job.{Job, Read, Faulty, Held, readOf, jobOf, readJob}
+use Rattle.form.specs.declared.records.State.{State}
+use Rattle.form.specs.declared.records.Scan.{Scan}
+use Rattle.form.specs.declared.records.Scan.the-variants.{Good, Refused}
+use Rattle.form.specs.Form.{bodyLen, inPlace, flagsOk, countOf, padOk, faultOf, after, outset, counted, judge, run}
+use Rattle.form.specs.Job.{Job, Read, Faulty, Held, readOf, jobOf, readJob}
 
 abbrev Low : Scan → Type 0
 Low (Refused n) = n < 30
@@ -23,7 +24,7 @@ either : (t : Bool) {a b : ℕ} → a < 30 → b < 30 → cond t a b < 30
 either true p q = p
 either false p q = q
 
-fault-low : (st : _) (k : ℕ) (b : List ℕ) → faultOf st k b < 30
+fault-low : (st : State) (k : ℕ) (b : List ℕ) → faultOf st k b < 30
 unfolding faultOf
 fault-low st k b =
     either (ltb 4 k) (omega arith)
@@ -34,7 +35,7 @@ fault-low st k b =
     (either (not (padOk st k b)) (omega arith)
     (either (eqb k 0 && ltb 0 (length b)) (omega arith) (omega arith)))))))
 
-judge-low : (f k : ℕ) (st : _) (rest : Scan) → f < 30 → Low rest → Low (judge f k st rest)
+judge-low : (f k : ℕ) (st : State) (rest : Scan) → f < 30 → Low rest → Low (judge f k st rest)
 judge-low f k st rest h low = go (eqb f 0) (eqb k 0)
   where
     go : (none last : Bool) → Low (cond none (cond last (Good (counted st)) rest) (Refused f))
@@ -42,7 +43,7 @@ judge-low f k st rest h low = go (eqb f 0) (eqb k 0)
     go true false = low
     go false last = h
 
-run-low : (s : List ℕ) (n : ℕ) (st : _) → Low (run s n st)
+run-low : (s : List ℕ) (n : ℕ) (st : State) → Low (run s n st)
 unfolding run
 run-low [] n st = omega arith
 run-low (k ∷ b) (suc n) st = run-low b n st
@@ -54,7 +55,7 @@ read-low (Good c) job h = tt
 
 job-low : (input : List ℕ) → LowRead (readJob input)
 unfolding readJob
-job-low input = read-low (run input 0 start) (jobOf input) (run-low input 0 start)
+job-low input = read-low (run input 0 outset) (jobOf input) (run-low input 0 outset)
 
 pub form-fault : (input : List ℕ) (n : ℕ) → readJob input ≡ Faulty n → n < 30
 form-fault input n e = subst LowRead e (job-low input)

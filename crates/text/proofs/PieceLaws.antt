@@ -2,7 +2,6 @@
 use Prim.Native.Nat.{ℕ, zero, suc, _+_, _-_, _/_, _%_, _≤_, _<_}
 use native.Mathlib.Omega.{arith}
 use native.Mathlib.Numerals.{add-one}
-use native.Mathlib.Nat.{add-zero, add-suc, suc-add}
 use mathlib.Core.Path.{_≡_, refl, sym, ap, subst, _∙_}
 use mathlib.Core.Bool.{Bool, true, false}
 use mathlib.Core.List.{List, [], _∷_, _++_, append-nil, append-assoc}
@@ -10,14 +9,11 @@ use lib.Dec.{ltb}
 use lib.ListN.{length, getD, take, set, length-append}
 use lib.Seq.{sets, take-suc, set-out, length-sets}
 use borrow.Author.Tests.{lt-ltb, le-ltb, ltb-true, ltb-false}
+use Rattle.fields.proofs.FieldLaws.{sets-append}
 use Rattle.text.specs.Text.{hexDigit, hex2, digitsWithin, rowText, rowsText}
 use Rattle.text.specs.Written.{behind, Written}
 
--- one list and then another behind it, and what is stored past the end
-sets-append : (l : List ℕ) (i : ℕ) (xs ys : List ℕ) → sets l i (xs ++ ys) ≡ sets (sets l i xs) (i + length xs) ys
-sets-append l i [] ys = rw (add-zero i)
-sets-append l i (x ∷ xs) ys = sets-append (set l i x) (suc i) xs ys ∙ ap (λ (n : ℕ). sets (sets (set l i x) (suc i) xs) n ys) (suc-add i (length xs) ∙ sym (add-suc i (length xs)))
-
+-- what is stored past the end
 sets-past : (l : List ℕ) (i : ℕ) (xs : List ℕ) → length l ≤ i → sets l i xs ≡ l
 sets-past l i [] h = refl
 sets-past l i (x ∷ xs) h = ap (λ (m : List ℕ). sets m (suc i) xs) (set-out l i x h) ∙ sets-past l (suc i) xs (omega arith)
