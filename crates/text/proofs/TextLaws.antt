@@ -55,9 +55,12 @@ flag-short : (word : List ℕ) (flag : Bool) → length (flagLine word flag) ≤
 unfolding flagLine
 flag-short word flag = let h = yes-or-no-short flag in simp length-append (omega arith)
 
+one-more : {n : ℕ} → n ≤ 10 → suc n ≤ 11
+one-more h = omega arith
+
 row-short : (row : ℕ) → length (rowText row) ≤ 11
 unfolding rowText bytesOf
-row-short row = let h = digits-short 10 row in omega arith
+row-short row = one-more (digits-short 10 _)
 
 rows-short : (rows : List ℕ) → length (rowsText rows) ≤ 11 * length rows
 unfolding rowsText
