@@ -5,13 +5,12 @@ use native.Mathlib.Omega.{arith}
 use mathlib.Core.Path.{_≡_, refl, sym, ap, subst, _∙_}
 use mathlib.Core.Bool.{Bool, true, false, cond}
 use mathlib.Core.List.{List, _++_, map}
-use lib.Dec.{ltb}
 use lib.IntN.{pos}
 use lib.ListN.{length, take, drop, replicate, length-append, length-map, length-drop}
 use lib.Seq.{take-at}
 use borrow.Author.Tests.{ltb-false, leb-true, le-leb, ne-eqb}
 use Rattle.params.specs.declared.Settings.{Settings}
-use Rattle.params.proofs.CheckLaws.{and-yes}
+use Rattle.params.proofs.CheckLaws.{and-yes, or-no}
 use Rattle.form.specs.declared.records.Counts.{Counts}
 use Rattle.reader.specs.declared.Reading.{Reading}
 use Rattle.reader.specs.declared.Reading.the-variants.{Refused as Declined, Job as Given}
@@ -103,12 +102,18 @@ module _ (input : List ℕ) (short : length input ≤ 32768) (t : Lent) (room : 
         let q : length (t .partSizes) ≡ 8 = room .partSizes in
         (omega arith, omega arith)
 
-    large : (over parts-over : Bool) → ltb 16 (length (job .variants)) ≡ over → ltb 8 (length (job .parts)) ≡ parts-over → hasRoom (jobCounts job) t ≡ false → tooLarge job ≡ true
+    -- a job that is not too large by its definition has room, so one without room is too large
+    small : tooLarge job ≡ false → (length (job .variants) ≤ 16) × (length (job .parts) ≤ 8)
     unfolding tooLarge
-    large true parts-over e f h = rw e
-    large false true e f h = rw (e, f)
-    large false false e f h =
-        let r = has-room (ltb-false 16 (length (job .variants)) e) (ltb-false 8 (length (job .parts)) f) in
+    small e =
+        let a = or-no _ _ e in
+        (ltb-false _ _ (a .0), ltb-false _ _ (or-no _ _ (a .1) .0))
+
+    large : (is : Bool) → tooLarge job ≡ is → hasRoom (jobCounts job) t ≡ false → is ≡ true
+    large true e h = refl
+    large false e h =
+        let f = small e in
+        let r = has-room (f .0) (f .1) in
         let z : _≡_ {A = Bool} true false = sym r ∙ h in
         let w : _≡_ {A = ℕ} 0 1 = cc in
         let n : ⊥ = omega arith in
@@ -119,7 +124,7 @@ module _ (input : List ℕ) (short : length input ≤ 32768) (t : Lent) (room : 
     declined-held n true r e = let z : _≡_ {A = ℕ} 0 1 = cc in let w : ⊥ = omega arith in absurd w
     declined-held n false r e =
         let m : n ≡ 30 = cc in
-        rw (← told-room n m, large (ltb 16 (length (job .variants))) (ltb 8 (length (job .parts))) refl refl r)
+        rw (← told-room n m, large (tooLarge job) refl r)
 
     given-held : (s : Settings) (c : Counts) (fits : Bool) → hasRoom (jobCounts job) t ≡ fits → Given s c ≡ cond fits (Given (job .settings) (jobCounts job)) (Declined 30) → JobRead s c
     given-held s c true r e = record { job = job; held = held; enough = r; settings-are = cc; counts-are = cc }
