@@ -31,7 +31,7 @@ pub record Clear (a b c d e f g : Bool) : Type 0 where
   pub padded : f ≡ false
   pub last : g ≡ false
 
-never : {n : ℕ} → suc n ≡ 0 → ⊥
+pub never : {n : ℕ} → suc n ≡ 0 → ⊥
 never e = omega arith
 
 clear : (a b c d e f g : Bool) → _≡_ {A = ℕ} (cond a 20 (cond b 21 (cond c 22 (cond d 24 (cond e 13 (cond f 23 (cond g 25 0))))))) 0 → Clear a b c d e f g
@@ -67,7 +67,7 @@ module _ (st : State) (k : ℕ) (b : List ℕ) (none : faultOf st k b ≡ 0) whe
       go false e = refl
 
 -- while letters are owed, only letters are in place
-owed-none : (st : State) (k : ℕ) → inPlace st k ≡ true → (k ≡ 4 → ⊥) → st .left ≡ 0
+pub owed-none : (st : State) (k : ℕ) → inPlace st k ≡ true → (k ≡ 4 → ⊥) → st .left ≡ 0
 unfolding inPlace
 owed-none st k h no4 = ⊎-elim
     (λ (t : ltb 0 (st .left) ≡ true). let e : eqb k 4 ≡ true = simp t at h in absurd (no4 (eqb-true k 4 e)))

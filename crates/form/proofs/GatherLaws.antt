@@ -6,7 +6,7 @@ use mathlib.Core.Path.{_≡_, refl, ap, _∙_}
 use mathlib.Core.List.{List, [], _∷_, _++_}
 use mathlib.Core.Bool.{Bool, true, false, cond}
 use lib.Dec.{eqb}
-use lib.ListN.{length, getD, take, drop, length-drop, length-append, drop-of-length-le}
+use lib.ListN.{length, getD, take, drop, length-drop, drop-of-length-le}
 use lib.Seq.{drop-cons, drop-nil, take-all, drop-drop}
 use Rattle.form.specs.Form.{bodyLen}
 use Rattle.form.specs.Job.{lettersIn, gather}
@@ -53,9 +53,6 @@ module _ {A : Type 0} (here : ℕ → List ℕ → List A) where
           let h : suc at + bodyLen kind ≡ at + 1 + bodyLen kind = omega arith in
           rw (drop-cons s at 0 inside, rest-is, m) (ap (λ (l : List A). here kind (drop (suc at) s) ++ l)
           (gather-skip (drop (suc at) s) (bodyLen kind) ∙ ap (λ (l : List ℕ). gather here l 0) (drop-drop (bodyLen kind) (suc at) s ∙ ap (λ (j : ℕ). drop j s) h)))
-
-      pub gather-long : (n : ℕ) → n ≡ bodyLen kind → length (gather here (drop at s) 0) ≡ length (here kind body) + length (gather here (drop (at + 1 + n) s) 0)
-      gather-long n m = ap length (gather-here n m) ∙ length-append (here kind body) (gather here (drop (at + 1 + n) s) 0)
 
 -- ---- letters
 pub long-letters : (b : List ℕ) (i n : ℕ) → length (lettersIn b i n) ≡ n

@@ -2,5 +2,6 @@
 pub mod FormLaws
 pub mod GatherLaws
 pub mod CountLaws
+pub mod OrderLaws
 pub mod LetterLaws
 pub mod SettingsLaws

@@ -1,12 +1,12 @@
 -- Private: what single records do. No public promise cites this file.
-use Prim.Native.Nat.{ℕ, _+_, _≤_}
+use Prim.Native.Nat.{ℕ, zero, suc, _+_, _-_, _≤_}
 use mathlib.Core.Path.{_≡_}
-use mathlib.Core.List.{List, []}
+use mathlib.Core.List.{List, [], _∷_, _++_}
 use mathlib.Core.Bool.{cond}
 use lib.ListN.{length}
-use lib.Dec.{ltb, eqb}
-use Rattle.form.specs.Form.{bodyLen, after}
-use Rattle.form.specs.Job.{lettersAfter}
+use lib.Dec.{ltb, leb, eqb}
+use Rattle.form.specs.Form.{bodyLen, countOf, after}
+use Rattle.form.specs.Job.{lettersIn, lettersAfter}
 use Rattle.form.specs.declared.records.State.{State}
 
 -- a state that a record with no fault leads to, with bounds that keep the counts within the input's length
@@ -23,3 +23,16 @@ Small st n = (st .variants ≤ n) × ((st .parts ≤ n) × (st .letters ≤ n))
 -- the letters behind a record of one kind
 unfoldable pub lettersHere : ℕ → ℕ → List ℕ → List ℕ
 lettersHere kind k b = cond (eqb k kind) (cond (ltb (length b) (bodyLen kind)) [] (lettersAfter kind b)) []
+
+-- of the letters that are owed, those that the record of kind k gives, and those owed behind it
+unfoldable pub lettersGiven : ℕ → ℕ → ℕ
+lettersGiven k left = cond (eqb k 4) (cond (leb left 16) left 16) 0
+
+unfoldable pub lettersOwed : ℕ → List ℕ → ℕ → ℕ
+lettersOwed k b left = cond (eqb k 4) (cond (leb left 16) 0 (left - 16)) (countOf k b)
+
+-- the letters in the order of the bytes, of which the first n belong to a record that was read already
+unfoldable pub lettersWalk : List ℕ → ℕ → ℕ → List ℕ
+lettersWalk [] n left = []
+lettersWalk (k ∷ b) (suc n) left = lettersWalk b n left
+lettersWalk (k ∷ b) zero left = lettersIn (4 ∷ b) 0 (lettersGiven k left) ++ lettersWalk b (bodyLen k) (lettersOwed k b left)

@@ -1,21 +1,19 @@
 -- Storing what a form's records add, one after the other: what is stored plus what the rest will add is the whole. Assumes nothing.
-use Prim.Native.Nat.{ℕ, suc, _+_, _-_, _≤_, _<_, _/_}
+use Prim.Native.Nat.{ℕ, suc, _+_, _-_, _≤_, _<_}
 use native.Mathlib.Omega.{arith}
-use native.Mathlib.Numerals.{add-one}
 use native.Mathlib.Nat.{add-zero, add-suc, suc-add}
 use mathlib.Core.Path.{_≡_, refl, sym, ap, _∙_}
 use mathlib.Core.List.{List, [], _∷_, _++_}
 use mathlib.Core.Bool.{Bool}
 use lib.IntN.{ℤ}
 use lib.Dec.{eqb}
-use lib.ListN.{length, getD, take, drop, set, length-drop}
-use lib.Seq.{take-all, sets}
+use lib.ListN.{length, getD, take, drop, set}
+use lib.Seq.{sets}
 use borrow.Author.Tests.{lt-ltb, le-ltb, eq-eqb, ne-eqb}
 use Rattle.fields.specs.Fields.{le4, le8, signedOf}
 use Rattle.form.specs.Form.{bodyLen, countOf}
-use Rattle.form.specs.Job.{lettersIn, lettersAfter, variantOf, partOf, variantHere, partHere, gather}
+use Rattle.form.specs.Job.{lettersAfter, variantOf, partOf, variantHere, partHere, gather}
 use Rattle.reader.specs.Steps.{Rows, rows, putRow, PartRows, partRows, putPart, stores, Stored}
-use Rattle.form.specs.Steps.{lettersHere}
 use Rattle.form.proofs.GatherLaws.{gather-here, gather-done, long-letters}
 
 -- ---- storing
@@ -96,48 +94,3 @@ module _ (k : ℕ) (b : List ℕ) where
   pub one-part : k ≡ 3 → 9 ≤ length b → partHere k b ≡ partOf b ∷ []
   unfolding partHere
   one-part h g = rw (eq-eqb k 3 h, le-ltb (length b) 9 g)
-
--- ---- letters, one by one
-module _ (b : List ℕ) (n at : ℕ) (out : List ℕ) where
-  pub copy-start : stores set out (at + 0) (lettersIn b 0 (n - 0)) ≡ stores set out at (lettersIn b 0 n)
-  copy-start =
-      let h : at + 0 ≡ at = omega arith in
-      let g : n - 0 ≡ n = omega arith in
-      rw (h, g)
-
-  pub copy-more : (i x : ℕ) → i < n → x ≡ getD b (1 + i + i / 16) 0
-      → stores set (set out (at + i) x) (at + (i + 1)) (lettersIn b (i + 1) (n - (i + 1))) ≡ stores set out (at + i) (lettersIn b i (n - i))
-  unfolding lettersIn stores
-  copy-more i x h e =
-      let g : n - i ≡ suc (n - suc i) = omega arith in
-      let f : at + suc i ≡ suc (at + i) = omega arith in
-      rw (add-one i, g, f, e)
-
-  pub copy-done : (i : ℕ) → n ≤ i → stores set out (at + i) (lettersIn b i (n - i)) ≡ out
-  unfolding lettersIn stores
-  copy-done i h = let g : n - i ≡ 0 = omega arith in rw g
-
--- ---- the letters behind one record
-module _ (kind k : ℕ) (b : List ℕ) where
-  pub no-letters : (k ≡ kind → ⊥) → lettersHere kind k b ≡ []
-  unfolding lettersHere
-  no-letters h = rw (ne-eqb k kind h)
-
-  pub cut-letters : (n : ℕ) → n ≡ bodyLen kind → k ≡ kind → length b < n → lettersHere kind k b ≡ []
-  unfolding lettersHere
-  cut-letters n e h g = rw (eq-eqb k kind h, sym e, lt-ltb (length b) n g)
-
-  pub some-letters : (n m : ℕ) → n ≡ bodyLen kind → m ≡ countOf kind b → k ≡ kind → n ≤ length b → lettersHere kind k b ≡ lettersIn (take (length b - n) (drop n b)) 0 m
-  unfolding lettersHere lettersAfter
-  some-letters n m e f h g = rw (eq-eqb k kind h, sym e, le-ltb (length b) n g, take-all (length b - n) (drop n b) (simp length-drop (omega arith)), f)
-
-module _ (out : List ℕ) (at : ℕ) (xs : List ℕ) where
-  pub laid-none : xs ≡ [] → (at ≡ at + length xs) × (out ≡ stores set out at xs)
-  unfolding stores
-  laid-none e = (sym (rw e (add-zero at)), rw e)
-
-  pub laid-some : (b : List ℕ) (n : ℕ) (u : List ℕ) → xs ≡ lettersIn b 0 n → u ≡ stores set out at (lettersIn b 0 n) → (at + n ≡ at + length xs) × (u ≡ stores set out at xs)
-  laid-some b n u e h = (ap (λ (m : ℕ). at + m) (sym (ap length e ∙ long-letters b 0 n)), h ∙ ap (stores set out at) (sym e))
-
-pub laid-both : (l m n : List ℕ) (p : ℕ) (xs ys : List ℕ) → p ≡ 0 + length xs → m ≡ stores set l 0 xs → n ≡ stores set m p ys → n ≡ stores set l 0 (xs ++ ys)
-laid-both l m n p xs ys e f g = g ∙ rw (e, f) (sym (stores-append set l 0 xs ys))

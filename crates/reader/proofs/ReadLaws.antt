@@ -22,9 +22,10 @@ use Rattle.form.specs.Lent.{Lent, lettersOf, jobCounts}
 use Rattle.reader.specs.Reading.{five, three, hasRoom, lentWith, readingOf, lentAfter}
 use Rattle.metrics.specs.Placed.{placed}
 use Rattle.reader.specs.Steps.{Rows, rows, putRow, PartRows, partRows, putPart, stores}
-use Rattle.form.specs.Steps.{lettersHere}
+use Rattle.form.specs.Steps.{lettersHere, lettersWalk}
 use Rattle.form.proofs.FormLaws.{split, long, both}
 use Rattle.reader.proofs.FillLaws.{stores-sets}
+use Rattle.form.proofs.OrderLaws.{in-order}
 use Rattle.form.proofs.CountLaws.{none-placed, none-whole, counts-are, letters-of-variants, letters-of-parts}
 
 -- ---- a good form begins with a whole settings record
@@ -135,7 +136,7 @@ module _ (s : List ℕ) {c : Counts} (at : run s 0 outset ≡ Good c) where
           unfolding jobOf kinds
           kinds-are = rw (letters-of-variants s 0, letters-of-parts s 0)
 
-          pub letters-fit : length (gather (lettersHere 2) s 0 ++ gather (lettersHere 3) s 0) ≤ length (t .letters)
+          letters-fit : length (gather (lettersHere 2) s 0 ++ gather (lettersHere 3) s 0) ≤ length (t .letters)
           unfolding jobCounts kinds
           letters-fit =
               let h : c .letters ≡ length (lettersOf (jobOf s)) = ap (λ (d : Counts). d .letters) are in
@@ -146,7 +147,7 @@ module _ (s : List ℕ) {c : Counts} (at : run s 0 outset ≡ Good c) where
               ≡ stores putRow (rows (t .starts) (t .ends) (t .sizes) (t .negatives) (t .counts)) 0 (gather variantHere s 0))
               (ps : partRows (u .partSizes) (u .partNegatives) (u .partCounts)
               ≡ stores putPart (partRows (t .partSizes) (t .partNegatives) (t .partCounts)) 0 (gather partHere s 0))
-              (ls : u .letters ≡ stores set (t .letters) 0 (gather (lettersHere 2) s 0 ++ gather (lettersHere 3) s 0)) where
+              (ls : u .letters ≡ stores set (t .letters) 0 (lettersWalk s 0 0)) where
             laid-job : u ≡ lentWith (jobOf s) t
             unfolding lentWith jobOf jobCounts kinds
             laid-job =
@@ -169,7 +170,7 @@ module _ (s : List ℕ) {c : Counts} (at : run s 0 outset ≡ Good c) where
                 let e7 = front putPart (λ (w : PartRows). w .negatives) (λ (x : Part). x .negative) (λ (w : PartRows) (i : ℕ) (x : Part). refl) t3 u3 ys (p .negatives) ps in
                 let e8 = front putPart (λ (w : PartRows). w .counts) (λ (x : Part). length (x .letters)) (λ (w : PartRows) (i : ℕ) (x : Part). refl) t3 u3 ys (p .counts) ps in
                 let e9 : u .letters ≡ placed (t .letters) (lettersOf (jobOf s)) =
-                ls ∙ laid (t .letters) kinds letters-fit ∙ ap (placed (t .letters)) (sym kinds-are) in
+                ls ∙ ap (λ (l : List ℕ). stores set (t .letters) 0 l) (in-order s c at) ∙ laid (t .letters) kinds letters-fit ∙ ap (placed (t .letters)) (sym kinds-are) in
                 λ i. record { starts = e1 i; ends = e2 i; sizes = e3 i; negatives = e4 i; counts = e5 i; partSizes = e6 i; partNegatives = e7 i; partCounts = e8 i; letters = e9 i }
 
             pub read-job : (head : Settings) → head ≡ settingsIn (take (length s - 1) (drop 1 s))

@@ -1,18 +1,21 @@
 // Lays a form's variants, parts and letters out in lent slices.
 use fields::i32_of;
+use fields::put_u8;
 use fields::u8_at;
 use fields::u32_at;
 use fields::u64_at;
+use form::records::LETTERS;
 use form::records::PART;
 use form::records::VARIANT;
 use form::records::body_len;
 use form::records::count_of;
 ghost use mathlib.Core.Path.{_≡_};
 ghost use Prim.Native.Nat.{_≤_, _<_, _+_, _^_};
-ghost use mathlib.Core.List.{_++_};
+ghost use mathlib.Core.List.{_∷_};
 ghost use lib.ListN.{length, set};
 ghost use Rattle.form.specs.Job.{variantOf, variantHere, partOf, partHere, lettersIn, gather};
-ghost use Rattle.form.specs.Steps.{lettersHere};
+ghost use Rattle.form.specs.Form.{bodyLen};
+ghost use Rattle.form.specs.Steps.{lettersGiven, lettersOwed, lettersWalk};
 ghost use Rattle.reader.specs.Steps.{rows, putRow, partRows, putPart, stores, Stored};
 
 fn set_u64(dst: &mut [u64], i: usize, x: u64)
@@ -95,28 +98,6 @@ fn fill_variant(
     v + 1
 }
 
-pub(crate) fn fill_variants(
-    s: &[u8],
-    starts: &mut [u64],
-    ends: &mut [u64],
-    sizes: &mut [i32],
-    negatives: &mut [bool],
-    counts: &mut [u32],
-)
-    ensures { λ _. ⌜ rows (now (starts .exit)) (now (ends .exit)) (now (sizes .exit)) (now (negatives .exit)) (now (counts .exit))
-        ≡ stores putRow (rows (now (starts .entry)) (now (ends .entry)) (now (sizes .entry)) (now (negatives .entry)) (now (counts .entry)))
-        0 (gather variantHere (now (s .entry)) 0) ⌝ }
-{
-    let mut at = 0usize;
-    let mut v = 0usize;
-    while at < s.len() {
-        let k = s[at];
-        let b = &s[at + 1..];
-        v = fill_variant(k, b, v, starts, ends, sizes, negatives, counts);
-        at = at + 1 + body_len(k);
-    }
-}
-
 fn put_part(b: &[u8], v: usize, sizes: &mut [i32], negatives: &mut [bool], counts: &mut [u32])
     requires { ⌜ 9 ≤ length (now b) ⌝ }
     ensures { λ _. ⌜ partRows (now (sizes .exit)) (now (negatives .exit)) (now (counts .exit))
@@ -149,71 +130,81 @@ fn fill_part(
     v + 1
 }
 
-pub(crate) fn fill_parts(s: &[u8], sizes: &mut [i32], negatives: &mut [bool], counts: &mut [u32])
-    ensures { λ _. ⌜ partRows (now (sizes .exit)) (now (negatives .exit)) (now (counts .exit))
-        ≡ stores putPart (partRows (now (sizes .entry)) (now (negatives .entry)) (now (counts .entry))) 0 (gather partHere (now (s .entry)) 0) ⌝ }
+// How many letters the record gives, of those that are owed.
+fn letters_given(k: u8, left: u32) -> u32
+    ensures { λ r. ⌜ (r ≡ lettersGiven k left) × ((r ≤ 16) × (r ≤ bodyLen k)) ⌝ }
 {
-    let mut at = 0usize;
-    let mut v = 0usize;
-    while at < s.len() {
-        let k = s[at];
-        let b = &s[at + 1..];
-        v = fill_part(k, b, v, sizes, negatives, counts);
-        at = at + 1 + body_len(k);
+    if k != LETTERS {
+        return 0;
     }
+    if left <= 16 { left } else { 16 }
 }
 
-// n letters of the letters records b, from position `at` on.
+// How many letters are owed behind the record.
+fn letters_owed(k: u8, b: &[u8], left: u32) -> u32
+    ensures { λ r. ⌜ r ≡ lettersOwed k (now (b .entry)) left ⌝ }
+{
+    if k != LETTERS {
+        return count_of(k, b);
+    }
+    if left <= 16 { 0 } else { left - 16 }
+}
+
+// The first n letters of a letters record's body, from position `at` on.
 fn copy_letters(out: &mut [u8], at: usize, b: &[u8], n: usize)
-    requires { ⌜ (at + n ≤ length (now out)) × (n < 2 ^ 32) ⌝ }
-    ensures { λ _. ⌜ now (out .exit) ≡ stores set (now (out .entry)) at (lettersIn (now (b .entry)) 0 n) ⌝ }
+    requires { ⌜ (at < 2 ^ 63) × (n ≤ 16) ⌝ }
+    ensures { λ _. ⌜ now (out .exit) ≡ stores set (now (out .entry)) at (lettersIn (4 ∷ now (b .entry)) 0 n) ⌝ }
 {
     let mut i = 0usize;
     while i < n {
-        out[at + i] = u8_at(b, 1 + i + i / 16);
+        put_u8(out, at + i, u8_at(b, i));
         i += 1;
     }
 }
 
-// The letters behind one record, where it is of the kind. Returns the position behind them.
-fn fill_sequence(out: &mut [u8], at: usize, kind: u8, k: u8, b: &[u8]) -> usize
-    requires { ⌜ at + length (lettersHere kind k (now b)) ≤ length (now out) ⌝ }
-    ensures next { λ r. ⌜ r ≡ at + length (lettersHere kind k (now (b .entry))) ⌝ }
-    ensures is { λ _. ⌜ now (out .exit) ≡ stores set (now (out .entry)) at (lettersHere kind k (now (b .entry))) ⌝ }
+// The letters that one record gives, from position `at` on. Returns the position behind them.
+fn fill_letters(k: u8, b: &[u8], at: usize, left: u32, out: &mut [u8]) -> usize
+    requires { ⌜ at < 2 ^ 63 ⌝ }
+    ensures is { λ _. ⌜ now (out .exit) ≡ stores set (now (out .entry)) at (lettersIn (4 ∷ now (b .entry)) 0 (lettersGiven k left)) ⌝ }
+    ensures next { λ r. ⌜ (r ≡ at + lettersGiven k left) × (r ≤ at + bodyLen k) ⌝ }
 {
-    if k != kind {
-        return at;
-    }
-    let body = body_len(kind);
-    if b.len() < body {
-        return at;
-    }
-    let n = count_of(kind, b) as usize;
-    copy_letters(out, at, &b[body..], n);
+    let n = letters_given(k, left) as usize;
+    copy_letters(out, at, b, n);
     at + n
 }
 
-fn fill_kind(s: &[u8], kind: u8, from: usize, out: &mut [u8]) -> usize
-    requires { ⌜ from + length (gather (lettersHere kind) (now s) 0) ≤ length (now out) ⌝ }
-    ensures next { λ r. ⌜ r ≡ from + length (gather (lettersHere kind) (now (s .entry)) 0) ⌝ }
-    ensures is { λ _. ⌜ now (out .exit) ≡ stores set (now (out .entry)) from (gather (lettersHere kind) (now (s .entry)) 0) ⌝ }
+// Lays the variants, the parts and the letters at the fronts of the slices, in one walk over the records.
+pub(crate) fn fill(
+    s: &[u8],
+    starts: &mut [u64],
+    ends: &mut [u64],
+    sizes: &mut [i32],
+    negatives: &mut [bool],
+    counts: &mut [u32],
+    part_sizes: &mut [i32],
+    part_negatives: &mut [bool],
+    part_counts: &mut [u32],
+    letters: &mut [u8],
+)
+    ensures variants { λ _. ⌜ rows (now (starts .exit)) (now (ends .exit)) (now (sizes .exit)) (now (negatives .exit)) (now (counts .exit))
+        ≡ stores putRow (rows (now (starts .entry)) (now (ends .entry)) (now (sizes .entry)) (now (negatives .entry)) (now (counts .entry)))
+        0 (gather variantHere (now (s .entry)) 0) ⌝ }
+    ensures parts { λ _. ⌜ partRows (now («part_sizes» .exit)) (now («part_negatives» .exit)) (now («part_counts» .exit))
+        ≡ stores putPart (partRows (now («part_sizes» .entry)) (now («part_negatives» .entry)) (now («part_counts» .entry))) 0 (gather partHere (now (s .entry)) 0) ⌝ }
+    ensures sequence { λ _. ⌜ now (letters .exit) ≡ stores set (now (letters .entry)) 0 (lettersWalk (now (s .entry)) 0 0) ⌝ }
 {
     let mut at = 0usize;
-    let mut p = from;
+    let mut v = 0usize;
+    let mut p = 0usize;
+    let mut l = 0usize;
+    let mut left = 0u32;
     while at < s.len() {
         let k = s[at];
         let b = &s[at + 1..];
-        p = fill_sequence(out, p, kind, k, b);
+        v = fill_variant(k, b, v, starts, ends, sizes, negatives, counts);
+        p = fill_part(k, b, p, part_sizes, part_negatives, part_counts);
+        l = fill_letters(k, b, l, left, letters);
+        left = letters_owed(k, b, left);
         at = at + 1 + body_len(k);
     }
-    p
-}
-
-// The letters of the variants, and then of the parts.
-pub(crate) fn fill_letters(s: &[u8], out: &mut [u8])
-    requires { ⌜ length (gather (lettersHere 2) (now s) 0 ++ gather (lettersHere 3) (now s) 0) ≤ length (now out) ⌝ }
-    ensures { λ _. ⌜ now (out .exit) ≡ stores set (now (out .entry)) 0 (gather (lettersHere 2) (now (s .entry)) 0 ++ gather (lettersHere 3) (now (s .entry)) 0) ⌝ }
-{
-    let p = fill_kind(s, VARIANT, 0, out);
-    fill_kind(s, PART, p, out);
 }

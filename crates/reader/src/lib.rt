@@ -1,9 +1,7 @@
 // Reads a job: a first pass that changes nothing, and a second that fills lent slices.
 pub mod fill;
 
-use crate::fill::fill_letters;
-use crate::fill::fill_parts;
-use crate::fill::fill_variants;
+use crate::fill::fill;
 use form::records::Counts;
 use form::records::Scan;
 use form::scan;
@@ -94,9 +92,18 @@ pub fn read_job(
                 return Reading::Refused(LITTLE_ROOM);
             }
             let head = read_settings(&bytes[1..]);
-            fill_variants(bytes, starts, ends, sizes, negatives, letter_counts);
-            fill_parts(bytes, part_sizes, part_negatives, part_letter_counts);
-            fill_letters(bytes, letters);
+            fill(
+                bytes,
+                starts,
+                ends,
+                sizes,
+                negatives,
+                letter_counts,
+                part_sizes,
+                part_negatives,
+                part_letter_counts,
+                letters,
+            );
             Reading::Job(head, c)
         }
     }

@@ -1,4 +1,4 @@
--- A fault, or too little room, changes nothing; else the three fillers lay the job at the fronts.
+-- A fault, or too little room, changes nothing; else one walk lays the job at the fronts.
 use native.Mathlib.Omega.{arith}
 use denote.Ref.{now}
 use mathlib.Core.Path.{_≡_, sym, _∙_}
@@ -11,7 +11,7 @@ use Rattle.form.specs.declared.records.Scan.the-variants.{Good}
 use Rattle.form.specs.Form.{run, outset}
 use Rattle.form.specs.Lent.{Lent, lent}
 use Rattle.form.proofs.CountLaws.{scan-is}
-use Rattle.reader.proofs.ReadLaws.{rowsRoom, partsRoom, read-refused, settings-there, crowded-rows, crowded-parts, crowded-letters, letters-fit, read-job}
+use Rattle.reader.proofs.ReadLaws.{rowsRoom, partsRoom, read-refused, settings-there, crowded-rows, crowded-parts, crowded-letters, read-job}
 use borrow.Author.Needs.{needs}
 use Rattle.reader.proofs.read_job.Statement.{statement}
 use Rattle.reader.proofs.read_job.Tie as tie
@@ -54,14 +54,8 @@ settings c = settings-there _ (good (found c))
 abbrev checked : tie.After-read-settings → tie.Else3
 checked c = c .before .before
 
-abbrev head-read : tie.After-fill-variants → tie.After-read-settings
-head-read c = c .before .before .before .before .before .before
-
-abbrev variants : tie.After-fill-parts → tie.After-fill-variants
-variants c = c .before .before .before .before .before .before .before .before .before .before .before .before .before
-
-abbrev parts : tie.After-fill-letters-arg → tie.After-fill-parts
-parts c = c .before .before .before .before .before .before
+abbrev head-read : tie.After-fill → tie.After-read-settings
+head-read c = c .before .before .before .before .before .before .before .before .before .before
 
 scan-requires : tie.Need-scan-requires
 scan-requires c κs = search needs
@@ -103,17 +97,8 @@ part-read-settings-end c = search needs
 read-settings-requires : tie.Need-read-settings-requires
 read-settings-requires c κs = search needs
 
-fill-variants-requires : tie.Need-fill-variants-requires
-fill-variants-requires c κs = search needs
-
-fill-parts-requires : tie.Need-fill-parts-requires
-fill-parts-requires c κs = search needs
-
-fill-letters-requires : tie.Need-fill-letters-requires
-fill-letters-requires c κs =
-    let k = checked (head-read (variants (parts c))) in
-    let p = k .before .before in
-    letters-fit _ (good (found k)) (slices (begin (found k))) (rows-room (p .before .before)) (parts-room p) (k .if3 .left)
+fill-requires : tie.Need-fill-requires
+fill-requires c κs = search needs
 
 returns-4 : tie.Need-returns-4
 returns-4 c = read-refused _ _ (scan-is _ ∙ sym (c .before .before .before .scan .ensures) ∙ c .before .found .given .1)
@@ -147,19 +132,16 @@ same-length-9 c = search needs
 
 returns-5 : tie.Need-returns-5
 returns-5 c =
-    let l = c .before .before in
-    let q = parts (l .before) in
-    let v = variants q in
-    let h = head-read v in
+    let f = c .before .before .before .before .before .before .before .before .before .before .before .before .before .before .before .before in
+    let h = head-read f in
     let k = checked h in
     let p = k .before .before in
-    read-job _ (good (found k)) _ (rows-room (p .before .before)) (parts-room p) (k .if3 .left) _ (v .fill-variants .ensures) (q .fill-parts .ensures)
-    (l .fill-letters .ensures) _ (h .read-settings .ensures)
+    read-job _ (good (found k)) _ (rows-room (p .before .before)) (parts-room p) (k .if3 .left) _ (f .fill .ensures .0) (f .fill .ensures .1 .0)
+    (f .fill .ensures .1 .1) _ (h .read-settings .ensures)
 
 pub read-job-spec : {M : Type 1} → statement M
 read-job-spec =
     tie.close
     (tie.spec scan-requires enum-known-found enum-known-found-2 rows-fit-requires returns parts-fit-requires returns-2 returns-3
-    sub-read-settings part-read-settings-start part-read-settings-end read-settings-requires fill-variants-requires fill-parts-requires
-    fill-letters-requires returns-4 same-length same-length-2 same-length-3 same-length-4 same-length-5 same-length-6 same-length-7 same-length-8
+    sub-read-settings part-read-settings-start part-read-settings-end read-settings-requires fill-requires returns-4 same-length same-length-2 same-length-3 same-length-4 same-length-5 same-length-6 same-length-7 same-length-8
     same-length-9 returns-5)
