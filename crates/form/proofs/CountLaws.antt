@@ -18,7 +18,7 @@ use Rattle.form.specs.Form.{bodyLen, inPlace, flagsOk, countOf, padOk, f
 use Rattle.form.specs.Job.{Variant, Part, lettersAfter, variantOf, partOf, variantHere, partHere, gather, jobOf, readOf, readJob}
 use Rattle.form.specs.Lent.{variantLetters, partLetters, jobCounts, scanOf}
 use Rattle.form.specs.Steps.{lettersHere}
-use Rattle.form.proofs.FormLaws.{split}
+use Rattle.form.proofs.FormLaws.{split, count-rest}
 use Rattle.form.proofs.GatherLaws.{long-letters}
 
 -- ---- a record with no fault fails none of the tests
@@ -107,11 +107,11 @@ turn-letters st b = record { variants = sym (add-zero (st .variants)); parts = s
         (split (leb n 16))
 
 turn-rest : (st : State) (k : ℕ) (b : List ℕ) → (k ≡ 2 → ⊥) → (k ≡ 3 → ⊥) → (k ≡ 4 → ⊥) → st .left ≡ 0 → Turn st k b
-unfolding after variantHere partHere lettersHere countOf
+unfolding after variantHere partHere lettersHere
 turn-rest st k b p q r e = record {
   variants = rw (ne-eqb k 2 p) (sym (add-zero (st .variants)));
   parts = rw (ne-eqb k 3 q) (sym (add-zero (st .parts)));
-  letters = rw (ne-eqb k 2 p, ne-eqb k 3 q, ne-eqb k 4 r) (omega arith);
+  letters = rw (ne-eqb k 2 p, ne-eqb k 3 q, ne-eqb k 4 r, count-rest k b p q) (omega arith);
 }
 
 turn : (st : State) (k : ℕ) (b : List ℕ) → faultOf st k b ≡ 0 → Turn st k b

@@ -4,7 +4,7 @@ use Prim.Native.Nat.{ℕ, zero, suc, _+_, _-_, _≤_, _<_}
 use native.Mathlib.Omega.{arith}
 use native.Mathlib.Numerals.{add-one}
 use mathlib.Core.Path.{_≡_, refl, sym, ap, subst, _∙_}
-use mathlib.Core.Bool.{Bool, true, false, _&&_}
+use mathlib.Core.Bool.{Bool, true, false, cond, _&&_}
 use mathlib.Core.List.{List, [], _∷_}
 use lib.Dec.{ltb, eqb}
 use lib.ListN.{length, getD, take, drop, length-take, length-drop}
@@ -16,9 +16,22 @@ use lib.Seq.{take-all, drop-drop}
 use lib.ListN.{drop-of-length-le}
 use Rattle.form.specs.declared.records.Scan.{Scan}
 use Rattle.form.specs.declared.records.Scan.the-variants.{Good, Refused}
-use Rattle.form.specs.Form.{bodyLen, inPlace, flagsOk, countOf, padOk, allZero, faultOf, after, run, judge, counted}
+use Rattle.form.specs.Form.{settingsLen, variantLen, partLen, lettersLen, shape, shapeOf, bodyLen, inPlace, areFlags, flagsOk, countOf, padOk, allZero, faultOf, after, run, judge, counted}
 use Rattle.form.specs.Steps.{Next}
+use Rattle.fields.specs.Fields.{le4}
+use Rattle.form.specs.declared.records.Shape.{Shape}
 use Rattle.form.specs.declared.records.State.{State}
+
+pub both : (a b : Bool) → a && b ≡ true → (a ≡ true) × (b ≡ true)
+both true b e = (refl, e)
+both false b e = let z : _≡_ {A = ℕ} 0 1 = cc in absurd (no z)
+  where
+    no : {n : ℕ} → 0 ≡ suc n → ⊥
+    no e = omega arith
+
+pub split : (t : Bool) → (t ≡ true) ⊎ (t ≡ false)
+split true = inl refl
+split false = inr refl
 
 -- ---- the place of a record
 module _ (st : State) (k : ℕ) where
@@ -46,32 +59,74 @@ module _ (st : State) (k : ℕ) where
 pub long : {k n m : ℕ} → k ≡ n → bodyLen k ≤ m → bodyLen n ≤ m
 long {k} {n} {m} e h = subst (λ (j : ℕ). bodyLen j ≤ m) e h
 
-pub flags-kind : (k n : ℕ) (b : List ℕ) → k ≡ n → flagsOk n b ≡ flagsOk k b
-flags-kind k n b e = ap (λ (j : ℕ). flagsOk j b) (sym e)
+-- what holds of each row of the table holds of a kind's shape
+module _ (P : Shape → Type 0) (settings : P (shape settingsLen 1 3 0)) (variant : P (shape variantLen 20 1 21)) (part : P (shape partLen 4 1 5))
+    (letters : P (shape lettersLen 0 0 0)) (rest : P (shape 0 0 0 0)) where
+  by-row : (p q r t : Bool)
+      → P (cond p (shape settingsLen 1 3 0) (cond q (shape variantLen 20 1 21) (cond r (shape partLen 4 1 5) (cond t (shape lettersLen 0 0 0) (shape 0 0 0 0)))))
+  by-row true q r t = settings
+  by-row false true r t = variant
+  by-row false false true t = part
+  by-row false false false true = letters
+  by-row false false false false = rest
 
-pub flags-rest : (k : ℕ) (b : List ℕ) → (k ≡ 1 → ⊥) → (k ≡ 2 → ⊥) → (k ≡ 3 → ⊥) → true ≡ flagsOk k b
-unfolding flagsOk
-flags-rest k b p q r = simp (ne-eqb _ _ p, ne-eqb _ _ q, ne-eqb _ _ r)
+  pub every-row : (k : ℕ) → P (shapeOf k)
+  every-row k = by-row (eqb k 1) (eqb k 2) (eqb k 3) (eqb k 4)
 
-pub count-rest : (k : ℕ) (b : List ℕ) → (k ≡ 2 → ⊥) → (k ≡ 3 → ⊥) → 0 ≡ countOf k b
+pub shape-rest : (k : ℕ) → (k ≡ 1 → ⊥) → (k ≡ 2 → ⊥) → (k ≡ 3 → ⊥) → (k ≡ 4 → ⊥) → shape 0 0 0 0 ≡ shapeOf k
+shape-rest k p q r t = sym (rw (ne-eqb k 1 p, ne-eqb k 2 q, ne-eqb k 3 r, ne-eqb k 4 t))
+
+pub count-rest : (k : ℕ) (b : List ℕ) → (k ≡ 2 → ⊥) → (k ≡ 3 → ⊥) → countOf k b ≡ 0
 unfolding countOf
-count-rest k b p q = simp (ne-eqb _ _ p, ne-eqb _ _ q)
+count-rest k b p q = ⊎-elim
+    (λ (t : eqb k 1 ≡ true). rw t)
+    (λ (t : eqb k 1 ≡ false). ⊎-elim
+    (λ (u : eqb k 4 ≡ true). rw (t, ne-eqb k 2 p, ne-eqb k 3 q, u))
+    (λ (u : eqb k 4 ≡ false). rw (t, ne-eqb k 2 p, ne-eqb k 3 q, u))
+    (split (eqb k 4)))
+    (split (eqb k 1))
 
-pub body-rest : (k : ℕ) → (k ≡ 1 → ⊥) → (k ≡ 2 → ⊥) → (k ≡ 3 → ⊥) → (k ≡ 4 → ⊥) → 0 ≡ bodyLen k
-unfolding bodyLen
-body-rest k p q r t = simp (ne-eqb _ _ p, ne-eqb _ _ q, ne-eqb _ _ r, ne-eqb _ _ t)
+-- s is the shape that the table gives
+module _ (s : Shape) (k : ℕ) (b : List ℕ) (is : s ≡ shapeOf k) where
+  pub count-none : s .count ≡ 0 → 0 ≡ countOf k b
+  unfolding countOf
+  count-none z = sym (ap (λ (x : Shape). cond (eqb (x .count) 0) 0 (le4 b (x .count))) (sym is) ∙ rw (eq-eqb (s .count) 0 z))
 
-pub flags-settings-1 : (b : List ℕ) → 2 ≤ getD b 1 0 → false ≡ flagsOk 1 b
-unfolding flagsOk
-flags-settings-1 b h = simp (le-ltb _ _ h)
+  pub count-some : (s .count ≡ 0 → ⊥) → le4 b (s .count) ≡ countOf k b
+  unfolding countOf
+  count-some z = sym (ap (λ (x : Shape). cond (eqb (x .count) 0) 0 (le4 b (x .count))) (sym is) ∙ rw (ne-eqb (s .count) 0 z))
 
-pub flags-settings-2 : (b : List ℕ) → getD b 1 0 < 2 → 2 ≤ getD b 2 0 → false ≡ flagsOk 1 b
-unfolding flagsOk
-flags-settings-2 b h g = simp (lt-ltb _ _ h, le-ltb _ _ g)
+  pub flags-there : s .flags + s .«flag_count» ≤ 64
+  flags-there = subst (λ (x : Shape). x .flags + x .«flag_count» ≤ 64) (sym is)
+      (every-row (λ (x : Shape). x .flags + x .«flag_count» ≤ 64) (omega arith) (omega arith) (omega arith) (omega arith) (omega arith) k)
 
-pub flags-settings-3 : (b : List ℕ) → getD b 1 0 < 2 → getD b 2 0 < 2 → ltb (getD b 3 0) 2 ≡ flagsOk 1 b
-unfolding flagsOk
-flags-settings-3 b h g = simp (lt-ltb _ _ h, lt-ltb _ _ g)
+  pub flags-are : areFlags b (s .flags) (s .«flag_count») ≡ flagsOk k b
+  unfolding flagsOk
+  flags-are = ap (λ (x : Shape). areFlags b (x .flags) (x .«flag_count»)) is
+
+-- ---- flags, one by one
+module _ (b : List ℕ) (from n : ℕ) where
+  pub flags-start : areFlags b (from + 0) (n - 0) ≡ areFlags b from n
+  flags-start =
+      let h : from + 0 ≡ from = omega arith in
+      let g : n - 0 ≡ n = omega arith in
+      rw (h, g)
+
+  module _ (i x : ℕ) (inside : i < n) (here : x ≡ getD b (from + i) 0) where
+    flag-next : areFlags b (from + i) (n - i) ≡ ltb x 2 && areFlags b (from + (i + 1)) (n - (i + 1))
+    flag-next =
+        let g : n - i ≡ suc (n - (i + 1)) = omega arith in
+        let f : suc (from + i) ≡ from + (i + 1) = omega arith in
+        rw (g, here, sym f)
+
+    pub flag-broken : 2 ≤ x → false ≡ areFlags b (from + i) (n - i)
+    flag-broken h = sym (flag-next ∙ rw (le-ltb x 2 h))
+
+    pub flag-more : x < 2 → areFlags b (from + (i + 1)) (n - (i + 1)) ≡ areFlags b (from + i) (n - i)
+    flag-more h = sym (flag-next ∙ rw (lt-ltb x 2 h))
+
+  pub flags-done : (i : ℕ) → n ≤ i → true ≡ areFlags b (from + i) (n - i)
+  flags-done i h = let g : n - i ≡ 0 = omega arith in sym (rw g)
 
 -- ---- a run of zeros
 module _ (b : List ℕ) (i to : ℕ) (low : i < to) (high : to ≤ length b) where
@@ -177,17 +232,6 @@ module _ (st : State) where
       next-rest p q r = record { is = simp (count, ne-eqb _ _ no4, ne-eqb _ _ p, ne-eqb _ _ q, ne-eqb _ _ r); variants-grow = omega arith; parts-grow = omega arith; letters-grow = omega arith }
 
 -- ---- reading on
-pub both : (a b : Bool) → a && b ≡ true → (a ≡ true) × (b ≡ true)
-both true b e = (refl, e)
-both false b e = let z : _≡_ {A = ℕ} 0 1 = cc in absurd (no z)
-  where
-    no : {n : ℕ} → 0 ≡ suc n → ⊥
-    no e = omega arith
-
-pub split : (t : Bool) → (t ≡ true) ⊎ (t ≡ false)
-split true = inl refl
-split false = inr refl
-
 pub fault-long : (st : State) (k : ℕ) (b : List ℕ) → faultOf st k b ≡ 0 → bodyLen k ≤ length b
 unfolding faultOf
 fault-long st k b e = ⊎-elim

@@ -4,24 +4,17 @@ use native.Mathlib.Omega.{arith}
 use native.Mathlib.Numerals.{add-one}
 use mathlib.Core.Path.{_≡_, refl, ap, _∙_}
 use mathlib.Core.List.{List, [], _∷_, _++_}
-use mathlib.Core.Bool.{Bool, true, false, cond}
-use lib.Dec.{eqb}
 use lib.ListN.{length, getD, take, drop, length-drop, drop-of-length-le}
 use lib.Seq.{drop-cons, drop-nil, take-all, drop-drop}
+use Rattle.form.specs.declared.records.Shape.{Shape}
 use Rattle.form.specs.Form.{bodyLen}
 use Rattle.form.specs.Job.{lettersIn, gather}
 use Rattle.form.specs.Lent.{sum}
+use Rattle.form.proofs.FormLaws.{every-row}
 
 pub short-body : (k : ℕ) → bodyLen k ≤ 40
 unfolding bodyLen
-short-body k = four-ways (eqb k 1) (eqb k 2) (eqb k 3) (eqb k 4)
-  where
-    four-ways : (p q r t : Bool) → cond p 40 (cond q 25 (cond r 9 (cond t 16 0))) ≤ 40
-    four-ways true q r t = omega arith
-    four-ways false true r t = omega arith
-    four-ways false false true t = omega arith
-    four-ways false false false true = omega arith
-    four-ways false false false false = omega arith
+short-body k = every-row (λ (s : Shape). s .body ≤ 40) (omega arith) (omega arith) (omega arith) (omega arith) (omega arith) k
 
 -- ---- the walk over the records
 module _ {A : Type 0} (here : ℕ → List ℕ → List A) where

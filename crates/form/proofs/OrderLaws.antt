@@ -17,7 +17,7 @@ use Rattle.form.specs.declared.records.Scan.the-variants.{Good, Refused}
 use Rattle.form.specs.Form.{bodyLen, inPlace, countOf, faultOf, after, run, outset}
 use Rattle.form.specs.Job.{lettersIn, lettersAfter, gather}
 use Rattle.form.specs.Steps.{lettersHere, lettersGiven, lettersOwed, lettersWalk}
-use Rattle.form.proofs.FormLaws.{split}
+use Rattle.form.proofs.FormLaws.{split, count-rest}
 use Rattle.form.proofs.CountLaws.{none-placed, none-whole, none-last, owed-none, never}
 
 -- ---- a record's sixteen letters, and the rest of its sequence
@@ -158,10 +158,10 @@ module _ (st : State) (b : List ℕ) (G2 G3 : List ℕ) where
       rw (owed, le-ltb (length b) 9 whole, g refl) (w ∙ rw (g refl))
 
   turn-rest : (k : ℕ) → (k ≡ 2 → ⊥) → (k ≡ 3 → ⊥) → (k ≡ 4 → ⊥) → Turn k
-  unfolding lettersHere lettersIn countOf
+  unfolding lettersHere lettersIn
   turn-rest k p q r f w g =
       let owed : st .left ≡ 0 = owed-none st k (none-placed st k b f) r in
-      let n : lettersOwed k b (st .left) ≡ 0 = announced k r ∙ rw (ne-eqb k 2 p, ne-eqb k 3 q) in
+      let n : lettersOwed k b (st .left) ≡ 0 = announced k r ∙ count-rest k b p q in
       let v : lettersWalk b (bodyLen k) (lettersOwed k b (st .left)) ≡ G2 ++ G3 = w ∙ rw n in
       rw (none-given k r, owed, ne-eqb k 2 p, ne-eqb k 3 q) (ap (λ (m : ℕ). lettersWalk b (bodyLen k) (lettersOwed k b m)) (sym owed) ∙ v)
 

@@ -9,7 +9,7 @@ use lib.Dec.{ltb, eqb}
 use Rattle.params.specs.declared.Settings.{Settings}
 use Rattle.fields.specs.Fields.{le4, le8, signedOf, bytes4, bytes8, wordOf}
 use Rattle.form.specs.Settings40.{settingsIn, settingsBytes, flag}
-use Rattle.form.specs.Form.{bodyLen, countOf, run, outset}
+use Rattle.form.specs.Form.{endKind, settingsKind, variantKind, partKind, lettersKind, variantLen, partLen, lettersLen, shapeOf, bodyLen, countOf, run, outset}
 use Rattle.form.specs.declared.records.Scan.{Scan}
 use Rattle.form.specs.declared.records.Scan.the-variants.{Good, Refused}
 
@@ -33,7 +33,7 @@ pub record Job : Type 0 where
 -- Reading. n letters from the i-th on, of the letters records b: sixteen letters behind each kind.
 unfoldable pub lettersIn : List ℕ → ℕ → ℕ → List ℕ
 lettersIn b i zero = []
-lettersIn b i (suc n) = getD b (1 + i + i / 16) 0 ∷ lettersIn b (suc i) n
+lettersIn b i (suc n) = getD b (1 + i + i / lettersLen) 0 ∷ lettersIn b (suc i) n
 
 -- the letters behind the record of kind k with b from its body on
 unfoldable pub lettersAfter : ℕ → List ℕ → List ℕ
@@ -44,23 +44,23 @@ variantOf b = record {
   start = le8 b 0;
   end = le8 b 8;
   size = signedOf (le4 b 16);
-  negative = eqb (getD b 20 0) 1;
-  letters = lettersAfter 2 b;
+  negative = eqb (getD b (shapeOf variantKind .flags) 0) 1;
+  letters = lettersAfter variantKind b;
 }
 
 unfoldable pub partOf : List ℕ → Part
 partOf b = record {
   size = signedOf (le4 b 0);
-  negative = eqb (getD b 4 0) 1;
-  letters = lettersAfter 3 b;
+  negative = eqb (getD b (shapeOf partKind .flags) 0) 1;
+  letters = lettersAfter partKind b;
 }
 
 -- what a whole record adds to the variants, and to the parts
 unfoldable pub variantHere : ℕ → List ℕ → List Variant
-variantHere k b = cond (eqb k 2) (cond (ltb (length b) 25) [] (variantOf b ∷ [])) []
+variantHere k b = cond (eqb k variantKind) (cond (ltb (length b) variantLen) [] (variantOf b ∷ [])) []
 
 unfoldable pub partHere : ℕ → List ℕ → List Part
-partHere k b = cond (eqb k 3) (cond (ltb (length b) 9) [] (partOf b ∷ [])) []
+partHere k b = cond (eqb k partKind) (cond (ltb (length b) partLen) [] (partOf b ∷ [])) []
 
 -- what the records of a form add, front to back; the first n bytes belong to a record that was read already
 unfoldable pub gather : {A : Type 0} → (ℕ → List ℕ → List A) → List ℕ → ℕ → List A
@@ -85,16 +85,16 @@ readJob s = readOf (run s 0 outset) (jobOf s)
 
 -- Writing. A letters record's body: the next sixteen letters, with zeros where there are fewer.
 unfoldable pub padded : List ℕ → List ℕ
-padded l = take 16 (l ++ replicate 16 0)
+padded l = take lettersLen (l ++ replicate lettersLen 0)
 
 -- n letters records
 unfoldable pub lettersRecords : ℕ → List ℕ → List ℕ
 lettersRecords zero l = []
-lettersRecords (suc n) l = 4 ∷ (padded l ++ lettersRecords n (drop 16 l))
+lettersRecords (suc n) l = lettersKind ∷ (padded l ++ lettersRecords n (drop lettersLen l))
 
 -- just enough of them
 abbrev pub recordsFor : ℕ → ℕ
-recordsFor n = (n + 15) / 16
+recordsFor n = (n + 15) / lettersLen
 
 unfoldable pub sequenceBytes : List ℕ → List ℕ
 sequenceBytes l = lettersRecords (recordsFor (length l)) l
@@ -107,10 +107,10 @@ unfoldable pub variantBody : ℕ → ℕ → ℤ → Bool → ℕ → List ℕ
 variantBody first last size negative count = bytes8 first ++ (bytes8 last ++ partBody size negative count)
 
 unfoldable pub variantBytes : Variant → List ℕ
-variantBytes x = 2 ∷ (variantBody (x .start) (x .end) (x .size) (x .negative) (length (x .letters)) ++ sequenceBytes (x .letters))
+variantBytes x = variantKind ∷ (variantBody (x .start) (x .end) (x .size) (x .negative) (length (x .letters)) ++ sequenceBytes (x .letters))
 
 unfoldable pub partBytes : Part → List ℕ
-partBytes x = 3 ∷ (partBody (x .size) (x .negative) (length (x .letters)) ++ sequenceBytes (x .letters))
+partBytes x = partKind ∷ (partBody (x .size) (x .negative) (length (x .letters)) ++ sequenceBytes (x .letters))
 
 unfoldable pub variantsBytes : List Variant → List ℕ
 variantsBytes [] = []
@@ -121,4 +121,4 @@ partsBytes [] = []
 partsBytes (x ∷ xs) = partBytes x ++ partsBytes xs
 
 unfoldable pub jobBytes : Job → List ℕ
-jobBytes job = 1 ∷ (settingsBytes (job .settings) ++ (variantsBytes (job .variants) ++ (partsBytes (job .parts) ++ (0 ∷ []))))
+jobBytes job = settingsKind ∷ (settingsBytes (job .settings) ++ (variantsBytes (job .variants) ++ (partsBytes (job .parts) ++ (endKind ∷ []))))

@@ -5,7 +5,7 @@ use mathlib.Core.List.{List, [], _∷_, _++_}
 use mathlib.Core.Bool.{cond}
 use lib.ListN.{length}
 use lib.Dec.{ltb, leb, eqb}
-use Rattle.form.specs.Form.{bodyLen, countOf, after}
+use Rattle.form.specs.Form.{lettersKind, lettersLen, bodyLen, countOf, after}
 use Rattle.form.specs.Job.{lettersIn, lettersAfter}
 use Rattle.form.specs.declared.records.State.{State}
 
@@ -26,13 +26,13 @@ lettersHere kind k b = cond (eqb k kind) (cond (ltb (length b) (bodyLen kind)) [
 
 -- of the letters that are owed, those that the record of kind k gives, and those owed behind it
 unfoldable pub lettersGiven : ℕ → ℕ → ℕ
-lettersGiven k left = cond (eqb k 4) (cond (leb left 16) left 16) 0
+lettersGiven k left = cond (eqb k lettersKind) (cond (leb left lettersLen) left lettersLen) 0
 
 unfoldable pub lettersOwed : ℕ → List ℕ → ℕ → ℕ
-lettersOwed k b left = cond (eqb k 4) (cond (leb left 16) 0 (left - 16)) (countOf k b)
+lettersOwed k b left = cond (eqb k lettersKind) (cond (leb left lettersLen) 0 (left - lettersLen)) (countOf k b)
 
 -- the letters in the order of the bytes, of which the first n belong to a record that was read already
 unfoldable pub lettersWalk : List ℕ → ℕ → ℕ → List ℕ
 lettersWalk [] n left = []
 lettersWalk (k ∷ b) (suc n) left = lettersWalk b n left
-lettersWalk (k ∷ b) zero left = lettersIn (4 ∷ b) 0 (lettersGiven k left) ++ lettersWalk b (bodyLen k) (lettersOwed k b left)
+lettersWalk (k ∷ b) zero left = lettersIn (lettersKind ∷ b) 0 (lettersGiven k left) ++ lettersWalk b (bodyLen k) (lettersOwed k b left)

@@ -1,4 +1,5 @@
 // The form's records and their faults, front to back.
+use fields::u8_at;
 use fields::u32_at;
 use metrics::refusals::BAD_FLAG;
 use metrics::refusals::BAD_PADDING;
@@ -9,9 +10,9 @@ use metrics::refusals::TOO_MANY_LETTERS;
 use metrics::refusals::UNKNOWN_KIND;
 ghost use mathlib.Core.Path.{_≡_};
 ghost use mathlib.Core.List.{[]};
-ghost use Prim.Native.Nat.{_≤_, _^_};
+ghost use Prim.Native.Nat.{_≤_, _+_, _^_};
 ghost use lib.ListN.{length, drop, take};
-ghost use Rattle.form.specs.Form.{bodyLen, inPlace, flagsOk, allZero, padOk, faultOf, outset, run};
+ghost use Rattle.form.specs.Form.{lettersKind, shapeOf, bodyLen, inPlace, areFlags, flagsOk, allZero, padOk, faultOf, outset, run};
 ghost use Rattle.form.specs.Steps.{Next, Small};
 ghost use Rattle.form.specs.Promises.{BodyLenPromise, CountOfPromise};
 
@@ -35,6 +36,7 @@ pub enum Scan {
     Good(Counts),
 }
 
+// the byte that begins a record
 pub const END: u8 = 0;
 
 pub const SETTINGS: u8 = 1;
@@ -46,17 +48,87 @@ pub const PART: u8 = 3;
 pub const LETTERS: u8 = 4;
 // what one sequence may have
 pub const MOST_LETTERS: u32 = 131072;
+// how long a kind's body is
+pub const SETTINGS_BODY: usize = 40;
 
+pub const VARIANT_BODY: usize = 25;
+
+pub const PART_BODY: usize = 9;
+
+pub const LETTERS_BODY: usize = 16;
+// how many letters a record has, at most
+pub const LETTERS_EACH: u32 = LETTERS_BODY as u32;
+// the kind's byte and the body
+pub const SETTINGS_RECORD: usize = 1 + SETTINGS_BODY;
+
+pub const VARIANT_RECORD: usize = 1 + VARIANT_BODY;
+
+pub const PART_RECORD: usize = 1 + PART_BODY;
+
+pub const LETTERS_RECORD: usize = 1 + LETTERS_BODY;
+// settings and the end
+pub const LEAST_JOB: usize = SETTINGS_RECORD + 1;
+// where the flag of a variant and of a part stands, and their letter count
+pub const VARIANT_FLAG: usize = 20;
+
+pub const VARIANT_COUNT: usize = 21;
+
+pub const PART_FLAG: usize = 4;
+
+pub const PART_COUNT: usize = 5;
+
+// A kind's shape: how long its body is, from which byte on how many are flags, and where the letter count stands, 0 where it has none.
+pub struct Shape {
+    pub body: usize,
+    pub flags: usize,
+    pub flag_count: usize,
+    pub count: usize,
+}
+
+// The one table of kinds: settings, variant, part, letters, and the end or what is unknown.
+fn shape_of(k: u8) -> Shape
+    ensures { λ r. ⌜ r ≡ shapeOf k ⌝ }
+{
+    match k {
+        1 => Shape {
+            body: SETTINGS_BODY,
+            flags: 1,
+            flag_count: 3,
+            count: 0,
+        },
+        2 => Shape {
+            body: VARIANT_BODY,
+            flags: VARIANT_FLAG,
+            flag_count: 1,
+            count: VARIANT_COUNT,
+        },
+        3 => Shape {
+            body: PART_BODY,
+            flags: PART_FLAG,
+            flag_count: 1,
+            count: PART_COUNT,
+        },
+        4 => Shape {
+            body: LETTERS_BODY,
+            flags: 0,
+            flag_count: 0,
+            count: 0,
+        },
+        _ => Shape {
+            body: 0,
+            flags: 0,
+            flag_count: 0,
+            count: 0,
+        },
+    }
+}
+
+// How long a kind's body is; 0 where it has none or is unknown.
 pub fn body_len(k: u8) -> usize
     ensures { λ r. ⌜ BodyLenPromise k r ⌝ }
 {
-    match k {
-        1 => 40,
-        2 => 25,
-        3 => 9,
-        4 => 16,
-        _ => 0,
-    }
+    let s = shape_of(k);
+    s.body
 }
 
 fn in_place(st: State, k: u8) -> bool
@@ -74,46 +146,36 @@ fn in_place(st: State, k: u8) -> bool
     k == PART || k == END
 }
 
-fn settings_flags(b: &[u8]) -> bool
-    requires { ⌜ 40 ≤ length (now b) ⌝ }
-    ensures { λ r. ⌜ r ≡ flagsOk 1 (now (b .entry)) ⌝ }
+fn are_flags(b: &[u8], from: usize, n: usize) -> bool
+    requires { ⌜ from + n ≤ 64 ⌝ }
+    ensures { λ r. ⌜ r ≡ areFlags (now (b .entry)) from n ⌝ }
 {
-    if 2 <= b[1] {
-        return false;
+    let mut i = 0usize;
+    while i < n {
+        if 2 <= u8_at(b, from + i) {
+            return false;
+        }
+        i += 1;
     }
-    if 2 <= b[2] {
-        return false;
-    }
-    b[3] < 2
+    true
 }
 
 fn flags_ok(k: u8, b: &[u8]) -> bool
-    requires { ⌜ bodyLen k ≤ length (now b) ⌝ }
     ensures { λ r. ⌜ r ≡ flagsOk k (now (b .entry)) ⌝ }
 {
-    if k == SETTINGS {
-        return settings_flags(b);
-    }
-    if k == VARIANT {
-        return b[20] < 2;
-    }
-    if k == PART {
-        return b[4] < 2;
-    }
-    true
+    let s = shape_of(k);
+    are_flags(b, s.flags, s.flag_count)
 }
 
 // How many letters the record of kind k with b from its body on announces.
 pub fn count_of(k: u8, b: &[u8]) -> u32
     ensures { λ r. ⌜ CountOfPromise k (now (b .entry)) r ⌝ }
 {
-    if k == VARIANT {
-        return u32_at(b, 21);
+    let s = shape_of(k);
+    if s.count == 0 {
+        return 0;
     }
-    if k == PART {
-        return u32_at(b, 5);
-    }
-    0
+    u32_at(b, s.count)
 }
 
 fn all_zero(b: &[u8], from: usize, to: usize) -> bool
@@ -135,7 +197,7 @@ fn pad_ok(st: State, k: u8, b: &[u8]) -> bool
     ensures { λ r. ⌜ r ≡ padOk st k (now (b .entry)) ⌝ }
 {
     if k == LETTERS {
-        return all_zero(b, st.left as usize, 16);
+        return all_zero(b, st.left as usize, LETTERS_BODY);
     }
     true
 }
@@ -171,10 +233,10 @@ fn fault_of(st: State, k: u8, b: &[u8]) -> u32
 
 fn after_letters(st: State) -> State
     requires { ⌜ st .letters ≤ 2 ^ 63 ⌝ }
-    ensures { λ r. ⌜ Next st 4 [] r ⌝ }
+    ensures { λ r. ⌜ Next st lettersKind [] r ⌝ }
 {
     let left = st.left;
-    if left <= 16 {
+    if left <= LETTERS_EACH {
         return State {
             phase: st.phase,
             left: 0,
@@ -185,10 +247,10 @@ fn after_letters(st: State) -> State
     }
     State {
         phase: st.phase,
-        left: left - 16,
+        left: left - LETTERS_EACH,
         variants: st.variants,
         parts: st.parts,
-        letters: st.letters + 16,
+        letters: st.letters + LETTERS_BODY,
     }
 }
 

@@ -5,8 +5,15 @@ use fields::u8_at;
 use fields::u32_at;
 use fields::u64_at;
 use form::records::LETTERS;
+use form::records::LETTERS_EACH;
 use form::records::PART;
+use form::records::PART_BODY;
+use form::records::PART_COUNT;
+use form::records::PART_FLAG;
 use form::records::VARIANT;
+use form::records::VARIANT_BODY;
+use form::records::VARIANT_COUNT;
+use form::records::VARIANT_FLAG;
 use form::records::body_len;
 use form::records::count_of;
 ghost use mathlib.Core.Path.{_≡_};
@@ -14,7 +21,7 @@ ghost use Prim.Native.Nat.{_≤_, _<_, _+_, _^_};
 ghost use mathlib.Core.List.{_∷_};
 ghost use lib.ListN.{length, set};
 ghost use Rattle.form.specs.Job.{variantOf, variantHere, partOf, partHere, lettersIn, gather};
-ghost use Rattle.form.specs.Form.{bodyLen};
+ghost use Rattle.form.specs.Form.{lettersKind, variantLen, partLen, lettersLen, bodyLen};
 ghost use Rattle.form.specs.Steps.{lettersGiven, lettersOwed, lettersWalk};
 ghost use Rattle.reader.specs.Steps.{rows, putRow, partRows, putPart, stores, Stored};
 
@@ -60,7 +67,7 @@ fn put_variant(
     negatives: &mut [bool],
     counts: &mut [u32],
 )
-    requires { ⌜ 25 ≤ length (now b) ⌝ }
+    requires { ⌜ variantLen ≤ length (now b) ⌝ }
     ensures { λ _. ⌜ rows (now (starts .exit)) (now (ends .exit)) (now (sizes .exit)) (now (negatives .exit)) (now (counts .exit))
         ≡ putRow (rows (now (starts .entry)) (now (ends .entry)) (now (sizes .entry)) (now (negatives .entry)) (now (counts .entry)))
         v (variantOf (now (b .entry))) ⌝ }
@@ -68,8 +75,8 @@ fn put_variant(
     set_u64(starts, v, u64_at(b, 0));
     set_u64(ends, v, u64_at(b, 8));
     set_i32(sizes, v, i32_of(u32_at(b, 16)));
-    set_bool(negatives, v, b[20] == 1);
-    set_u32(counts, v, u32_at(b, 21));
+    set_bool(negatives, v, b[VARIANT_FLAG] == 1);
+    set_u32(counts, v, u32_at(b, VARIANT_COUNT));
 }
 
 // What one record adds, from row v on. Returns the next row.
@@ -91,7 +98,7 @@ fn fill_variant(
     if k != VARIANT {
         return v;
     }
-    if b.len() < 25 {
+    if b.len() < VARIANT_BODY {
         return v;
     }
     put_variant(b, v, starts, ends, sizes, negatives, counts);
@@ -99,13 +106,13 @@ fn fill_variant(
 }
 
 fn put_part(b: &[u8], v: usize, sizes: &mut [i32], negatives: &mut [bool], counts: &mut [u32])
-    requires { ⌜ 9 ≤ length (now b) ⌝ }
+    requires { ⌜ partLen ≤ length (now b) ⌝ }
     ensures { λ _. ⌜ partRows (now (sizes .exit)) (now (negatives .exit)) (now (counts .exit))
         ≡ putPart (partRows (now (sizes .entry)) (now (negatives .entry)) (now (counts .entry))) v (partOf (now (b .entry))) ⌝ }
 {
     set_i32(sizes, v, i32_of(u32_at(b, 0)));
-    set_bool(negatives, v, b[4] == 1);
-    set_u32(counts, v, u32_at(b, 5));
+    set_bool(negatives, v, b[PART_FLAG] == 1);
+    set_u32(counts, v, u32_at(b, PART_COUNT));
 }
 
 fn fill_part(
@@ -123,7 +130,7 @@ fn fill_part(
     if k != PART {
         return v;
     }
-    if b.len() < 9 {
+    if b.len() < PART_BODY {
         return v;
     }
     put_part(b, v, sizes, negatives, counts);
@@ -132,12 +139,16 @@ fn fill_part(
 
 // How many letters the record gives, of those that are owed.
 fn letters_given(k: u8, left: u32) -> u32
-    ensures { λ r. ⌜ (r ≡ lettersGiven k left) × ((r ≤ 16) × (r ≤ bodyLen k)) ⌝ }
+    ensures { λ r. ⌜ (r ≡ lettersGiven k left) × ((r ≤ lettersLen) × (r ≤ bodyLen k)) ⌝ }
 {
     if k != LETTERS {
         return 0;
     }
-    if left <= 16 { left } else { 16 }
+    if left <= LETTERS_EACH {
+        left
+    } else {
+        LETTERS_EACH
+    }
 }
 
 // How many letters are owed behind the record.
@@ -147,13 +158,17 @@ fn letters_owed(k: u8, b: &[u8], left: u32) -> u32
     if k != LETTERS {
         return count_of(k, b);
     }
-    if left <= 16 { 0 } else { left - 16 }
+    if left <= LETTERS_EACH {
+        0
+    } else {
+        left - LETTERS_EACH
+    }
 }
 
 // The first n letters of a letters record's body, from position `at` on.
 fn copy_letters(out: &mut [u8], at: usize, b: &[u8], n: usize)
-    requires { ⌜ (at < 2 ^ 63) × (n ≤ 16) ⌝ }
-    ensures { λ _. ⌜ now (out .exit) ≡ stores set (now (out .entry)) at (lettersIn (4 ∷ now (b .entry)) 0 n) ⌝ }
+    requires { ⌜ (at < 2 ^ 63) × (n ≤ lettersLen) ⌝ }
+    ensures { λ _. ⌜ now (out .exit) ≡ stores set (now (out .entry)) at (lettersIn (lettersKind ∷ now (b .entry)) 0 n) ⌝ }
 {
     let mut i = 0usize;
     while i < n {
@@ -165,7 +180,7 @@ fn copy_letters(out: &mut [u8], at: usize, b: &[u8], n: usize)
 // The letters that one record gives, from position `at` on. Returns the position behind them.
 fn fill_letters(k: u8, b: &[u8], at: usize, left: u32, out: &mut [u8]) -> usize
     requires { ⌜ at < 2 ^ 63 ⌝ }
-    ensures is { λ _. ⌜ now (out .exit) ≡ stores set (now (out .entry)) at (lettersIn (4 ∷ now (b .entry)) 0 (lettersGiven k left)) ⌝ }
+    ensures is { λ _. ⌜ now (out .exit) ≡ stores set (now (out .entry)) at (lettersIn (lettersKind ∷ now (b .entry)) 0 (lettersGiven k left)) ⌝ }
     ensures next { λ r. ⌜ (r ≡ at + lettersGiven k left) × (r ≤ at + bodyLen k) ⌝ }
 {
     let n = letters_given(k, left) as usize;

@@ -197,7 +197,7 @@ module _ (x : Variant) (h : VariantHolds x) (rest : List ℕ) where
 
   v-flags : flagsOk 2 (vbody ++ vrest) ≡ true
   unfolding flagsOk variantBody partBody bytes8 bytes4 bytes2
-  v-flags = flag-low (x .negative)
+  v-flags = rw (flag-low (x .negative))
 
   v-count : countOf 2 (vbody ++ vrest) ≡ length (x .letters)
   unfolding countOf variantBody partBody bytes8 bytes4 bytes2 le4 le2
@@ -258,7 +258,7 @@ module _ (x : Part) (h : PartHolds x) (rest : List ℕ) where
 
   p-flags : flagsOk 3 (pbody ++ prest) ≡ true
   unfolding flagsOk partBody bytes4 bytes2
-  p-flags = flag-low (x .negative)
+  p-flags = rw (flag-low (x .negative))
 
   p-count : countOf 3 (pbody ++ prest) ≡ length (x .letters)
   unfolding countOf partBody bytes4 bytes2 le4 le2

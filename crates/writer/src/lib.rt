@@ -4,11 +4,17 @@ use fields::put_u32;
 use fields::put_u64;
 use fields::u32_of;
 use form::records::END;
+use form::records::LEAST_JOB;
 use form::records::LETTERS;
+use form::records::LETTERS_BODY;
+use form::records::LETTERS_RECORD;
 use form::records::MOST_LETTERS;
 use form::records::PART;
+use form::records::PART_RECORD;
 use form::records::SETTINGS;
+use form::records::SETTINGS_RECORD;
 use form::records::VARIANT;
+use form::records::VARIANT_RECORD;
 use form::records::body_len;
 use form::settings::write_settings;
 use metrics::refusals::BAD_LENGTHS;
@@ -18,10 +24,11 @@ use params::Settings;
 ghost use mathlib.Core.Path.{_≡_};
 ghost use mathlib.Core.List.{_∷_};
 ghost use Prim.Native.Nat.{_≤_, _<_, _+_, _^_};
-ghost use Prim.Native.Nat.{_*_, _-_};
+ghost use Prim.Native.Nat.{suc, _*_, _-_};
 ghost use lib.Dec.{eqb};
 ghost use lib.ListN.{length, take, getD};
 ghost use lib.Seq.{sets, slice};
+ghost use Rattle.form.specs.Form.{settingsLen, variantKind, partKind, lettersKind, variantLen, partLen, lettersLen};
 ghost use Rattle.form.specs.Job.{padded, recordsFor, sequenceBytes, partBody, variantBody, variantsBytes, partsBytes, jobBytes};
 ghost use Rattle.form.specs.Lent.{lent, sum};
 ghost use Rattle.writer.specs.Writing.{anyOver, fourAgree, twoAgree, variantsFrom, partsFrom, jobFrom};
@@ -76,7 +83,7 @@ fn cost(kind: u8, count: u32) -> usize
     if kind == LETTERS {
         return n;
     }
-    1 + body_len(kind) + 17 * ((n + 15) / 16)
+    1 + body_len(kind) + LETTERS_RECORD * ((n + 15) / LETTERS_BODY)
 }
 
 // Takes the sequences' costs away one by one: their sum may be past 64 bits.
@@ -114,12 +121,12 @@ fn letters_agree(counts: &[u32], parts: &[u32], have: usize) -> bool
 
 // What is left of the room behind the settings, the variants, the parts and the end.
 fn spare(counts: &[u32], parts: &[u32], room: usize) -> Left
-    ensures { λ r. ⌜ r ≡ leftOf (42 + (total 2 (now (counts .entry)) + total 3 (now (parts .entry)))) room ⌝ }
+    ensures { λ r. ⌜ r ≡ leftOf (suc (suc settingsLen) + (total variantKind (now (counts .entry)) + total partKind (now (parts .entry)))) room ⌝ }
 {
-    if room < 42 {
+    if room < LEAST_JOB {
         return Left::Short;
     }
-    let first = left_after(VARIANT, counts, room - 42);
+    let first = left_after(VARIANT, counts, room - LEAST_JOB);
     match first {
         Left::Short => Left::Short,
         Left::Enough(n) => left_after(PART, parts, n),
@@ -148,19 +155,19 @@ fn letter_or_zero(letters: &[u8], i: usize, end: usize) -> u8
 
 // One letters record: the next sixteen, with zeros from `end` on.
 fn write_letters(out: &mut [u8], at: usize, letters: &[u8], from: usize, end: usize)
-    requires { ⌜ (end ≤ length (now letters)) × ((from < end) × (at + 17 ≤ length (now out))) ⌝ }
-    ensures { λ _. ⌜ now (out .exit) ≡ sets (now (out .entry)) at (4 ∷ padded (slice from end (now (letters .entry)))) ⌝ }
+    requires { ⌜ (end ≤ length (now letters)) × ((from < end) × (at + suc lettersLen ≤ length (now out))) ⌝ }
+    ensures { λ _. ⌜ now (out .exit) ≡ sets (now (out .entry)) at (lettersKind ∷ padded (slice from end (now (letters .entry)))) ⌝ }
 {
     put_u8(out, at, LETTERS);
     write_padded(out, at + 1, letters, from, end);
 }
 
 fn write_padded(out: &mut [u8], at: usize, letters: &[u8], from: usize, end: usize)
-    requires { ⌜ (end ≤ length (now letters)) × ((from < end) × (at + 16 ≤ length (now out))) ⌝ }
+    requires { ⌜ (end ≤ length (now letters)) × ((from < end) × (at + lettersLen ≤ length (now out))) ⌝ }
     ensures { λ _. ⌜ now (out .exit) ≡ sets (now (out .entry)) at (padded (slice from end (now (letters .entry)))) ⌝ }
 {
     let mut j = 0usize;
-    while j < 16 {
+    while j < LETTERS_BODY {
         out[at + j] = letter_or_zero(letters, from + j, end);
         j += 1;
     }
@@ -168,21 +175,21 @@ fn write_padded(out: &mut [u8], at: usize, letters: &[u8], from: usize, end: usi
 
 // The letters from `from` up to `end`, in just enough records. Returns the position behind them.
 fn write_sequence(out: &mut [u8], at: usize, letters: &[u8], from: usize, end: usize) -> usize
-    requires { ⌜ (end ≤ length (now letters)) × (at + 17 * recordsFor (end - from) ≤ length (now out)) ⌝ }
+    requires { ⌜ (end ≤ length (now letters)) × (at + suc lettersLen * recordsFor (end - from) ≤ length (now out)) ⌝ }
     ensures { λ r. ⌜ Put (now (out .entry)) (now (out .exit)) at r (sequenceBytes (slice from end (now (letters .entry)))) ⌝ }
 {
     let mut p = from;
     let mut a = at;
     while p < end {
         write_letters(out, a, letters, p, end);
-        a += 17;
-        p += 16;
+        a += LETTERS_RECORD;
+        p += LETTERS_BODY;
     }
     a
 }
 
 fn write_body(out: &mut [u8], at: usize, size: i32, negative: bool, count: u32)
-    requires { ⌜ at + 9 ≤ length (now out) ⌝ }
+    requires { ⌜ at + partLen ≤ length (now out) ⌝ }
     ensures { λ _. ⌜ now (out .exit) ≡ sets (now (out .entry)) at (partBody size negative count) ⌝ }
 {
     put_u32(out, at, u32_of(size));
@@ -200,8 +207,8 @@ fn write_variant(
     negative: bool,
     count: u32,
 )
-    requires { ⌜ at + 26 ≤ length (now out) ⌝ }
-    ensures { λ _. ⌜ now (out .exit) ≡ sets (now (out .entry)) at (2 ∷ variantBody first last size negative count) ⌝ }
+    requires { ⌜ at + suc variantLen ≤ length (now out) ⌝ }
+    ensures { λ _. ⌜ now (out .exit) ≡ sets (now (out .entry)) at (variantKind ∷ variantBody first last size negative count) ⌝ }
 {
     put_u8(out, at, VARIANT);
     put_u64(out, at + 1, first);
@@ -210,8 +217,8 @@ fn write_variant(
 }
 
 fn write_part(out: &mut [u8], at: usize, size: i32, negative: bool, count: u32)
-    requires { ⌜ at + 10 ≤ length (now out) ⌝ }
-    ensures { λ _. ⌜ now (out .exit) ≡ sets (now (out .entry)) at (3 ∷ partBody size negative count) ⌝ }
+    requires { ⌜ at + suc partLen ≤ length (now out) ⌝ }
+    ensures { λ _. ⌜ now (out .exit) ≡ sets (now (out .entry)) at (partKind ∷ partBody size negative count) ⌝ }
 {
     put_u8(out, at, PART);
     write_body(out, at + 1, size, negative, count);
@@ -239,7 +246,7 @@ fn write_variants(
         let count = counts[r];
         let end = p + count as usize;
         write_variant(out, a, starts[r], ends[r], sizes[r], negatives[r], count);
-        a = write_sequence(out, a + 26, letters, p, end);
+        a = write_sequence(out, a + VARIANT_RECORD, letters, p, end);
         p = end;
         r += 1;
     }
@@ -266,7 +273,7 @@ fn write_parts(
         let count = counts[r];
         let end = p + count as usize;
         write_part(out, a, sizes[r], negatives[r], count);
-        a = write_sequence(out, a + 10, letters, p, end);
+        a = write_sequence(out, a + PART_RECORD, letters, p, end);
         p = end;
         r += 1;
     }
@@ -296,7 +303,7 @@ fn lay_job(
     write_settings(out, 1, settings);
     let v = write_variants(
         out,
-        41,
+        SETTINGS_RECORD,
         starts,
         ends,
         sizes,

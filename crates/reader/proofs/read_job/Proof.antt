@@ -57,6 +57,9 @@ checked c = c .before .before
 abbrev head-read : tie.After-fill → tie.After-read-settings
 head-read c = c .before .before .before .before .before .before .before .before .before .before
 
+abbrev filled : tie.After-slice-known14 → tie.After-fill
+filled c = c .before .before .before .before .before .before .before .before .before .before .before .before .before .before .before .before
+
 scan-requires : tie.Need-scan-requires
 scan-requires c κs = search needs
 
@@ -132,7 +135,7 @@ same-length-9 c = search needs
 
 returns-5 : tie.Need-returns-5
 returns-5 c =
-    let f = c .before .before .before .before .before .before .before .before .before .before .before .before .before .before .before .before in
+    let f = filled c in
     let h = head-read f in
     let k = checked h in
     let p = k .before .before in

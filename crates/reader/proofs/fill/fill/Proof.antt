@@ -34,11 +34,17 @@ start c = c .before .before .before .before .before .before .before .before .bef
 abbrev inside : tie.After-fill-variant Inv-loop μ-loop → tie.In-loop Inv-loop μ-loop
 inside c = c .before .before .before .before .before .before .before .before
 
+abbrev asked-parts : tie.After-fill-part-arg3 Inv-loop μ-loop → tie.After-fill-variant Inv-loop μ-loop
+asked-parts c = c .before .before .before .before .before .before .before .before .before .before .before .before
+
 abbrev variants : tie.After-fill-part Inv-loop μ-loop → tie.After-fill-variant Inv-loop μ-loop
-variants c = c .before .before .before .before .before .before .before .before .before .before .before .before .before
+variants c = asked-parts (c .before)
+
+abbrev asked-letters : tie.After-fill-letters-arg Inv-loop μ-loop → tie.After-fill-part Inv-loop μ-loop
+asked-letters c = c .before .before .before .before .before .before
 
 abbrev parts : tie.After-fill-letters Inv-loop μ-loop → tie.After-fill-part Inv-loop μ-loop
-parts c = c .before .before .before .before .before .before .before
+parts c = asked-letters (c .before)
 
 abbrev letters : tie.After-letters-owed Inv-loop μ-loop → tie.After-fill-letters Inv-loop μ-loop
 letters c = c .before .before .before
@@ -75,12 +81,12 @@ fill-variant-requires c κs = omega arith
 
 fill-part-requires : tie.Need-fill-part-requires Inv-loop μ-loop
 fill-part-requires c κs =
-    let i = inside (c .before .before .before .before .before .before .before .before .before .before .before .before) in let l = i .before in
+    let i = inside (asked-parts c) in let l = i .before in
     omega (arith, l .loop .inv .1 .1 .1 .1 .0, i .loop-test .taken, start l .good .0)
 
 fill-letters-requires : tie.Need-fill-letters-requires Inv-loop μ-loop
 fill-letters-requires c κs =
-    let i = inside (variants (c .before .before .before .before .before .before)) in let l = i .before in
+    let i = inside (variants (asked-letters c)) in let l = i .before in
     omega (arith, l .loop .inv .1 .1 .1 .1 .1, i .loop-test .taken, start l .good .0)
 
 letters-owed-requires : tie.Need-letters-owed-requires Inv-loop μ-loop
