@@ -112,8 +112,7 @@ pub struct Answer {
 /// The queue's room. It grows to the largest search that it was lent to, and says nothing about any.
 #[derive(Clone, Debug, Default)]
 pub struct Room {
-    parents: Vec<u32>,
-    last_rows: Vec<u32>,
+    links: Vec<u32>,
     keys: Vec<u64>,
 }
 
@@ -122,9 +121,9 @@ impl Room {
         Self::default()
     }
 
-    /// How much memory it holds: 16 bytes an entry.
+    /// How much memory it holds: 12 bytes an entry.
     pub fn bytes(&self) -> usize {
-        16 * self.keys.len()
+        12 * self.keys.len()
     }
 }
 
@@ -176,4 +175,9 @@ pub fn apply_haplotype(settings: &Settings, table: &Table, haplotype: &Haplotype
 /// The same in a room that the caller keeps: for many searches one after the other.
 pub fn apply_haplotype_in(settings: &Settings, table: &Table, haplotype: &Haplotype, room: &mut Room) -> Result<Answer, Refusal> {
     raw::apply_haplotype(settings, table, haplotype, room)
+}
+
+/// The program's answer to a job's bytes: its lines of text. A job that the program refuses is answered by a line that says so.
+pub fn answer(job: &[u8]) -> String {
+    String::from_utf8_lossy(&raw::answer(job)).into_owned()
 }

@@ -12,7 +12,7 @@ use metrics::refusals::TOO_LARGE;
 ghost use Rattle.desk.specs.Promises.{AnswerPromise};
 
 // The text for a job's bytes, at the front of `out`. Returns how long it is.
-pub fn answer(input: &[u8], out: &mut [u8; 512]) -> usize
+pub fn answer(input: &[u8], out: &mut [u8; 8192]) -> usize
     ensures { λ r. ⌜ AnswerPromise (now (input .entry)) (now (out .entry)) (now (out .exit)) r ⌝ }
 {
     if 32768 < input.len() {

@@ -51,8 +51,7 @@ fn search(
         (tableOf (now (starts .entry)) (now (ends .entry)) (now (sizes .entry)) (now (features .entry)))
         (partsOf (now («part_sizes» .entry)) (now («part_features» .entry)))) ⌝ }
 {
-    let mut parents = queue_room();
-    let mut last_rows = queue_room();
+    let mut links = queue_room();
     let mut keys = key_room();
     let mut rows = [0u32; 16];
     let a = apply_haplotype(
@@ -63,8 +62,7 @@ fn search(
         features,
         part_sizes,
         part_features,
-        &mut parents,
-        &mut last_rows,
+        &mut links,
         &mut keys,
         &mut rows,
     );

@@ -1,0 +1,49 @@
+// The settings of a search as C and Rust lend them: thirteen words.
+ghost use mathlib.Core.Path.{_≡_};
+ghost use lib.Ieee.{binary32, ofBits};
+ghost use Rattle.capi.specs.Words.{flagOfWord, settingsOfWords};
+ghost use Rattle.capi.specs.Held.{byteHeld, settingsHeld};
+use params::Settings;
+
+// A byte holds no larger k than 255, which is refused as any larger one is.
+fn byte_of(word: u32) -> u8
+    ensures { λ r. ⌜ r ≡ byteHeld word ⌝ }
+{
+    if 255 < word { 255 } else { word as u8 }
+}
+
+fn flag_of(word: u32) -> bool
+    ensures { λ r. ⌜ r ≡ flagOfWord word ⌝ }
+{
+    word != 0
+}
+
+fn float_of(n: u32) -> f32
+    ensures { λ r. ⌜ r ≡ ofBits binary32 n ⌝ }
+{
+    if 2139095040 < n % 2147483648 {
+        0.0 / 0.0
+    } else {
+        f32::from_bits(n)
+    }
+}
+
+pub(crate) fn settings_of(words: &[u32; 13]) -> Settings
+    ensures { λ r. ⌜ r ≡ settingsHeld (settingsOfWords (now (words .entry))) ⌝ }
+{
+    Settings {
+        k: byte_of(words[0]),
+        squish: flag_of(words[1]),
+        one_to_one: flag_of(words[2]),
+        full: flag_of(words[3]),
+        maxpaths: words[4],
+        maxnodes: words[5],
+        fnmax: words[6],
+        pileupmax: words[7],
+        minkfreq: words[8],
+        sizesim: float_of(words[9]),
+        seqsim: float_of(words[10]),
+        fpenalty: float_of(words[11]),
+        gpenalty: float_of(words[12]),
+    }
+}
