@@ -27,11 +27,11 @@ Kept searching old new = searching ≡ false → new ≡ old
 kept : {searching : Bool} {old x y : List ℕ} → Kept searching old x → Kept searching old y → searching ≡ false → x ≡ y
 kept p q h = p h ∙ sym (q h)
 
-agree : {A : Type 0} {a : A} {searching : Bool} {parents lastRows keys rows : List ℕ}
-    → Agree A searching (λ x. (x .says ≡ a) × ((x .rows ≡ rows) × (Kept searching parents (x .parents) × (Kept searching lastRows (x .lastRows) × Kept searching keys (x .keys)))))
+agree : {A : Type 0} {a : A} {searching : Bool} {links keys rows : List ℕ}
+    → Agree A searching (λ x. (x .says ≡ a) × ((x .rows ≡ rows) × (Kept searching links (x .links) × Kept searching keys (x .keys))))
 agree x y p q = (
   p .1 .0 ∙ sym (q .1 .0),
-  (p .0 ∙ sym (q .0), λ h. (kept (p .1 .1 .0) (q .1 .1 .0) h, (kept (p .1 .1 .1 .0) (q .1 .1 .1 .0) h, kept (p .1 .1 .1 .1) (q .1 .1 .1 .1) h))),
+  (p .0 ∙ sym (q .0), λ h. (kept (p .1 .1 .0) (q .1 .1 .0) h, kept (p .1 .1 .1) (q .1 .1 .1) h)),
 )
 
 -- an export says a report and a number, each by an equation of its own
@@ -52,7 +52,7 @@ unique = record {
   call-fault = λ s starts ends sizes features partSizes partFeatures queueRoom answerRoom. one;
   count-fault = λ starts ends cap. one;
   count-chains = λ starts ends full cap. one;
-  apply-haplotype = λ s starts ends sizes features partSizes partFeatures parents lastRows keys rows. agree;
+  apply-haplotype = λ s starts ends sizes features partSizes partFeatures links keys rows. agree;
   scan = λ bytes. one;
   read-job = λ bytes t. two;
   write-job = λ s t out. through (λ r. outAfter r (jobBytes (jobFrom s t)) out);
@@ -61,7 +61,6 @@ unique = record {
   nd-seqsim = λ a b minkfreq place. two;
   nd-sizesim = λ a b place. two;
   nd-count-chains = λ starts ends full cap count. two;
-  nd-apply-haplotype =
-      λ k squish oneToOne full maxpaths maxnodes fnmax pileupmax minkfreq sizesim seqsim fpenalty gpenalty starts ends sizes features partSizes partFeatures parents lastRows keys rows report x y p q.
-      agree x y (both (x .says) p) (both (y .says) q);
+  nd-answer = λ job text. two;
+  nd-apply-haplotype = λ settings starts ends sizes features partSizes partFeatures links keys rows report x y p q. agree x y (both (x .says) p) (both (y .says) q);
 }

@@ -22,8 +22,8 @@ use Rattle.job.specs.declared.writer.Writing.{Writing}
 use Rattle.job.specs.Reading.{Lent}
 use Rattle.job.specs.Promises.{ScanPromise, ReadJobPromise, WriteJobPromise}
 use Rattle.desk.specs.Promises.{AnswerPromise}
-use Rattle.capi.specs.Report.{settingsOf}
-use Rattle.capi.specs.Promises.{NdSeqToKmerPromise, NdSeqsimPromise, NdSizesimPromise, NdCountChainsPromise, NdApplyHaplotypePromise}
+use Rattle.capi.specs.Words.{settingsOfWords}
+use Rattle.capi.specs.Promises.{NdSeqToKmerPromise, NdSeqsimPromise, NdSizesimPromise, NdCountChainsPromise, NdAnswerPromise, NdApplyHaplotypePromise}
 
 -- at most one result meets a promise of a value, and at most one pair a promise of what a slice holds at exit and a value
 abbrev pub One : (A : Type 0) → (A → Type 0) → Type 0
@@ -38,10 +38,9 @@ ReadsInto bytes t u r =
     ReadJobPromise bytes (t .starts) (t .ends) (t .sizes) (t .negatives) (t .counts) (t .partSizes) (t .partNegatives) (t .partCounts) (t .letters)
     (u .starts) (u .ends) (u .sizes) (u .negatives) (u .counts) (u .partSizes) (u .partNegatives) (u .partCounts) (u .letters) r
 
--- what a search leaves: the queue's three slices, the rows, and what it says
+-- what a search leaves: the queue's two slices, the rows, and what it says
 pub record Left (A : Type 0) : Type 0 where
-  pub parents : List ℕ
-  pub lastRows : List ℕ
+  pub links : List ℕ
   pub keys : List ℕ
   pub rows : List ℕ
   pub says : A
@@ -50,7 +49,7 @@ pub record Left (A : Type 0) : Type 0 where
 abbrev pub Agree : (A : Type 0) → Bool → (Left A → Type 0) → Type 0
 Agree A searching promise = (x y : Left A) → promise x → promise y → (x .rows ≡ y .rows)
     × ((x .says ≡ y .says)
-    × ((searching ≡ false) → (x .parents ≡ y .parents) × ((x .lastRows ≡ y .lastRows) × (x .keys ≡ y .keys))))
+    × ((searching ≡ false) → (x .links ≡ y .links) × (x .keys ≡ y .keys)))
 
 pub record Unique : Type 0 where
   pub sizesim : (a b : ℕ) → One Sim (SizesimPromise a b)
@@ -66,9 +65,9 @@ pub record Unique : Type 0 where
       → One ℕ (CallFaultPromise s starts ends sizes features partSizes partFeatures queueRoom answerRoom)
   pub count-fault : (starts ends : List ℕ) (cap : ℕ) → One ℕ (CountFaultPromise starts ends cap)
   pub count-chains : (starts ends : List ℕ) (full : Bool) (cap : ℕ) → One ChainCount (CountChainsPromise starts ends full cap)
-  pub apply-haplotype : (s : Settings) (starts ends : List ℕ) (sizes features partSizes partFeatures : List ℤ) (parents lastRows keys rows : List ℕ)
-      → Agree Answer (searches (callLent s starts ends sizes features partSizes partFeatures parents lastRows keys rows))
-      (λ x. ApplyHaplotypePromise s starts ends sizes features partSizes partFeatures parents lastRows keys rows (x .parents) (x .lastRows) (x .keys) (x .rows) (x .says))
+  pub apply-haplotype : (s : Settings) (starts ends : List ℕ) (sizes features partSizes partFeatures : List ℤ) (links keys rows : List ℕ)
+      → Agree Answer (searches (callLent s starts ends sizes features partSizes partFeatures links keys rows))
+      (λ x. ApplyHaplotypePromise s starts ends sizes features partSizes partFeatures links keys rows (x .links) (x .keys) (x .rows) (x .says))
   pub scan : (bytes : List ℕ) → One Scan (ScanPromise bytes)
   pub read-job : (bytes : List ℕ) (t : Lent) → Two Lent Reading (ReadsInto bytes t)
   pub write-job : (s : Settings) (t : Lent) (out : List ℕ)
@@ -78,11 +77,8 @@ pub record Unique : Type 0 where
   pub nd-seqsim : (a b : List ℤ) (minkfreq : ℕ) (place : Float) → Two Float ℕ (NdSeqsimPromise a b minkfreq place)
   pub nd-sizesim : (a b : ℕ) (place : Float) → Two Float ℕ (NdSizesimPromise a b place)
   pub nd-count-chains : (starts ends : List ℕ) (full : Bool) (cap count : ℕ) → Two ℕ ℕ (NdCountChainsPromise starts ends full cap count)
-  pub nd-apply-haplotype : (k : ℕ) (squish oneToOne full : Bool) (maxpaths maxnodes fnmax pileupmax minkfreq : ℕ) (sizesim seqsim fpenalty gpenalty : Float)
-      (starts ends : List ℕ) (sizes features partSizes partFeatures : List ℤ) (parents lastRows keys rows report : List ℕ)
-      → Agree (List ℕ × ℕ)
-      (searches (callLent (settingsOf k squish oneToOne full maxpaths maxnodes fnmax pileupmax minkfreq sizesim seqsim fpenalty gpenalty)
-      starts ends sizes features partSizes partFeatures parents lastRows keys rows))
-      (λ x. NdApplyHaplotypePromise k squish oneToOne full maxpaths maxnodes fnmax pileupmax minkfreq sizesim seqsim fpenalty gpenalty
-      starts ends sizes features partSizes partFeatures parents lastRows keys rows report
-      (x .parents) (x .lastRows) (x .keys) (x .rows) (x .says .0) (x .says .1))
+  pub nd-answer : (job text : List ℕ) → Two (List ℕ) ℕ (NdAnswerPromise job text)
+  pub nd-apply-haplotype : (settings starts ends : List ℕ) (sizes features partSizes partFeatures : List ℤ) (links keys rows report : List ℕ)
+      → Agree (List ℕ × ℕ) (searches (callLent (settingsOfWords settings) starts ends sizes features partSizes partFeatures links keys rows))
+      (λ x. NdApplyHaplotypePromise settings starts ends sizes features partSizes partFeatures links keys rows report
+      (x .links) (x .keys) (x .rows) (x .says .0) (x .says .1))

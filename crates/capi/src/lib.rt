@@ -1,6 +1,7 @@
 // What Rust and C link: the library's calls on numbers and slices. Each gives back the refusal's number, 0 for an accepted call.
 ghost use Rattle.capi.specs.Promises.{NdSeqToKmerPromise, NdSeqsimPromise, NdSizesimPromise, NdCountChainsPromise, NdAnswerPromise, NdApplyHaplotypePromise};
 use crate::report::put_report;
+use crate::words::length_word;
 use crate::words::settings_of;
 use kplib::vargraph::ChainCount;
 use metrics::Sim;
@@ -83,8 +84,8 @@ pub extern "C" fn nd_count_chains(
 pub extern "C" fn nd_answer(job: &[u8], text: &mut [u8; 8192]) -> u32
     ensures { λ r. ⌜ NdAnswerPromise (now (job .entry)) (now (text .entry)) (now (text .exit)) r ⌝ }
 {
-    let length = desk::answer(job, text);
-    length as u32
+    let n = desk::answer(job, text);
+    length_word(n, text)
 }
 
 // The queue's content is open after a search, and only then.

@@ -1,5 +1,7 @@
-// The settings of a search as C and Rust lend them: thirteen words.
+// Words for C and Rust: the settings of a search as thirteen of them, and the length of a text as one.
 ghost use mathlib.Core.Path.{_≡_};
+ghost use Prim.Native.Nat.{_≤_};
+ghost use lib.ListN.{length};
 ghost use lib.Ieee.{binary32, ofBits};
 ghost use Rattle.capi.specs.Words.{flagOfWord, settingsOfWords};
 ghost use Rattle.capi.specs.Held.{byteHeld, settingsHeld};
@@ -46,4 +48,12 @@ pub(crate) fn settings_of(words: &[u32; 13]) -> Settings
         fpenalty: float_of(words[11]),
         gpenalty: float_of(words[12]),
     }
+}
+
+// It fits, because the text stands in a buffer of this length.
+pub(crate) fn length_word(n: usize, text: &[u8]) -> u32
+    requires { ⌜ (n ≤ length (now text)) × (length (now text) ≤ 8192) ⌝ }
+    ensures { λ r. ⌜ r ≡ n ⌝ }
+{
+    n as u32
 }
