@@ -18,7 +18,7 @@ static void expect(const char *what, uint32_t got, uint32_t wanted)
 
 static void count(const char *letters, int32_t *row)
 {
-    expect(letters, nd_seq_to_kmer((const uint8_t *)letters, strlen(letters), K, false, row, ENTRIES), 0);
+    expect(letters, nd_seq_to_kmer((const uint8_t *)letters, strlen(letters), K, false, row, ENTRIES), ND_ACCEPTED);
 }
 
 static void worked_example(void)
@@ -50,10 +50,10 @@ static void refusals(void)
 {
     float value = 2;
     int32_t one[1] = {1}, two[2] = {1, 1};
-    expect("a size over its limit", nd_sizesim(0, 8388609, &value), 9);
+    expect("a size of 8,388,609", nd_sizesim(0, 8388609, &value), ND_REFUSED_BAD_SIZE);
     expect("its value", value == 0, 1);
-    expect("unequal lengths", nd_seqsim(one, 1, two, 2, 1, &value), 6);
-    expect("k 7", nd_seq_to_kmer((const uint8_t *)"A", 1, 7, false, one, 1), 1);
+    expect("unequal lengths", nd_seqsim(one, 1, two, 2, 1, &value), ND_REFUSED_BAD_LENGTHS);
+    expect("k 7", nd_seq_to_kmer((const uint8_t *)"A", 1, 7, false, one, 1), ND_REFUSED_BAD_K);
     expect("the row after a refusal", (uint32_t)one[0], 1);
 }
 
