@@ -13,7 +13,8 @@
 #include <stddef.h>
 #include <stdint.h>
 
-/* What a call returns, each refusal with the table's words. Made from docs/refusals.tsv. */
+/* What a call returns, each refusal with the table's words. Made from docs/refusals.tsv
+ * by tools/refusals --write. */
 enum nd_refusal {
     ND_ACCEPTED = 0,
     ND_REFUSED_BAD_K = 1, /* k not 1 to 6 */
