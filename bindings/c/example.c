@@ -18,7 +18,7 @@ static void expect(const char *what, uint32_t got, uint32_t wanted)
 
 static void count(const char *letters, int32_t *row)
 {
-    expect(letters, nd_seq_to_kmer((const uint8_t *)letters, strlen(letters), K, false, row, ENTRIES), 0);
+    expect(letters, nd_seq_to_kmer((const uint8_t *)letters, strlen(letters), K, false, row, ENTRIES), ND_ACCEPTED);
 }
 
 static uint32_t bits(float x)
@@ -50,7 +50,7 @@ static uint32_t search(const uint32_t *settings, uint32_t *rows, uint32_t *repor
     count("AG", features);
     count("CT", features + ENTRIES);
     count("AG", part_features);
-    expect("chain count", nd_count_chains(starts, V, ends, V, true, 4096, &chains), 0);
+    expect("chain count", nd_count_chains(starts, V, ends, V, true, 4096, &chains), ND_ACCEPTED);
     expect("chains", chains, 4);
     return nd_apply_haplotype(settings, starts, V, ends, V, sizes, V, features, V * ENTRIES, part_sizes, 1,
                               part_features, ENTRIES, links, ROOM, keys, ROOM, rows, V, report);
@@ -60,7 +60,7 @@ static void worked_example(void)
 {
     uint32_t settings[ND_SETTINGS_LEN], rows[V] = {7, 7}, report[ND_REPORT_LEN];
     set(settings);
-    expect("refusal", search(settings, rows, report), 0);
+    expect("refusal", search(settings, rows, report), ND_ACCEPTED);
     expect("rows", report[ND_ROWS], 1);
     expect("row", rows[0], 0);
     expect("the buffer's rest", rows[1], 7);
@@ -69,7 +69,7 @@ static void worked_example(void)
     expect("scored", report[ND_SCORED], 4);
     expect("complete", report[ND_COMPLETE], 1);
     settings[ND_SETTING_K] = 256 + K;
-    expect("k 257", search(settings, rows, report), 1);
+    expect("k 257", search(settings, rows, report), ND_REFUSED_BAD_K);
     expect("its report", report[ND_SCORE], 0);
 }
 
@@ -86,10 +86,10 @@ static void refusals(void)
 {
     float value = 2;
     int32_t one[1] = {1}, two[2] = {1, 1};
-    expect("a size over its limit", nd_sizesim(0, 8388609, &value), 9);
+    expect("a size of 8,388,609", nd_sizesim(0, 8388609, &value), ND_REFUSED_BAD_SIZE);
     expect("its value", value == 0, 1);
-    expect("unequal lengths", nd_seqsim(one, 1, two, 2, 1, &value), 6);
-    expect("k 7", nd_seq_to_kmer((const uint8_t *)"A", 1, 7, false, one, 1), 1);
+    expect("unequal lengths", nd_seqsim(one, 1, two, 2, 1, &value), ND_REFUSED_BAD_LENGTHS);
+    expect("k 7", nd_seq_to_kmer((const uint8_t *)"A", 1, 7, false, one, 1), ND_REFUSED_BAD_K);
     expect("the row after a refusal", (uint32_t)one[0], 1);
 }
 

@@ -17,8 +17,35 @@
 extern "C" {
 #endif
 
+/* What a call returns, each refusal with the table's words. Made from docs/refusals.tsv
+ * by tools/refusals --write. */
+enum nd_refusal {
+    ND_ACCEPTED = 0,
+    ND_REFUSED_BAD_K = 1, /* k not 1 to 6 */
+    ND_REFUSED_BAD_FLOAT = 2, /* a float setting is NaN or outside its range */
+    ND_REFUSED_BAD_NUMBER = 3, /* a whole-number setting over its limit */
+    ND_REFUSED_NO_VARIANTS = 4, /* no variants */
+    ND_REFUSED_TOO_MANY = 5, /* over 64 variants or over 64 parts */
+    ND_REFUSED_BAD_LENGTHS = 6, /* lent lengths disagree with V, m or 4^k */
+    ND_REFUSED_START_AFTER_END = 7, /* a start is greater than its end */
+    ND_REFUSED_FALLING_START = 8, /* a start is less than the row before's */
+    ND_REFUSED_BAD_SIZE = 9, /* a size over its limit */
+    ND_REFUSED_BAD_ROW = 10, /* a feature row over its limit */
+    ND_REFUSED_QUEUE_ROOM = 11, /* search mode, and queue room under 1 + (maxpaths + 1) × V entries */
+    ND_REFUSED_ANSWER_ROOM = 12, /* answer room under V rows */
+    ND_REFUSED_TOO_MANY_LETTERS = 13, /* a sequence over its letter limit */
+    ND_REFUSED_UNKNOWN_KIND = 20, /* unknown kind */
+    ND_REFUSED_CUT_SHORT = 21, /* input ends inside a record or without 0x00 */
+    ND_REFUSED_OUT_OF_PLACE = 22, /* out of place */
+    ND_REFUSED_BAD_PADDING = 23, /* padding not zero */
+    ND_REFUSED_BAD_FLAG = 24, /* a flag not 0 or 1 */
+    ND_REFUSED_BYTES_AFTER_END = 25, /* bytes after 0x00 */
+    ND_REFUSED_TOO_LARGE = 26, /* over the program's own limits */
+    ND_REFUSED_LITTLE_ROOM = 30, /* too little room */
+};
+
 /* Counts the windows of k letters in a row of 4^k entries, each +1, or -1 for a negative sequence.
- * Refuses by 1 (k not 1 to 6), 6 (row_len not 4^k), 13 (over 131,072 letters), in this order. */
+ * Refuses by 1, 6 (row_len not 4^k), 13 (over 131,072 letters), in this order. */
 uint32_t nd_seq_to_kmer(const uint8_t *letters, size_t letters_len, uint8_t k, bool negative,
                         int32_t *row, size_t row_len);
 
