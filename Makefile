@@ -27,6 +27,8 @@ test:
 	tools/test_uses
 	tools/refusals
 	tools/test_refusals
+	tools/prototypes
+	tools/test_prototypes
 	tools/test_changed
 	tools/test_unproved
 	rt fmt --check

@@ -42,7 +42,7 @@ mod linked {
             report: *mut [u32; 7],
         ) -> u32;
         fn nd_count_chains(starts: *const u64, starts_len: usize, ends: *const u64, ends_len: usize, full: bool, cap: u32, count: *mut u32) -> u32;
-        fn nd_seq_to_kmer(seq: *const u8, seq_len: usize, k: u8, negative: bool, row: *mut i32, row_len: usize) -> u32;
+        fn nd_seq_to_kmer(letters: *const u8, letters_len: usize, k: u8, negative: bool, row: *mut i32, row_len: usize) -> u32;
         fn nd_seqsim(a: *const i32, a_len: usize, b: *const i32, b_len: usize, minkfreq: u32, place: *mut f32) -> u32;
         fn nd_sizesim(a: u64, b: u64, place: *mut f32) -> u32;
     }
