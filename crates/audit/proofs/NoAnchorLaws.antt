@@ -10,8 +10,7 @@ use Rattle.params.specs.Checked.{Checked}
 use Rattle.params.proofs.CheckedLaws.{accepted}
 use Rattle.kplib.specs.OneToOne.{anchorTotal, nodeTotal}
 use Rattle.kplib.specs.Scoring.{Tables}
-use Rattle.kplib.proofs.OneToOneLaws.{anchor-low}
-use Rattle.kplib.proofs.AnswerLaws.{rows-only}
+use Rattle.kplib.proofs.OneToOneLaws.{anchor-low, rows-only}
 use Rattle.audit.specs.NoAnchor.{NoAnchor, NoAnchorChosen}
 use Rattle.params.specs.declared.Settings.{Settings}
 

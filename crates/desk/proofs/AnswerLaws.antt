@@ -26,14 +26,14 @@ placed-few old rows new e l =
     omega arith
 
 -- what the search answered in the program's room: how many rows it has, and its text
-module _ (s : Settings) (t : Table) (p : Parts) (parents lastRows keys old : List ℕ) where
+module _ (s : Settings) (t : Table) (p : Parts) (links keys old : List ℕ) where
   abbrev call : Call
-  call = callOf s t p (queueRoom parents lastRows keys) (length old)
+  call = callOf s t p (queueRoom links keys) (length old)
 
-  module _ (a-room : 1025 ≡ length parents) (b-room : 1025 ≡ length lastRows) (c-room : 1025 ≡ length keys) (d-room : length old ≡ 16)
+  module _ (link-room : 1025 ≡ length links) (key-room : 1025 ≡ length keys) (row-room : length old ≡ 16)
       (a : Answer) (is : a ≡ answerOf call) (new : List ℕ) (stands : new ≡ placed old (rowsOf call)) where
-    queue-is : queueRoom parents lastRows keys ≡ 1025
-    queue-is = rw (sym a-room, sym b-room, sym c-room)
+    queue-is : queueRoom links keys ≡ 1025
+    queue-is = rw (sym link-room, sym key-room)
 
     rows-are : a .rows ≡ length (rowsOf call)
     unfolding answerOf rowsOf
@@ -42,7 +42,7 @@ module _ (s : Settings) (t : Table) (p : Parts) (parents lastRows keys old : Lis
     pub answer-few : length new ≡ 16 → a .rows ≤ 16
     answer-few l =
         let e = rows-are in
-        let f = placed-few old (rowsOf call) new stands (l ∙ sym d-room) in
+        let f = placed-few old (rowsOf call) new stands (l ∙ sym row-room) in
         omega arith
 
     rows-taken : take (a .rows) new ≡ rowsOf call
@@ -53,6 +53,6 @@ module _ (s : Settings) (t : Table) (p : Parts) (parents lastRows keys old : Lis
     unfolding searchText
     answer-text =
         let held = callOf s t p 1025 16 in
-        let g : a ≡ answerOf held = rw (queue-is, d-room) at is in
-        let h : take (a .rows) new ≡ rowsOf held = rw (queue-is, d-room) at rows-taken in
+        let g : a ≡ answerOf held = rw (queue-is, row-room) at is in
+        let h : take (a .rows) new ≡ rowsOf held = rw (queue-is, row-room) at rows-taken in
         ap (λ (x : Answer). answerText x (take (a .rows) new)) g ∙ ap (answerText (answerOf held)) h

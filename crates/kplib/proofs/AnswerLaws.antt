@@ -1,11 +1,9 @@
--- What a reader may rely on of the scoring's results: a chain's score is a number, at least 0.0, and 0.0 only at the scoring's start;
--- and no anchor is ever chosen: the row of a one-to-one answer, where there is one, is a row of the table. Assumes nothing.
-use mathlib.Core.Path.{_≡_, refl, sym, ap, _∙_, subst}
+-- What a reader may rely on of the scoring's results: a chain's score is a number, at least 0.0, and 0.0 only at the scoring's start. Assumes nothing.
+use mathlib.Core.Path.{_≡_, refl, sym, subst}
 use mathlib.Core.Bool.{Bool, true, false, cond, not}
 use mathlib.Core.List.{List, [], _∷_}
 use mathlib.Core.Logic.{_⊎_, inl, inr}
-use Prim.Native.Nat.{ℕ, zero, suc, _+_, _-_, _^_, _≤_, _<_}
-use native.Mathlib.Omega.{arith}
+use Prim.Native.Nat.{ℕ, _-_, _^_}
 use lib.Dec.{T}
 use lib.ListN.{length}
 use lib.Ieee.{Float, lt, le, isNan, ofInt}
@@ -13,20 +11,13 @@ use Rattle.metrics.specs.Similarity.{whole}
 use Rattle.metrics.proofs.FloatOrder.{lt-le, le-lt-trans, le-number}
 use Rattle.params.specs.Numbers.{Table, Parts}
 use Rattle.kplib.specs.Parts.{partLists}
-use Rattle.kplib.specs.Sums.{Total, totalOf}
+use Rattle.kplib.specs.Sums.{totalOf}
 use Rattle.kplib.specs.Score.{start, targetOf, listScore, greaterOf, afterList, afterLists, totalScore, chainScore}
-use Rattle.kplib.specs.Graph.{rowOf}
-use Rattle.kplib.specs.OneToOne.{nodeTotal, aloneScore, rowNumbered, latestOf, overNodes, noLone, oneToOne, loneRowsAt, loneRows}
-use Rattle.kplib.specs.Scoring.{Below, Tables}
 use Rattle.params.specs.declared.Settings.{Settings}
 use Rattle.kplib.specs.declared.pathscore.Scored.{Scored}
-use Rattle.kplib.specs.declared.pathscore.Target.{Target}
-use Rattle.kplib.specs.declared.pathscore.Target.the-variants.{Nothing, Whole, Partial}
 use Rattle.kplib.specs.declared.pathscore.Verdict.{Verdict}
 use Rattle.kplib.specs.declared.pathscore.Verdict.the-variants.{Skipped, Scores}
-use Rattle.kplib.specs.declared.onetoone.Lone.{Lone}
 use Rattle.kplib.proofs.RoundingLaws.{holds}
-use Rattle.kplib.proofs.OneToOneLaws.{nodeStep, row-node, Matched, none-matched, row-matched, all-matched}
 
 pub is-true : (t : Bool) → T t → t ≡ true
 is-true true h = refl
@@ -83,55 +74,3 @@ module _ (s : Settings) (t : Table) (p : Parts) (chain : List ℕ) where
   -- and so it is never a NaN
   pub score-number : T (not (isNan (chainScore s t p chain .score)))
   score-number = le-number (whole 0) (chainScore s t p chain .score) (holds _ at-least-zero) .1
-
--- ---- no anchor is ever chosen
-nodes-last : (f : Lone → ℕ → Lone) (best : Lone) (node n : ℕ) → overNodes f best node (suc n) ≡ f (overNodes f best node n) (node + n)
-unfolding overNodes
-nodes-last f best node zero = let z : node + 0 ≡ node = omega arith in rw z
-nodes-last f best node (suc n) = let z : suc node + n ≡ node + suc n = omega arith in rw (← z) (nodes-last f (f best node) (suc node) n)
-
-target-below : (n r : ℕ) (t : Target) → r < n → Below n (loneRowsAt t r)
-target-below n r Nothing h = tt
-target-below n r Whole h = (h, tt)
-target-below n r (Partial k) h = (h, tt)
-
-latest-below : (n : ℕ) (best : Lone) (r : ℕ) (x : Scored) → r < n → Below n (loneRows best) → Below n (loneRows (latestOf best (r + 1) x))
-unfolding latestOf
-latest-below n best r x h b = go (lt (whole 0) (x .seqsim)) (lt (x .score) (best .scored .score))
-  where
-    go : (t u : Bool) → Below n (loneRows (cond t (cond u best (record { row = rowNumbered (rowOf (r + 1)); scored = x })) best))
-    go true true = b
-    go true false = let z : r + 1 - 1 < n = omega arith in target-below n (r + 1 - 1) (x .target) z
-    go false u = b
-
-module _ {s : Settings} {t : Table} {p : Parts} (y : Tables s t p) where
-  abbrev step : Lone → ℕ → Lone
-  step = nodeStep s t p
-
-  rows-below : (n : ℕ) → n ≤ length (t .sizes) → Below (length (t .sizes)) (loneRows (overNodes step noLone 1 n))
-  unfolding overNodes
-  rows-below zero h = tt
-  rows-below (suc n) h =
-      let z : 1 + n ≡ n + 1 = omega arith in
-      rw (nodes-last step noLone 1 n, z)
-      (latest-below (length (t .sizes)) (overNodes step noLone 1 n) n (aloneScore s p (nodeTotal (4 ^ s .k) (t .sizes) (t .features) (n + 1))) h (rows-below n (omega arith)))
-
-  first-rows : (n : ℕ) → n ≤ length (t .sizes) → Matched s t p (overNodes step noLone 1 n) n
-  unfolding overNodes
-  first-rows zero h = none-matched y refl
-  first-rows (suc n) h =
-      let z : 1 + n ≡ n + 1 = omega arith in
-      let w : suc n ≡ n + 1 = omega arith in
-      let last : overNodes step noLone 1 (suc n) ≡ step (overNodes step noLone 1 n) (n + 1) = nodes-last step noLone 1 n ∙ ap (λ (m : ℕ). step (overNodes step noLone 1 n) m) z in
-      rw w
-      (row-matched y (overNodes step noLone 1 n) h refl
-      (last ∙ ap (λ (x : Total). latestOf (overNodes step noLone 1 n) (n + 1) (aloneScore s p x)) (row-node y h))
-      (first-rows n (omega arith)))
-
-  -- source and sink may be left out
-  pub rows-only : overNodes step noLone 1 (length (t .sizes)) ≡ oneToOne s t p
-  rows-only = all-matched y refl (first-rows (length (t .sizes)) (omega arith))
-
-  -- the answer names no row, or a row of the table: neither source nor sink
-  pub no-anchor : Below (length (t .sizes)) (loneRows (oneToOne s t p))
-  no-anchor = subst (λ (x : Lone). Below (length (t .sizes)) (loneRows x)) rows-only (rows-below (length (t .sizes)) (omega arith))

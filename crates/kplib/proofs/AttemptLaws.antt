@@ -1,107 +1,166 @@
--- One laid list against a chain: what each call of `try_list` asks, and that its result is the definition's, skipped or scored. Assumes nothing.
-use mathlib.Core.Path.{_≡_, sym, ap, _∙_, subst}
+-- One laid list against a chain: what each call of `try_list` asks, that the scratch then holds the chain's row and behind it the list's, and that the
+-- result is the definition's, skipped or scored. Assumes nothing.
+use mathlib.Core.Path.{_≡_, sym, ap, _∙_}
 use mathlib.Core.Bool.{Bool, true, false}
-use mathlib.Core.List.{List}
-use Prim.Native.Nat.{ℕ, _-_, _/_, _^_, _≤_}
+use mathlib.Core.List.{List, _++_, append-nil}
+use Prim.Native.Nat.{ℕ, _+_, _-_, _/_, _≤_}
 use native.Mathlib.Omega.{arith}
 use lib.IntN.{ℤ, natAbs}
-use lib.ListN.{length}
+use lib.ListN.{length, take, drop, length-append, length-drop}
+use lib.Seq.{length-take-le, take-length, drop-length, take-at, drop-at}
+use borrow.Rule.Slice.PartMut.{putMid, post-is}
 use mir.Syntax.{w32}
 use mir.Val.{toZ, ofZ}
-use Rattle.metrics.specs.Similarity.{magnitudeSum}
-use Rattle.params.specs.Numbers.{Parts}
-use Rattle.kplib.specs.Sums.{sizeOf, featuresOf}
-use Rattle.kplib.specs.Score.{listScore, greaterOf, afterList}
-use Rattle.kplib.specs.Scoring.{listOfCode, Summable, Ready, total, Comparable, mayWin, Attempt, Attempted}
-use Rattle.params.specs.declared.Settings.{Settings}
+use Rattle.kplib.specs.Sums.{featuresOf}
+use Rattle.kplib.specs.Score.{listScore, greaterOf}
+use Rattle.kplib.specs.Scoring.{listOfCode, Summable, Ready, total, Comparable, Paired, mayWin, afterCode, Attempt, Attempted}
 use Rattle.kplib.specs.declared.pathscore.Scored.{Scored}
 use Rattle.kplib.specs.declared.pathscore.Verdict.{Verdict}
 use Rattle.kplib.specs.declared.pathscore.Best.{Best}
+use Rattle.kplib.specs.declared.plan.Plan.{Plan}
 use Rattle.kplib.proofs.WordLaws.{back}
-use Rattle.kplib.proofs.SizeSumLaws.{size-le}
 use Rattle.kplib.proofs.RowSumLaws.{summable, features-length, features-sum}
 use Rattle.kplib.proofs.VerdictLaws.{lost}
 
-module _ {s : Settings} {features : List ℤ} {chain : List ℕ} {chainSize : ℤ} {p : Parts} {code : ℕ} {size : ℤ} {chosen : List ℕ} {chainRow listRow : List ℤ} {summed : Bool}
-    (y : Attempt s features chain chainSize p code size chosen chainRow listRow summed) where
-  list : List ℕ
-  list = listOfCode (length (p .sizes)) code
+-- ---- two rows in one slice
+pub rest-is : (w : ℕ) (rows : List ℤ) → take (length rows - w) (drop w rows) ≡ drop w rows
+rest-is w rows = ap (λ (n : ℕ). take n (drop w rows)) (sym (length-drop w rows)) ∙ take-length (drop w rows)
 
-  e : ℕ
-  e = 4 ^ s .k
+module _ {plan : Plan} {chainSize : ℤ} {chainLen : ℕ} {listSize : ℤ} {listLen : ℕ} {rows : List ℤ} (y : Paired plan chainSize chainLen listSize listLen rows) where
+  chain-as-read : toZ w32 (ofZ w32 chainSize) ≡ chainSize
+  chain-as-read = back chainSize (omega (arith, y .comparable .chain-size))
 
-  pub count-le : code / 65536 ≤ length (p .sizes)
-  unfolding list
-  count-le = omega (arith, y .listed .count-is, y .listed .most)
+  list-as-read : toZ w32 (ofZ w32 listSize) ≡ listSize
+  list-as-read = back listSize (omega (arith, y .comparable .list-size))
+
+  pub rows-comparable : Comparable (plan .s) (toZ w32 (ofZ w32 chainSize)) (take (plan .width) rows) chainLen (toZ w32 (ofZ w32 listSize))
+      (take (length rows - plan .width) (drop (plan .width) rows)) listLen (plan .m - listLen)
+  rows-comparable = rw (chain-as-read, list-as-read, rest-is (plan .width) rows) (y .comparable)
+
+  pub rows-scored : {v : Verdict}
+      → v ≡ listScore (plan .s) (total (toZ w32 (ofZ w32 chainSize)) (take (plan .width) rows) chainLen)
+      (total (toZ w32 (ofZ w32 listSize)) (take (length rows - plan .width) (drop (plan .width) rows)) listLen) (plan .m - listLen)
+      → v ≡ listScore (plan .s) (total chainSize (take (plan .width) rows) chainLen) (total listSize (drop (plan .width) rows) listLen) (plan .m - listLen)
+  rows-scored e = e ∙ rw (chain-as-read, list-as-read, rest-is (plan .width) rows)
+
+-- a front with a row of its own and then a rest with one
+rows-laid : (w : ℕ) (rows front rest : List ℤ) → length front ≡ w → w ≤ length rows → putMid w (length (front ++ drop w rows) - w) (front ++ drop w rows) rest ≡ front ++ rest
+rows-laid w rows front rest f h =
+    let all = front ++ drop w rows in
+    let long : w ≤ length all = simp (length-append, length-drop) (omega arith) in
+    rw (take-at front (drop w rows) w f, post-is w (length all) all long, drop-length all, append-nil rest)
+
+module _ {plan : Plan} {features : List ℤ} {chain : List ℕ} {chainSize : ℤ} {partFeatures : List ℤ} {code : ℕ} {size : ℤ} {chosen : List ℕ} {scratch : List ℤ} {summed : Bool}
+    (y : Attempt plan features chain chainSize partFeatures code size chosen scratch summed) where
+  abbrev width : ℕ
+  width = plan .width
+
+  abbrev list : List ℕ
+  list = listOfCode (plan .m) code
+
+  abbrev partial : ℕ
+  partial = plan .m - code / 65536
 
   list-few : length list ≤ 64
-  unfolding list
-  list-few = omega (arith, y .listed .most, y .part-sized .few)
-
-  size-few : natAbs size ≤ 8388608
-  unfolding list
-  size-few = subst (λ (z : ℤ). natAbs z ≤ 8388608) (sym (y .listed .size-is)) (size-le (p .sizes) list (y .part-sized) list-few)
+  list-few = omega (arith, y .listed .count-is, y .listed .most, y .planned .few)
 
   c-back : toZ w32 (ofZ w32 chainSize) ≡ chainSize
   c-back = back chainSize (omega (arith, y .chain-size))
 
   l-back : toZ w32 (ofZ w32 size) ≡ size
-  l-back = back size (omega (arith, size-few))
+  l-back = back size (omega (arith, y .listed .size-small))
 
-  pub may-ok : (natAbs (toZ w32 (ofZ w32 chainSize)) ≤ 8388608) × (natAbs (toZ w32 (ofZ w32 size)) ≤ 8388608) × (length chain ≤ 64) × (code / 65536 ≤ 64) × (length (p .sizes) - code / 65536 ≤ 64)
-  may-ok = rw (c-back, l-back) (y .chain-size, size-few, y .chained .most, omega (arith, count-le, y .part-sized .few), omega (arith, y .part-sized .few))
+  pub may-ok : (natAbs (toZ w32 (ofZ w32 chainSize)) ≤ 8388608) × (natAbs (toZ w32 (ofZ w32 size)) ≤ 8388608) × (length chain ≤ 64) × (code / 65536 ≤ 64) × (plan .m - code / 65536 ≤ 64)
+  may-ok =
+      rw (c-back, l-back)
+      (y .chain-size, y .listed .size-small, y .chained .most, omega (arith, y .listed .most, y .planned .few), omega (arith, y .planned .few))
 
-  pub attempt-lost : (t : Bool) (best : Best) → t ≡ mayWin s (toZ w32 (ofZ w32 chainSize)) (length chain) (toZ w32 (ofZ w32 size)) (code / 65536) (length (p .sizes) - code / 65536) (best .scored .score)
-      → t ≡ false → Ready (best .summed) chainRow (featuresOf (4 ^ s .k) features chain)
-      → Attempted s features chain chainSize p (listOfCode (length (p .sizes)) code) (best .scored) best chainRow
-  unfolding list e afterList
-  attempt-lost t best f h r = record {
+  pub attempt-lost : (best : Best) {t : Bool} → t ≡ mayWin (plan .s) (toZ w32 (ofZ w32 chainSize)) (length chain) (toZ w32 (ofZ w32 size)) (code / 65536) (plan .m - code / 65536) (best .scored .score)
+      → t ≡ false → Ready (best .summed) (take (plan .width) scratch) (featuresOf (plan .width) features chain)
+      → Attempted plan features chain chainSize partFeatures code size (best .scored) best scratch
+  unfolding afterCode
+  attempt-lost best f h r = record {
     best-is =
-        lost s (best .scored) chainSize (featuresOf e features chain) (length chain) (sizeOf (p .sizes) list) (featuresOf e (p .features) list) (length list) (length (p .sizes) - length list)
-        (sym (rw (c-back, l-back, y .listed .size-is, y .listed .count-is) at f) ∙ h);
+        lost (plan .s) (best .scored) chainSize (featuresOf width features chain) (length chain) size (featuresOf width partFeatures list) (code / 65536) partial
+        (sym (rw (c-back, l-back) at f) ∙ h);
     ready = r;
   }
 
-  pub ready-ok : (Summable (length chainRow) features chain) × (Ready summed chainRow (featuresOf (length chainRow) features chain))
-  ready-ok = rw (y .chain-row) (y .chained, y .ready)
+  -- ---- the chain's row, in front
+  pub front-length : length (take (plan .width) scratch) ≡ plan .width
+  front-length = length-take-le width scratch (omega (arith, y .scratch-is))
 
-  list-sum : Summable e (p .features) list
-  unfolding list e
-  list-sum = summable (length (p .sizes)) e (p .features) list (y .part-rows) (y .listed .within) list-few
+  pub ready-ok : (Summable (length (take (plan .width) scratch)) features chain)
+      × (Ready summed (take (plan .width) scratch) (featuresOf (length (take (plan .width) scratch)) features chain))
+  ready-ok = rw front-length (y .chained, y .ready)
 
-  pub list-ok : (list' : List ℕ) → list' ≡ listOfCode (length (p .sizes)) code → Summable (length listRow) (p .features) list'
-  unfolding list e
-  list-ok list' f = rw (f, y .list-row) list-sum
+  list-sum : Summable width partFeatures list
+  list-sum = summable (plan .m) width partFeatures list (y .part-rows) (y .listed .within) list-few
 
-  module _ (chainRow' listRow' : List ℤ) (list' : List ℕ) (f : chainRow' ≡ featuresOf (length chainRow) features chain) (g : list' ≡ listOfCode (length (p .sizes)) code)
-      (h : listRow' ≡ featuresOf (length listRow) (p .features) list') where
-    chain-is : chainRow' ≡ featuresOf (4 ^ s .k) features chain
-    chain-is = f ∙ ap (λ (w : ℕ). featuresOf w features chain) (y .chain-row)
+  module _ {chainRow : List ℤ} (f : chainRow ≡ featuresOf (length (take (plan .width) scratch)) features chain) where
+    chain-is : chainRow ≡ featuresOf width features chain
+    chain-is = f ∙ ap (λ (w : ℕ). featuresOf w features chain) front-length
 
-    list-is : listRow' ≡ featuresOf e (p .features) list
-    unfolding list e
-    list-is = h ∙ rw (g, y .list-row)
+    chain-length : length chainRow ≡ width
+    chain-length = ap length chain-is ∙ features-length width features chain (y .chained)
 
-    pub compare-ok : Comparable s (toZ w32 (ofZ w32 chainSize)) chainRow' (length chain) (toZ w32 (ofZ w32 size)) listRow' (code / 65536) (length (p .sizes) - code / 65536)
-    unfolding e
-    compare-ok = rw (c-back, l-back) (record {
-      minkfreq = y .minkfreq;
-      widths = ap length chain-is ∙ features-length e features chain (y .chained) ∙ sym (features-length e (p .features) list list-sum) ∙ sym (ap length list-is);
-      chain-row = omega (arith, ap magnitudeSum chain-is, features-sum e features chain (y .chained));
-      list-row = omega (arith, ap magnitudeSum list-is, features-sum e (p .features) list list-sum);
-      chain-size = y .chain-size;
-      list-size = size-few;
-      chain-few = y .chained .most;
-      list-few = may-ok .3;
-      partial-few = may-ok .4;
-    })
+    -- the scratch with the chain's row in front
+    abbrev fronted : List ℤ
+    fronted = chainRow ++ drop (plan .width) scratch
 
-    pub attempt-scored : (best scored : Scored) (v : Verdict)
-        → v ≡ listScore s (total (toZ w32 (ofZ w32 chainSize)) chainRow' (length chain)) (total (toZ w32 (ofZ w32 size)) listRow' (code / 65536)) (length (p .sizes) - code / 65536)
-        → scored ≡ greaterOf best (length (p .sizes) - code / 65536) v
-        → Attempted s features chain chainSize p (listOfCode (length (p .sizes)) code) best (record { scored = scored; summed = true }) chainRow'
-    unfolding list e afterList
-    attempt-scored best scored v k u = record {
-      best-is = u ∙ rw (k, c-back, l-back, chain-is, list-is, y .listed .size-is, y .listed .count-is);
-      ready = chain-is;
-    }
+    -- the rest of it
+    abbrev rest : List ℤ
+    rest = take (length (chainRow ++ drop (plan .width) scratch) - plan .width) (drop (plan .width) (chainRow ++ drop (plan .width) scratch))
+
+    pub fronted-length : length (chainRow ++ drop (plan .width) scratch) ≡ plan .width + plan .width
+    fronted-length = simp (length-append, length-drop) (omega (arith, chain-length, y .scratch-is))
+
+    rest-length : length rest ≡ width
+    rest-length = ap length (rest-is width fronted) ∙ length-drop width fronted ∙ omega (arith, fronted-length)
+
+    -- ---- the list's row, behind it
+    module _ {list' : List ℕ} (g : list' ≡ listOfCode (plan .m) code) where
+      pub list-ok : Summable (length rest) partFeatures list'
+      list-ok = rw (rest-length, g) list-sum
+
+      module _ {listRow : List ℤ} (h : listRow ≡ featuresOf (length rest) partFeatures list') where
+        list-is : listRow ≡ featuresOf width partFeatures list
+        list-is = h ∙ rw (g, rest-length)
+
+        abbrev both : List ℤ
+        both = putMid (plan .width) (length (chainRow ++ drop (plan .width) scratch) - plan .width) (chainRow ++ drop (plan .width) scratch) listRow
+
+        both-are : both ≡ chainRow ++ listRow
+        both-are = rows-laid width scratch chainRow listRow chain-length (omega (arith, y .scratch-is))
+
+        front-is : take width both ≡ featuresOf width features chain
+        front-is = ap (λ (l : List ℤ). take width l) both-are ∙ take-at chainRow listRow width chain-length ∙ chain-is
+
+        back-is : drop width both ≡ featuresOf width partFeatures list
+        back-is = ap (λ (l : List ℤ). drop width l) both-are ∙ drop-at chainRow listRow width chain-length ∙ list-is
+
+        pub paired : Paired plan (toZ w32 (ofZ w32 chainSize)) (length chain) (toZ w32 (ofZ w32 size)) (code / 65536) both
+        paired = rw (c-back, l-back) (record {
+          short = y .part-rows .short;
+          rows-are =
+              ap length both-are ∙ length-append chainRow listRow ∙ omega (arith, chain-length, ap length list-is, features-length width partFeatures list list-sum);
+          most = y .listed .most;
+          comparable = rw (front-is, back-is) (record {
+            minkfreq = y .planned .minkfreq;
+            widths = features-length width features chain (y .chained) ∙ sym (features-length width partFeatures list list-sum);
+            chain-row = features-sum width features chain (y .chained);
+            list-row = features-sum width partFeatures list list-sum;
+            chain-size = y .chain-size;
+            list-size = y .listed .size-small;
+            chain-few = y .chained .most;
+            list-few = may-ok .3;
+            partial-few = may-ok .4;
+          });
+        })
+
+        pub attempt-scored : (best : Scored) {scored : Scored} {v : Verdict}
+            → v ≡ listScore (plan .s) (total (toZ w32 (ofZ w32 chainSize)) (take (plan .width) both) (length chain)) (total (toZ w32 (ofZ w32 size)) (drop (plan .width) both) (code / 65536))
+            (plan .m - code / 65536) → scored ≡ greaterOf best (plan .m - code / 65536) v
+            → Attempted plan features chain chainSize partFeatures code size best (record { scored = scored; summed = true }) both
+        unfolding afterCode
+        attempt-scored best k u = record { best-is = u ∙ rw (k, c-back, l-back, front-is, back-is); ready = front-is }

@@ -1,27 +1,28 @@
 -- What the loop that queues a chain's extensions knows of a row that extends it: the longer chain's size is small, and its distance is what the key holds. Assumes nothing.
 use mathlib.Core.Path.{_≡_, refl, sym, ap, _∙_}
-use Prim.Native.Nat.{ℕ, zero, suc, _+_, _*_, _≤_, _<_}
+use Prim.Native.Nat.{ℕ, zero, suc, _+_, _-_, _*_, _≤_, _<_}
 use native.Mathlib.Omega.{arith}
 use native.Mathlib.Numerals.{add-one}
 use mathlib.Core.Bool.{Bool, true}
 use mathlib.Core.List.{List, [], _∷_, reverse, reverse-cons}
 use lib.IntN.{ℤ, pos, natAbs, _+ℤ_, _-ℤ_}
-use lib.ListN.{length, getD, drop, length-append}
+use lib.ListN.{length, getD, set, drop, length-append}
 use lib.Seq.{drop-cons, drop-nil}
 use mir.Syntax.{w32}
 use mir.Val.{toZ, ofZ, SFits}
 use Rattle.metrics.proofs.Ints.{add-le}
-use Rattle.paths.specs.Chains.{firstAfter}
+use Rattle.paths.specs.Chains.{firstAfter, extends, isChain}
 use Rattle.paths.specs.Queue.{chainAt, keyOf}
 use Rattle.paths.proofs.TableLaws.{chain-root, chain-link}
-use Rattle.paths.proofs.QueueLaws.{chain-end, chain-length, chain-longer}
+use Rattle.paths.proofs.QueueLaws.{chain-end, chain-length, chain-longer, Queueing, queueing-more}
 use Rattle.kplib.specs.Scoring.{Below}
 use Rattle.kplib.specs.Sums.{sizeFrom, sizeOf}
-use Rattle.kplib.specs.Graph.{edge, mayFollowIn, extendsIn, isChainIn}
-use Rattle.kplib.specs.GraphWalk.{extendsAt}
+use Rattle.kplib.specs.GraphWalk.{extendsAt, flagOf}
 use Rattle.kplib.specs.Search.{distanceTo}
-use Rattle.kplib.specs.SearchSteps.{Extending, Rowed, endAt}
+use Rattle.kplib.specs.SearchSteps.{Extending, Rowed, endAt, parentsOf, lastsOf, chainOf, followsBy}
+use Rattle.kplib.specs.declared.plan.Plan.{Plan}
 use Rattle.kplib.proofs.GraphLaws.{extends-found}
+use Rattle.kplib.proofs.LinkLaws.{parents-length, lasts-length, parents-store, lasts-store}
 use Rattle.kplib.proofs.WordLaws.{fits, back}
 use Rattle.kplib.proofs.SizeSumLaws.{size-le, size-snoc}
 
@@ -34,61 +35,70 @@ pub end-at : (parents lasts : List ℕ) (e : ℕ) → ((i : ℕ) → 0 < i → i
 end-at parents lasts zero h = sym (ap firstAfter (chain-root parents lasts))
 end-at parents lasts (suc e) h = add-one (getD lasts (suc e) 0) ∙ sym (ap firstAfter (chain-link parents lasts (suc e) (omega arith) (h (suc e) (omega arith) refl)))
 
-module _ {starts ends : List ℕ} {sizes : List ℤ} {full : Bool} {target : ℤ} {parents lasts keys : List ℕ} {used queued entry end : ℕ} {size : ℤ}
-    (h : Extending starts ends sizes full target parents lasts keys used queued entry end size) where
-  chained : isChainIn starts ends full (chainAt parents lasts entry) ≡ true
+module _ {plan : Plan} {together : List Bool} {sizes : List ℤ} {links keys : List ℕ} {used queued entry end : ℕ} {size : ℤ}
+    (h : Extending plan together sizes links keys used queued entry end size) where
+  -- the chain that is extended
+  abbrev chain : List ℕ
+  chain = chainOf links entry
+
+  abbrev follows : List ℕ → ℕ → Bool
+  follows = followsBy plan together
+
+  chained : isChain follows (length sizes) chain ≡ true
   chained = h .queue .chains entry (h .entry-in)
 
-  pub end-in : end ≤ length starts
-  end-in = omega (arith, h .end-is, chain-end (mayFollowIn starts ends full) (length starts) (chainAt parents lasts entry) chained)
+  pub end-in : end ≤ 64
+  end-in = omega (arith, h .end-is, chain-end follows (length sizes) chain chained, h .sized .few)
 
   -- what the code's test found of the chain
-  pub found : (r : ℕ) {b : Bool} → b ≡ extendsAt (edge starts ends) full end r → extendsIn starts ends full (chainAt parents lasts entry) r ≡ b
-  found r e = extends-found starts ends full r (chainAt parents lasts entry) (h .end-is) e
+  pub found : (r : ℕ) {b : Bool} → b ≡ extendsAt (flagOf together) (plan .s .full) end r → extends (followsBy plan together) (chainOf links entry) r ≡ b
+  found r e = extends-found (flagOf together) (plan .s .full) r chain (h .end-is) e
 
-  short : (r : ℕ) → r < length starts → extendsIn starts ends full (chainAt parents lasts entry) r ≡ true → length (reverse (r ∷ chainAt parents lasts entry)) ≤ 64
-  short r l e =
-      let c = r ∷ chainAt parents lasts entry in
-      let k : isChainIn starts ends full (r ∷ chainAt parents lasts entry) ≡ true = chain-longer (mayFollowIn starts ends full) (length starts) r (chainAt parents lasts entry) chained l e in
-      omega (arith, reverse-length (r ∷ chainAt parents lasts entry), chain-length (mayFollowIn starts ends full) (length starts) (r ∷ chainAt parents lasts entry) k, h .few)
-
-  sum : (r : ℕ) → size +ℤ getD sizes r (pos 0) ≡ sizeOf sizes (reverse (r ∷ chainAt parents lasts entry))
-  sum r = ap (λ (z : ℤ). z +ℤ getD sizes r (pos 0)) (h .size-is) ∙ sym (ap (λ (l : List ℕ). sizeOf sizes l) (reverse-cons r (chainAt parents lasts entry)) ∙ size-snoc sizes (reverse (chainAt parents lasts entry)) r)
-
-  pub size-small : natAbs size ≤ 8388608
+  size-small : natAbs size ≤ 8388608
   size-small =
-      omega (
-        arith,
-        ap natAbs (h .size-is),
-        reverse-length (chainAt parents lasts entry),
-        chain-length (mayFollowIn starts ends full) (length starts) (chainAt parents lasts entry) chained,
-        end-in,
-        h .end-is,
-        h .few,
-        size-le sizes (reverse (chainAt parents lasts entry)) (h .sized) (omega (arith, reverse-length (chainAt parents lasts entry), chain-length (mayFollowIn starts ends full) (length starts) (chainAt parents lasts entry) chained, end-in, h .end-is, h .few)),
-      )
+      let few : length (reverse chain) ≤ 64 = omega (arith, reverse-length chain, chain-length follows (length sizes) chain chained, end-in, h .end-is) in
+      omega (arith, ap natAbs (h .size-is), size-le sizes (reverse chain) (h .sized) few)
 
-  module _ (r : ℕ) (l : r < length starts) (e : extendsIn starts ends full (chainAt parents lasts entry) r ≡ true) where
-    pub sum-small : natAbs (size +ℤ getD sizes r (pos 0)) ≤ 8388608
-    sum-small = omega (arith, ap natAbs (sum r), size-le sizes (reverse (r ∷ chainAt parents lasts entry)) (h .sized) (short r l e))
+  sum : (r : ℕ) → size +ℤ getD sizes r (pos 0) ≡ sizeOf sizes (reverse (r ∷ chain))
+  sum r = ap (λ (z : ℤ). z +ℤ getD sizes r (pos 0)) (h .size-is) ∙ sym (ap (λ (l : List ℕ). sizeOf sizes l) (reverse-cons r chain) ∙ size-snoc sizes (reverse chain) r)
 
-    row-small : natAbs (getD sizes r (pos 0)) ≤ 131072
-    row-small = h .sized .sized r
+  module _ {r : ℕ} (l : r < length sizes) (e : extends (followsBy plan together) (chainOf links entry) r ≡ true) where
+    short : length (reverse (r ∷ chain)) ≤ 64
+    short =
+        let k : isChain follows (length sizes) (r ∷ chain) ≡ true = chain-longer follows (length sizes) r chain chained l e in
+        omega (arith, reverse-length (r ∷ chain), chain-length follows (length sizes) (r ∷ chain) k, h .sized .few)
 
-    -- the sum as the machine reads it
+    sum-small : natAbs (size +ℤ getD sizes r (pos 0)) ≤ 8388608
+    sum-small = omega (arith, ap natAbs (sum r), size-le sizes (reverse (r ∷ chain)) (h .sized) short)
+
+    -- the longer chain's size as the machine adds it up
     pub sum-fits : SFits w32 (toZ w32 (ofZ w32 size) +ℤ toZ w32 (ofZ w32 (getD sizes r (pos 0))))
-    sum-fits = rw (back size (omega (arith, size-small)), back (getD sizes r (pos 0)) (omega (arith, row-small))) (fits (size +ℤ getD sizes r (pos 0)) (omega (arith, sum-small)))
+    sum-fits = rw (back size (omega (arith, size-small)), back (getD sizes r (pos 0)) (omega (arith, h .sized .sized r))) (fits (size +ℤ getD sizes r (pos 0)) (omega (arith, sum-small)))
 
-    pub sum-back : toZ w32 (ofZ w32 (toZ w32 (ofZ w32 size) +ℤ toZ w32 (ofZ w32 (getD sizes r (pos 0))))) ≡ size +ℤ getD sizes r (pos 0)
-    sum-back = rw (back size (omega (arith, size-small)), back (getD sizes r (pos 0)) (omega (arith, row-small))) (back (size +ℤ getD sizes r (pos 0)) (omega (arith, sum-small)))
+    sum-back : toZ w32 (ofZ w32 (toZ w32 (ofZ w32 size) +ℤ toZ w32 (ofZ w32 (getD sizes r (pos 0))))) ≡ size +ℤ getD sizes r (pos 0)
+    sum-back = rw (back size (omega (arith, size-small)), back (getD sizes r (pos 0)) (omega (arith, h .sized .sized r))) (back (size +ℤ getD sizes r (pos 0)) (omega (arith, sum-small)))
 
-    pub key-sizes : (natAbs (toZ w32 (ofZ w32 (toZ w32 (ofZ w32 size) +ℤ toZ w32 (ofZ w32 (getD sizes r (pos 0)))))) ≤ 8388608) × (natAbs (toZ w32 (ofZ w32 target)) ≤ 8388608)
-    key-sizes = (omega (arith, ap natAbs sum-back, sum-small), omega (arith, ap natAbs (back target (omega (arith, h .target-small))), h .target-small))
+    -- what its key is asked with, and what it is
+    pub key-sizes : (natAbs (toZ w32 (ofZ w32 (toZ w32 (ofZ w32 size) +ℤ toZ w32 (ofZ w32 (getD sizes r (pos 0)))))) ≤ 8388608) × (natAbs (toZ w32 (ofZ w32 (plan .target))) ≤ 8388608)
+    key-sizes = (omega (arith, ap natAbs sum-back, sum-small), omega (arith, ap natAbs (back (plan .target) (omega (arith, h .target-small))), h .target-small))
 
-    pub key-is : (k m : ℕ) → k ≡ keyOf (natAbs (toZ w32 (ofZ w32 (toZ w32 (ofZ w32 size) +ℤ toZ w32 (ofZ w32 (getD sizes r (pos 0))))) -ℤ toZ w32 (ofZ w32 target))) m
-        → k ≡ keyOf (distanceTo sizes target (r ∷ chainAt parents lasts entry)) m
+    key-is : {k : ℕ} (m : ℕ) → k ≡ keyOf (natAbs (toZ w32 (ofZ w32 (toZ w32 (ofZ w32 size) +ℤ toZ w32 (ofZ w32 (getD sizes r (pos 0))))) -ℤ toZ w32 (ofZ w32 (plan .target)))) m
+        → k ≡ keyOf (distanceTo sizes (plan .target) (r ∷ chain)) m
     unfolding distanceTo
-    key-is k m q = rw (← sum r, ← sum-back) (rw (back target (omega (arith, h .target-small))) at q)
+    key-is m q = rw (← sum r, ← sum-back) (rw (back (plan .target) (omega (arith, h .target-small))) at q)
+
+  -- a turn of the loop whose row extends the chain: its link and its key stand behind the others
+  pub queueing-row : (links′ : List ℕ) {keys′ : List ℕ} {added r k : ℕ}
+      → Queueing (followsBy plan together) (length sizes) (distanceTo sizes (plan .target)) used queued entry (parentsOf links) (lastsOf links) keys (parentsOf links′) (lastsOf links′) keys′ added r
+      → length links′ ≡ length links → length keys′ ≡ length keys → 0 < r → extends (followsBy plan together) (chainOf links entry) (r - 1) ≡ true
+      → k ≡ keyOf (natAbs (toZ w32 (ofZ w32 (toZ w32 (ofZ w32 size) +ℤ toZ w32 (ofZ w32 (getD sizes (r - 1) (pos 0))))) -ℤ toZ w32 (ofZ w32 (plan .target)))) (used + added)
+      → Queueing (followsBy plan together) (length sizes) (distanceTo sizes (plan .target)) used queued entry (parentsOf links) (lastsOf links) keys
+      (parentsOf (set links′ (used + added) (entry * 64 + (r - 1)))) (lastsOf (set links′ (used + added) (entry * 64 + (r - 1)))) (set keys′ (queued + added) k) (added + 1) (r - 1)
+  queueing-row links′ {added = added} {r = r} {k = k} q el ek p e key =
+      let row : r - 1 < 64 = omega (arith, q .most, h .sized .few) in
+      rw (parents-store links′ (used + added) entry (r - 1) row, lasts-store links′ (used + added) entry (r - 1) row)
+      (queueing-more q p e (h .entry-in) (omega (arith, parents-length links′, h .link-room, q .most)) (omega (arith, lasts-length links′, h .link-room, q .most))
+      (omega (arith, h .key-room, q .most)) (h .few-entries) k (key-is (omega (arith, q .most)) e (used + added) key))
 
 pub end-later : (e r : ℕ) {x : ℕ} → (e ≡ 0 → ⊥) → x ≡ r + 1 → x ≡ endAt e r
 end-later zero r h k = absurd (h refl)

@@ -46,7 +46,8 @@ module _ {s : Settings} {t : Table} {p : Parts} {links : List ℕ} {at : Progres
   abbrev found : List ℕ
   found = rowsFor (at .best .scored .target) (reverse (chainOf links (at .best .entry)))
 
-  pub search-answers : (rows : List ℕ) {rows' : List ℕ} {n : ℕ} {r : Answer} → (n ≡ length found) × (rows' ≡ placed rows found) → r ≡ answerParts 0 n (at .best .scored) (at .count) (eqb (at .queued) 0)
+  pub search-answers : (rows : List ℕ) {rows' : List ℕ} {n : ℕ} {r : Answer} → (n ≡ length found) × (rows' ≡ placed rows found)
+      → r ≡ answerParts 0 n (at .best .scored) (at .count) (eqb (at .queued) 0)
       → (r ≡ answerWith 0 (searched s t p)) × (rows' ≡ placed rows (searched s t p .rows))
   unfolding searched
   search-answers rows h k =
@@ -76,7 +77,8 @@ module _ (c : Call) where
       (hr ∙ ap (λ (y : Scored). answerParts (suc n) 0 y 0 false) hx ∙ answer-at (suc n) e, ap (λ (l : List ℕ). l ++ drop (length l) rows) (rows-at (suc n) e))
 
   module _ (e : firstFault c ≡ 0) where
-    with-rows : {r : Answer} (rows : List ℕ) {rows' : List ℕ} → (r ≡ answerWith 0 (foundAfter 0 c)) × (rows' ≡ placed rows (foundAfter 0 c .rows)) → (r ≡ answerOf c) × (rows' ≡ placed rows (rowsOf c))
+    with-rows : {r : Answer} (rows : List ℕ) {rows' : List ℕ} → (r ≡ answerWith 0 (foundAfter 0 c)) × (rows' ≡ placed rows (foundAfter 0 c .rows))
+        → (r ≡ answerOf c) × (rows' ≡ placed rows (rowsOf c))
     with-rows rows h = (h .0 ∙ answer-at 0 (sym e), h .1 ∙ ap (λ (l : List ℕ). placed rows l) (rows-at 0 (sym e)))
 
     pub searched-accepted : {r : Answer} (rows : List ℕ) {rows' : List ℕ} → inSearchMode c ≡ true

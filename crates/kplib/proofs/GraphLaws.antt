@@ -11,7 +11,7 @@ use borrow.Author.Tests.{le-leb, lt-leb}
 use Rattle.paths.specs.Chains.{firstAfter, extends, chainsFrom}
 use Rattle.paths.specs.Count.{mayFollow}
 use Rattle.paths.proofs.CountLaws.{doc-full, doc-bare}
-use Rattle.kplib.specs.Graph.{edge, mayFollowIn, extendsIn, chainsOf}
+use Rattle.kplib.specs.Graph.{edge, mayFollowIn, chainsOf}
 use Rattle.kplib.specs.GraphWalk.{extendsAt}
 
 pub and-false : (b : Bool) → (b && false) ≡ false
@@ -19,10 +19,14 @@ and-false true = refl
 and-false false = refl
 
 module _ (joins : ℕ → ℕ → Bool) where
-  end-is : (full : Bool) (c : List ℕ) (s : ℕ) → extends (mayFollow joins full) c s ≡ extendsAt joins full (firstAfter c) s
+  extends-end : (full : Bool) (c : List ℕ) (s : ℕ) → extends (mayFollow joins full) c s ≡ extendsAt joins full (firstAfter c) s
   unfolding extends extendsAt
-  end-is full [] s = refl
-  end-is full (r ∷ c) s = refl
+  extends-end full [] s = refl
+  extends-end full (r ∷ c) s = refl
+
+  -- what a walk's test found of chain c, which ends at the node that it asked
+  pub extends-found : (full : Bool) (s : ℕ) {found : Bool} {end : ℕ} (c : List ℕ) → end ≡ firstAfter c → found ≡ extendsAt joins full end s → extends (mayFollow joins full) c s ≡ found
+  extends-found full s c e h = extends-end full c s ∙ sym (h ∙ ap (λ (node : ℕ). extendsAt joins full node s) e)
 
   pub at-bare : (full : Bool) (end s : ℕ) → full ≡ false → extendsAt joins full end s ≡ false
   unfolding extendsAt
@@ -44,14 +48,6 @@ module _ (joins : ℕ → ℕ → Bool) where
   at-later full zero s f e h = absurd (e refl)
   at-later full (suc r) s f e h = let p : suc r - 1 ≡ r = omega arith in rw (le-leb (suc r) s (omega arith), f, p)
 
-module _ (starts ends : List ℕ) where
-  -- what a walk's test found of chain c, which ends at the node that it asked
-  pub extends-end : (full : Bool) (c : List ℕ) (s : ℕ) → extendsIn starts ends full c s ≡ extendsAt (edge starts ends) full (firstAfter c) s
-  extends-end full c s = end-is (edge starts ends) full c s
-
-  pub extends-found : (full : Bool) (s : ℕ) {found : Bool} {end : ℕ} (c : List ℕ) → end ≡ firstAfter c → found ≡ extendsAt (edge starts ends) full end s → extendsIn starts ends full c s ≡ found
-  extends-found full s c e h = extends-end full c s ∙ sym (h ∙ ap (λ (node : ℕ). extendsAt (edge starts ends) full node s) e)
-
-  pub counts-chains : (full : Bool) → chainsFrom (mayFollowIn starts ends full) (length starts) [] ≡ chainsOf starts ends full
-  counts-chains true = doc-full (edge starts ends) (length starts)
-  counts-chains false = doc-bare (edge starts ends) (length starts)
+pub counts-chains : (starts ends : List ℕ) (full : Bool) → chainsFrom (mayFollowIn starts ends full) (length starts) [] ≡ chainsOf starts ends full
+counts-chains starts ends true = doc-full (edge starts ends) (length starts)
+counts-chains starts ends false = doc-bare (edge starts ends) (length starts)

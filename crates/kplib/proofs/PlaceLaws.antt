@@ -41,7 +41,8 @@ rows-matched Whole l e = refl
 rows-matched (Partial n) l e = refl
 
 -- a chain that matched is written as it is
-pub placed-all : (t : Target) (l rows : List ℕ) {n : ℕ} {rows' : List ℕ} → matchedBy t ≡ true → (n ≡ length l) × (rows' ≡ placed rows l) → (n ≡ length (rowsFor t l)) × (rows' ≡ placed rows (rowsFor t l))
+pub placed-all : (t : Target) (l rows : List ℕ) {n : ℕ} {rows' : List ℕ} → matchedBy t ≡ true → (n ≡ length l) × (rows' ≡ placed rows l)
+    → (n ≡ length (rowsFor t l)) × (rows' ≡ placed rows (rowsFor t l))
 placed-all t l rows e h = rw (rows-matched t l e) h
 
 pub placed-row : (t : Target) (r : ℕ) (rows : List ℕ) → matchedBy t ≡ true → 1 ≤ length rows → (1 ≡ length (loneRowsAt t r)) × (set rows 0 r ≡ placed rows (loneRowsAt t r))

@@ -1,11 +1,13 @@
--- An accepted job gives a search what it asks; and what the steps end with, told the flags, the width and the part lists as they lie, is document 01's answer for the table and the haplotype. Assumes nothing.
+-- An accepted job gives a search what it asks; and what the steps end with, told the flags, the width and the part lists as they lie, is document 01's
+-- answer for the table and the haplotype. Assumes nothing.
 use mathlib.Core.Path.{_≡_, refl, ap, _∙_}
-use Prim.Native.Nat.{ℕ, _+_, _^_, _≤_}
+use Prim.Native.Nat.{ℕ, _+_, _*_, _^_, _≤_}
 use native.Mathlib.Omega.{arith}
 use mathlib.Core.Bool.{Bool}
 use mathlib.Core.List.{List, [], _∷_, map, reverse}
 use lib.IntN.{ℤ, natAbs}
 use lib.ListN.{length, take}
+use lib.Seq.{length-take-le}
 use Rattle.paths.specs.Queue.{Ended}
 use Rattle.params.specs.Checked.{Sized}
 use Rattle.params.specs.Numbers.{Table, Parts}
@@ -38,7 +40,16 @@ ended-alike : {R : Type 0} {le : R → R → Bool} {start : R} {f g : List ℕ �
     → ((c : List ℕ) → f c ≡ g c) → Ended le start f follows v D steps k b complete → Ended le start g follows v D steps k b complete
 ended-alike {f = f} {g = g} same e = record { best-is = rw (map-alike {f = f} {g = g} same) at (e .best-is); count-is = e .count-is; complete-is = e .complete-is }
 
--- the plan of a job, and what the steps are told of it
+-- the plan of a job
+pub plan-is : (s : Settings) (sizes : List ℤ) {width : ℕ} {target : ℤ} → width ≡ 4 ^ s .k → target ≡ haplotypeSize sizes
+    → _≡_ {A = Plan} (record { s = s; width = width; m = length sizes; target = target }) (record { s = s; width = 4 ^ s .k; m = length sizes; target = haplotypeSize sizes })
+plan-is s sizes w t = rw (w, t)
+
+-- the scratch is two rows
+pub two-rows : (width : ℕ) (scratch : List ℤ) → 2 * width ≤ length scratch → length (take (2 * width) scratch) ≡ width + width
+two-rows width scratch h = omega (arith, length-take-le (2 * width) scratch h)
+
+-- what the steps are told of it
 module _ {s : Settings} {t : Table} {p : Parts} {plan : Plan} {codes : List ℕ} {listSizes : List ℤ} {count linkRoom keyRoom : ℕ} (h : Startable s t p linkRoom keyRoom)
     (is : plan ≡ record { s = s; width = 4 ^ s .k; m = length (p .sizes); target = haplotypeSize (p .sizes) }) (d : LaidDown s (p .sizes) codes listSizes count) where
   pub searchable-first : (together : List Bool) {lr kr room : ℕ} → lr ≡ linkRoom → kr ≡ keyRoom → room ≡ plan .width + plan .width

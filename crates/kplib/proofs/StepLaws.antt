@@ -1,6 +1,6 @@
 -- What a step of the search asks of its callees follows from where the search stands; and what they promise is where it stands after the step. Assumes nothing.
 use mathlib.Core.Path.{_≡_, refl, ap, _∙_}
-use Prim.Native.Nat.{ℕ, _+_, _-_, _*_, _^_, _≤_, _<_}
+use Prim.Native.Nat.{ℕ, _+_, _-_, _*_, _≤_, _<_}
 use native.Mathlib.Omega.{arith}
 use native.Mathlib.Nat.{mul-le-mul-right}
 use mathlib.Core.Bool.{Bool, true, false, cond}
@@ -11,18 +11,22 @@ use lib.ListN.{length, getD, set, take}
 use lib.Seq.{length-take-le}
 use lib.Ieee.{le}
 use borrow.Author.Tests.{eq-eqb, ne-eqb}
+use mir.Syntax.{w32}
+use mir.Val.{toZ, ofZ}
 use Rattle.paths.specs.Chains.{isChain}
 use Rattle.paths.specs.Queue.{keyOf, Walk, Taken, Queued, Ended}
 use Rattle.paths.proofs.QueueLaws.{chain-parts, chain-end, chain-length}
 use Rattle.paths.proofs.RunLaws.{taken-in, taken-queue, begin, step-on, end-empty, end-steps}
 use Rattle.kplib.specs.Sums.{sizeFrom, sizeOf}
-use Rattle.kplib.specs.Score.{start}
 use Rattle.kplib.specs.Scoring.{Below}
 use Rattle.kplib.specs.Search.{distanceTo, resultWith, startResult, noLower}
-use Rattle.kplib.specs.SearchSteps.{laterOf, advanced, notBegun, endAt, parentsOf, lastsOf, chainOf, Told, followsTold, distanceTold, scoreBy, resultTold, Extending, Weighable, WeighedAs, Searchable, bestAt, Going, Gone}
+use Rattle.kplib.specs.SearchSteps.{laterOf, advanced, notBegun, endAt, parentsOf, lastsOf, chainOf, Told, followsTold, distanceTold, resultTold}
+use Rattle.kplib.specs.SearchSteps.{Extending, Weighable, WeighedAs, Searchable, bestAt, Going, Gone}
 use Rattle.kplib.specs.declared.steps.Leader.{Leader}
 use Rattle.kplib.specs.declared.steps.Weighed.{Weighed}
 use Rattle.kplib.specs.declared.steps.Progress.{Progress}
+use Rattle.kplib.proofs.WordLaws.{back}
+use Rattle.kplib.proofs.SizeSumLaws.{size-le}
 use Rattle.kplib.proofs.LinkLaws.{parents-length, lasts-length}
 use Rattle.kplib.proofs.ExtensionLaws.{reverse-length, end-at}
 
@@ -102,9 +106,12 @@ module _ {q : Told} {room : ℕ} {links keys : List ℕ} {at : Progress} (h : Se
     after : at .used + length (q .sizes) ≤ 1 + (q .plan .s .maxpaths + 1) * length (q .sizes)
     after = omega (arith, g .run .room, mul-le-mul-right (length (q .sizes)) less)
 
-    pub extending : {end : ℕ} {size : ℤ} → end ≡ endAt e (getD (lastsOf links) e 0) → size ≡ sizeOf (q .sizes) (reverse (chainOf links e))
-        → Extending (q .plan) (q .together) (q .sizes) links keys' (at .used) (at .queued - 1) e end size
-    extending he hs = record {
+    size-back : {size : ℤ} → size ≡ sizeOf (q .sizes) (reverse (chainOf links e)) → toZ w32 (ofZ w32 size) ≡ size
+    size-back {size} hs = back size (omega (arith, ap natAbs hs, size-le (q .sizes) (reverse (chainOf links e)) (h .sized) (omega (arith, reverse-length (chainOf links e), short e entry-in, few))))
+
+    pub extending : {end : ℕ} (size : ℤ) → end ≡ endAt e (getD (lastsOf links) e 0) → size ≡ sizeOf (q .sizes) (reverse (chainOf links e))
+        → Extending (q .plan) (q .together) (q .sizes) links keys' (at .used) (at .queued - 1) e end (toZ w32 (ofZ w32 size))
+    extending size he hs = record {
       link-room = omega (arith, h .link-room, after);
       key-room = omega (arith, h .key-room, after, key-count);
       few-entries = omega (arith, after, all-few);
@@ -112,13 +119,13 @@ module _ {q : Told} {room : ℕ} {links keys : List ℕ} {at : Progress} (h : Se
       target-small = h .target-small;
       entry-in = entry-in;
       end-is = he ∙ end-at (parentsOf links) (lastsOf links) e (λ i p z. g .run .queue .links i p (omega (arith, entry-in)));
-      size-is = hs;
+      size-is = size-back hs ∙ hs;
       queue = taken-queue (g .run) (g .queued-in) k;
     }
 
     module _ (links' keys'' : List ℕ) {added : ℕ} {w : Weighed} {to : Progress}
         (p : Queued (followsTold q) (length (q .sizes)) (distanceTold q) (parentsOf links) (lastsOf links) (take (at .queued - 1) keys') (at .used) e
-            (parentsOf links') (lastsOf links') (take (at .queued - 1 + added) keys'') added)
+        (parentsOf links') (lastsOf links') (take (at .queued - 1 + added) keys'') added)
         (within : at .queued - 1 + added ≤ length keys'')
         (hw : WeighedAs (q .plan) (q .sizes) (q .features) (q .partFeatures) (q .codes) (q .listSizes) (reverse (chainOf links e)) w)
         (hr : to ≡ advanced at e (w .scored) added) where
@@ -132,7 +139,8 @@ module _ {q : Told} {room : ℕ} {links keys : List ℕ} {at : Progress} (h : Se
           let x : Leader = record { entry = e; scored = w .scored } in
           let b = le (at .best .scored .score) (w .scored .score) in
           let in-old = later-in (at .used) r (at .best) x b hr (g .best-in) entry-in in
-          let same : resultWith (reverse (chainOf links' (r .entry))) (r .scored) ≡ cond (noLower (bestAt links at) (resultTold q (chainOf links e))) (resultTold q (chainOf links e)) (bestAt links at) =
+          let same : resultWith (reverse (chainOf links' (r .entry))) (r .scored)
+          ≡ cond (noLower (bestAt links at) (resultTold q (chainOf links e))) (resultTold q (chainOf links e)) (bestAt links at) =
           rw (p .kept (r .entry) in-old, result-is) (later-result r (at .best) x b (λ i. chainOf links i) hr) in
           record {
             best-in = omega (arith, in-old);

@@ -1,11 +1,15 @@
 -- The flags of the pairs of rows: how they are laid, row by row, and that they give the graph's own search and count,
 -- for the graph's rule asks an edge only of a chain's last row and a later one. Assumes nothing.
 use mathlib.Core.Path.{_≡_, refl, ap, _∙_}
-use Prim.Native.Nat.{ℕ, suc, _<_}
+use Prim.Native.Nat.{ℕ, suc, _+_, _*_, _≤_, _<_}
+use native.Mathlib.Omega.{arith}
+use mathlib.Core.Logic.{_≢_}
+use borrow.Author.Count.{below-more}
 use mathlib.Core.Bool.{Bool, true, false, _&&_}
 use mathlib.Core.List.{List, [], _∷_, map}
 use lib.Dec.{leb}
-use lib.ListN.{length}
+use lib.ListN.{length, set, length-set}
+use lib.Seq.{getD-set-same, getD-set-other}
 use borrow.Author.Tests.{leb-true}
 use Rattle.paths.specs.Best.{best}
 use Rattle.paths.specs.Chains.{extends, isChain}
@@ -14,8 +18,42 @@ use Rattle.paths.specs.Queue.{Ended}
 use Rattle.paths.specs.Search.{none}
 use Rattle.paths.proofs.RuleLaws.{scored-same, left-same, chainCount-same}
 use Rattle.kplib.specs.Graph.{edge, mayFollowIn, chainsOf}
-use Rattle.kplib.specs.GraphWalk.{flagOf, Together}
+use Rattle.kplib.specs.GraphWalk.{flagOf, Together, RowLaid}
 
+-- ---- how they are laid
+module _ (joins : ℕ → ℕ → Bool) (r : ℕ) (t : List Bool) where
+  -- no later row yet
+  pub row-begin : RowLaid joins (r + 1) r t t
+  row-begin = record { long = refl; laid = λ s h l. absurd (omega arith); kept = λ i l. refl }
+
+  -- one later row more
+  pub row-on : (s : ℕ) (u : List Bool) (flag : Bool) → RowLaid joins s r t u → r < s → 64 * r + s < length u → flag ≡ joins r s → RowLaid joins (s + 1) r t (set u (64 * r + s) flag)
+  row-on s u flag h k room e = record {
+    long = length-set u (64 * r + s) flag ∙ h .long;
+    laid = λ j q l. below-more (λ j. r < j → flagOf (set u (64 * r + s) flag) r j ≡ joins r j) s
+        (λ j l q. let ne : 64 * r + j ≢ 64 * r + s = omega arith in getD-set-other u (64 * r + s) (64 * r + j) flag false ne ∙ h .laid j q l)
+        (λ q. getD-set-same u (64 * r + s) flag false room ∙ e) j l q;
+    kept = λ i l. let ne : i ≢ 64 * r + s = omega arith in getD-set-other u (64 * r + s) i flag false ne ∙ h .kept i l;
+  }
+
+-- the flags of the rows before r are laid
+pub record LaidBefore (joins : ℕ → ℕ → Bool) (v r : ℕ) (t : List Bool) : Type 0 where
+  pub flags : (i : ℕ) → i < r → (s : ℕ) → i < s → s < v → flagOf t i s ≡ joins i s
+
+pub pairs-begin : (joins : ℕ → ℕ → Bool) (v : ℕ) (t : List Bool) → LaidBefore joins v 0 t
+pairs-begin joins v t = record { flags = λ i l s q m. absurd (omega arith) }
+
+module _ {joins : ℕ → ℕ → Bool} {v r : ℕ} {t : List Bool} (h : LaidBefore joins v r t) where
+  -- one row more: what is laid stands before it
+  pub pairs-on : {u : List Bool} → v ≤ 64 → RowLaid joins v r t u → LaidBefore joins v (r + 1) u
+  pairs-on {u} few k = record {
+    flags = below-more (λ i. (s : ℕ) → i < s → s < v → flagOf u i s ≡ joins i s) r (λ i l s q m. k .kept (64 * i + s) (omega arith) ∙ h .flags i l s q m) (λ s q m. k .laid s q m);
+  }
+
+  pub pairs-done : v ≤ r → Together joins v t
+  pairs-done e i s q l = h .flags i (omega arith) s q l
+
+-- ---- what they give
 -- two edges that agree on the pairs of the rows extend any chain alike
 extends-same : (joins joins′ : ℕ → ℕ → Bool) (v : ℕ) → ((r s : ℕ) → r < s → s < v → joins r s ≡ joins′ r s)
     → (full : Bool) (c : List ℕ) (s : ℕ) → s < v → extends (mayFollow joins full) c s ≡ extends (mayFollow joins′ full) c s

@@ -4,7 +4,7 @@ use mathlib.Core.Path.{_≡_}
 use mathlib.Core.Bool.{Bool, false, _&&_}
 use mathlib.Core.List.{List}
 use lib.Dec.{leb}
-use lib.ListN.{getD}
+use lib.ListN.{length, getD}
 
 -- whether row s extends a chain that ends at this node, 0 being the source
 unfoldable pub extendsAt : (ℕ → ℕ → Bool) → Bool → ℕ → ℕ → Bool
@@ -21,6 +21,7 @@ Together edge v together = (r s : ℕ) → r < s → s < v → flagOf together r
 
 -- from t to u: the flags of row r and each later row of the v are laid, and those of the rows before r are as they were
 pub record RowLaid (edge : ℕ → ℕ → Bool) (v r : ℕ) (t u : List Bool) : Type 0 where
+  pub long : length u ≡ length t
   pub laid : (s : ℕ) → r < s → s < v → flagOf u r s ≡ edge r s
   pub kept : (i : ℕ) → i < 64 * r → getD u i false ≡ getD t i false
 

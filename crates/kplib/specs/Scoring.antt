@@ -5,7 +5,7 @@ use mathlib.Core.Bool.{Bool, true, false, cond, not, _&&_}
 use mathlib.Core.List.{List, [], _∷_, _++_, map}
 use lib.Dec.{eqb}
 use lib.IntN.{ℤ, pos, natAbs}
-use lib.ListN.{length, getD, take}
+use lib.ListN.{length, getD, take, drop}
 use lib.Ieee.{Float, lt, le}
 use Rattle.metrics.specs.Similarity.{whole, sizesimValue, magnitudeSum}
 use Rattle.params.specs.Checked.{Flat, Sized}
@@ -152,6 +152,13 @@ pub record Comparable (s : Settings) (chainSize : ℤ) (chainRow : List ℤ) (ch
   pub chain-few : chainLen ≤ 64
   pub list-few : listLen ≤ 64
   pub partial-few : partial ≤ 64
+
+-- a summed chain and a summed list of so many parts in one slice, the chain's row in front
+pub record Paired (plan : Plan) (chainSize : ℤ) (chainLen : ℕ) (listSize : ℤ) (listLen : ℕ) (rows : List ℤ) : Type 0 where
+  pub short : plan .width ≤ 4096
+  pub rows-are : length rows ≡ plan .width + plan .width
+  pub most : listLen ≤ plan .m
+  pub comparable : Comparable (plan .s) chainSize (take (plan .width) rows) chainLen listSize (drop (plan .width) rows) listLen (plan .m - listLen)
 
 -- whether a list passes the sign and size tests and, were its seqsim 1.0, would score above the best
 unfoldable pub mayWin : Settings → ℤ → ℕ → ℤ → ℕ → ℕ → Float → Bool

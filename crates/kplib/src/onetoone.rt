@@ -11,7 +11,7 @@ use crate::pathscore::Scored;
 use crate::pathscore::greater_of;
 use crate::pathscore::list_score;
 use crate::pathscore::nothing;
-use crate::pathscore::sum_rows;
+use crate::pathscore::sum_features;
 use crate::plan::Plan;
 use crate::vargraph::Row;
 use params::Settings;
@@ -85,7 +85,7 @@ pub(crate) fn one_to_one(
 {
     let m = part_sizes.len();
     all_positions(m, chosen);
-    sum_rows(part_features, &chosen[..m], whole_row);
+    sum_features(part_features, &chosen[..m], whole_row);
     let plan = Plan {
         s,
         width: whole_row.len(),

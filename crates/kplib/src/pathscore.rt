@@ -1,14 +1,14 @@
 // The score of a chain against the part lists of a haplotype (pathscore.rs).
 ghost use mathlib.Core.Path.{_≡_};
 ghost use mathlib.Core.Bool.{_&&_};
-ghost use Prim.Native.Nat.{_≤_};
+ghost use Prim.Native.Nat.{_-_, _≤_};
 ghost use lib.Dec.{eqb};
 ghost use lib.IntN.{natAbs};
-ghost use lib.ListN.{length};
+ghost use lib.ListN.{length, take, drop};
 ghost use Rattle.metrics.specs.Similarity.{sizesimValue, magnitudeSum};
 ghost use Rattle.kplib.specs.Sums.{rowPlus, zeros, featuresFrom, featuresOf};
 ghost use Rattle.kplib.specs.Score.{sign, seqsimOfRows, gapOf, scoreValue, listScore, start, targetOf, greaterOf};
-ghost use Rattle.kplib.specs.Scoring.{Summable, Ready, Comparable, mayWin, total, chainTotal, codedScore, Attempt, Attempted, noneTried, Scorable};
+ghost use Rattle.kplib.specs.Scoring.{Summable, Ready, Comparable, Paired, mayWin, total, chainTotal, codedScore, Attempt, Attempted, noneTried, Scorable};
 use crate::haplotype::positions;
 use crate::plan::Plan;
 use metrics::Sim;
@@ -187,7 +187,7 @@ fn add_row(acc: &mut [i32], row: &[i32])
     }
 }
 
-fn clear(row: &mut [i32])
+fn clear_row(row: &mut [i32])
     ensures { λ _. ⌜ now (row .exit) ≡ zeros (length (now (row .entry))) ⌝ }
 {
     let mut i: usize = 0;
@@ -212,11 +212,11 @@ fn add_rows(table: &[i32], rows: &[u32], out: &mut [i32])
     }
 }
 
-pub(crate) fn sum_rows(table: &[i32], rows: &[u32], out: &mut [i32])
+pub(crate) fn sum_features(table: &[i32], rows: &[u32], out: &mut [i32])
     requires { ⌜ Summable (length (now out)) (now table) (now rows) ⌝ }
     ensures { λ _. ⌜ now (out .exit) ≡ featuresOf (length (now (out .entry))) (now (table .entry)) (now (rows .entry)) ⌝ }
 {
-    clear(out);
+    clear_row(out);
     add_rows(table, rows, out);
 }
 
@@ -228,7 +228,7 @@ fn ready(table: &[i32], chain: &[u32], row: &mut [i32], summed: bool)
     if summed {
         return;
     }
-    sum_rows(table, chain, row);
+    sum_features(table, chain, row);
 }
 
 // Whether a list passes the sign and size tests and could still beat the best: with seqsim 1.0 it scores no less than with its own.
@@ -253,6 +253,35 @@ fn may_win(
     }
     let g = gap_of(s.squish, list_len, chain_len);
     !(score_value(s, 1.0, size, partial, g) <= best)
+}
+
+// A list's score against a chain. The front of `rows` is the chain's row, its rest the list's.
+fn score_rows(
+    plan: Plan,
+    chain_size: i32,
+    chain_len: usize,
+    list_size: i32,
+    list_len: usize,
+    rows: &[i32],
+) -> Verdict
+    requires { ⌜ Paired plan «chain_size» «chain_len» «list_size» «list_len» (now rows) ⌝ }
+    ensures { λ r.
+        let chain = total «chain_size» (take (plan .width) (now (rows .entry))) «chain_len» in
+        let list = total «list_size» (drop (plan .width) (now (rows .entry))) «list_len» in
+        ⌜ r ≡ listScore (plan .s) chain list (plan .m - «list_len») ⌝ }
+{
+    let w = plan.width;
+    let partial = plan.m - list_len;
+    list_score(
+        plan.s,
+        chain_size,
+        &rows[..w],
+        chain_len,
+        list_size,
+        &rows[w..],
+        list_len,
+        partial,
+    )
 }
 
 // One laid list against the chain. The front of `scratch` is the chain's row, its rest the list's.
@@ -282,17 +311,8 @@ fn try_list(
     let w = plan.width;
     let d = positions(code, plan.m, chosen);
     ready(features, chain, &mut scratch[..w], best.summed);
-    sum_rows(part_features, &chosen[..d], &mut scratch[w..]);
-    let verdict = list_score(
-        s,
-        chain_size,
-        &scratch[..w],
-        len,
-        size,
-        &scratch[w..],
-        n,
-        partial,
-    );
+    sum_features(part_features, &chosen[..d], &mut scratch[w..]);
+    let verdict = score_rows(plan, chain_size, len, size, n, scratch);
     let scored = greater_of(old, partial, verdict);
     Best {
         scored,

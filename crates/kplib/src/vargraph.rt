@@ -33,7 +33,7 @@ pub(crate) fn row_of(node: Node) -> Row
 
 // The flags of row r and each later row.
 fn lay_row(starts: &[u64], ends: &[u64], r: usize, together: &mut [bool; 4096])
-    requires { ⌜ (length (now ends) ≡ length (now starts)) × ((length (now starts) ≤ 64) × (r < length (now starts))) ⌝ }
+    requires { ⌜ (length (now ends) ≡ length (now starts)) × (length (now starts) ≤ 64) × (r < length (now starts)) × (length (now together) ≡ 4096) ⌝ }
     ensures { λ _. ⌜ RowLaid (edge (now (starts .entry)) (now (ends .entry))) (length (now (starts .entry))) r (now (together .entry)) (now (together .exit)) ⌝ }
 {
     let mut s = r + 1;

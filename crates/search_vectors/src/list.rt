@@ -41,7 +41,7 @@ pub(crate) fn at_most(n: u32, most: usize) -> usize
     if size < most { size } else { most }
 }
 
-pub(crate) fn read_lengths(lengths: &mut [u32; 10]) {
+pub(crate) fn read_lengths(lengths: &mut [u32; 9]) {
     lengths[0] = word();
     lengths[1] = word();
     lengths[2] = word();
@@ -51,7 +51,6 @@ pub(crate) fn read_lengths(lengths: &mut [u32; 10]) {
     lengths[6] = word();
     lengths[7] = word();
     lengths[8] = word();
-    lengths[9] = word();
 }
 
 pub(crate) fn read_u64s(into: &mut [u64], count: u32) {

@@ -16,15 +16,14 @@ use params::Settings;
 // The call with the lengths that the list gives, and its answer printed.
 fn ask_in(
     settings: Settings,
-    lengths: &[u32; 10],
+    lengths: &[u32; 9],
     starts: &[u64],
     ends: &[u64],
     sizes: &[i32],
     features: &[i32],
     part_sizes: &[i32],
     part_features: &[i32],
-    parents: &mut [u32],
-    lasts: &mut [u32],
+    links: &mut [u32],
     keys: &mut [u64],
     rows: &mut [u32],
 ) {
@@ -34,10 +33,9 @@ fn ask_in(
     let features_are = at_most(lengths[3], features.len());
     let part_sizes_are = at_most(lengths[4], part_sizes.len());
     let part_features_are = at_most(lengths[5], part_features.len());
-    let parents_are = at_most(lengths[6], parents.len());
-    let lasts_are = at_most(lengths[7], lasts.len());
-    let keys_are = at_most(lengths[8], keys.len());
-    let rows_are = at_most(lengths[9], rows.len());
+    let links_are = at_most(lengths[6], links.len());
+    let keys_are = at_most(lengths[7], keys.len());
+    let rows_are = at_most(lengths[8], rows.len());
     let answer = apply_haplotype(
         settings,
         &starts[0..starts_are],
@@ -46,8 +44,7 @@ fn ask_in(
         &features[0..features_are],
         &part_sizes[0..part_sizes_are],
         &part_features[0..part_features_are],
-        &mut parents[0..parents_are],
-        &mut lasts[0..lasts_are],
+        &mut links[0..links_are],
         &mut keys[0..keys_are],
         &mut rows[0..rows_are],
     );
@@ -57,7 +54,7 @@ fn ask_in(
 // The same with the largest queue and answer room there is.
 fn ask(
     settings: Settings,
-    lengths: &[u32; 10],
+    lengths: &[u32; 9],
     starts: &[u64],
     ends: &[u64],
     sizes: &[i32],
@@ -65,8 +62,7 @@ fn ask(
     part_sizes: &[i32],
     part_features: &[i32],
 ) {
-    let mut parents = [0u32; 262145];
-    let mut lasts = [0u32; 262145];
+    let mut links = [0u32; 262145];
     let mut keys = [0u64; 262145];
     let mut rows = [0u32; 80];
     ask_in(
@@ -78,8 +74,7 @@ fn ask(
         features,
         part_sizes,
         part_features,
-        &mut parents,
-        &mut lasts,
+        &mut links,
         &mut keys,
         &mut rows,
     );
@@ -93,7 +88,7 @@ fn answer_next() -> bool {
         return false;
     }
     let settings = settings_of(&head);
-    let mut lengths = [0u32; 10];
+    let mut lengths = [0u32; 9];
     read_lengths(&mut lengths);
     let mut starts = [0u64; 66];
     read_u64s(&mut starts, lengths[0]);

@@ -21,16 +21,13 @@ abbrev start : tie.After-queue-room → tie.Start
 start c = c .before .before .before .before
 
 abbrev rooms : tie.After-apply-haplotype → tie.After-key-room
-rooms c = c .before .before .before .before .before
+rooms c = c .before .before .before .before
 
 abbrev found : tie.After-print-arg → tie.After-apply-haplotype
-found c = c .before .before .before .before .before .before
+found c = c .before .before .before .before .before
 
 queue-room-requires : tie.Need-queue-room-requires
 queue-room-requires c κs = search needs
-
-queue-room-requires-2 : tie.Need-queue-room-requires-2
-queue-room-requires-2 c κs = search needs
 
 key-room-requires : tie.Need-key-room-requires
 key-room-requires c κs = search needs
@@ -44,9 +41,6 @@ slice-aggregate-apply-haplotype-2 c = search needs
 slice-aggregate-apply-haplotype-3 : tie.Need-slice-aggregate-apply-haplotype-3
 slice-aggregate-apply-haplotype-3 c = search needs
 
-slice-aggregate-apply-haplotype-4 : tie.Need-slice-aggregate-apply-haplotype-4
-slice-aggregate-apply-haplotype-4 c = search needs
-
 apply-haplotype-requires : tie.Need-apply-haplotype-requires
 apply-haplotype-requires c κs = search needs
 
@@ -56,10 +50,10 @@ slice-aggregate-print c = search needs
 print-requires : tie.Need-print-requires
 print-requires c κs =
     let a = found c .apply-haplotype in
-    let k = rooms (found c) in let p = k .before in let q = p .before in let s = start q in
-    let l : length (a .last .1 .1 .1 .1 .1 .1 .1 .1 .1 .1 .0) ≡ 16 = omega arith in
-    let few = answer-few (s .args .s) (table s) (parts s) (q .queue-room .result) (p .queue-room2 .result) (k .key-room .result) (replicate 16 0) (q .queue-room .ensures)
-    (p .queue-room2 .ensures) (k .key-room .ensures) refl (a .result) (a .ensures .0) (a .last .1 .1 .1 .1 .1 .1 .1 .1 .1 .1 .0) (a .ensures .1 .0) l in
+    let k = rooms (found c) in let q = k .before in let s = start q in
+    let l : length (a .last .1 .1 .1 .1 .1 .1 .1 .1 .1 .0) ≡ 16 = omega arith in
+    let few = answer-few (s .args .s) (table s) (parts s) (q .queue-room .result) (k .key-room .result) (replicate 16 0) (q .queue-room .ensures)
+    (k .key-room .ensures) refl (a .result) (a .ensures .0) (a .last .1 .1 .1 .1 .1 .1 .1 .1 .1 .0) (a .ensures .1 .0) l in
     (omega arith, (omega arith, omega arith))
 
 same-length : tie.Need-same-length
@@ -69,13 +63,13 @@ returns : tie.Need-returns
 returns c =
     let w = c .before .before in
     let a = found (w .before) .apply-haplotype in
-    let k = rooms (found (w .before)) in let p = k .before in let q = p .before in let s = start q in
-    put-as 281 (w .print .ensures) (answer-text (s .args .s) (table s) (parts s) (q .queue-room .result) (p .queue-room2 .result) (k .key-room .result) (replicate 16 0) (q .queue-room .ensures)
-    (p .queue-room2 .ensures) (k .key-room .ensures) refl (a .result) (a .ensures .0) (a .last .1 .1 .1 .1 .1 .1 .1 .1 .1 .1 .0) (a .ensures .1 .0)) (omega arith)
+    let k = rooms (found (w .before)) in let q = k .before in let s = start q in
+    put-as 281 (w .print .ensures) (answer-text (s .args .s) (table s) (parts s) (q .queue-room .result) (k .key-room .result) (replicate 16 0) (q .queue-room .ensures)
+    (k .key-room .ensures) refl (a .result) (a .ensures .0) (a .last .1 .1 .1 .1 .1 .1 .1 .1 .1 .0) (a .ensures .1 .0)) (omega arith)
 
 pub search-spec : {M : Type 1} → statement M
 search-spec =
     tie.close
-    (tie.spec queue-room-requires queue-room-requires-2 key-room-requires slice-aggregate-apply-haplotype slice-aggregate-apply-haplotype-2
-    slice-aggregate-apply-haplotype-3 slice-aggregate-apply-haplotype-4 apply-haplotype-requires slice-aggregate-print print-requires same-length
+    (tie.spec queue-room-requires key-room-requires slice-aggregate-apply-haplotype slice-aggregate-apply-haplotype-2
+    slice-aggregate-apply-haplotype-3 apply-haplotype-requires slice-aggregate-print print-requires same-length
     returns)

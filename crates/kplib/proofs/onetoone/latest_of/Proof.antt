@@ -4,19 +4,26 @@ use Rattle.kplib.proofs.OneToOneLaws.{latest-old, latest-new, no-candid
 use Rattle.kplib.proofs.onetoone.latest_of.Statement.{statement}
 use Rattle.kplib.proofs.onetoone.latest_of.Tie as tie
 
+-- the places that the proof speaks of
+abbrev begin : tie.After-struct-known → tie.Start
+begin c = c .before
+
+abbrev candidate : tie.After-struct-known3 → tie.Then1
+candidate c = c .before .before .before
+
 returns : tie.Need-returns
 returns c =
-    let a = c .before .before .before .before .before .before .args in
-    latest-old (a .best) (a .row) (a .x) (rw zero-is at (c .before .before .before .before .if1 .taken)) (c .if2 .taken)
+    let t = candidate (c .before) in let a = begin (t .before) .args in
+    latest-old (a .best) (a .row) (a .x) (rw zero-is at (t .if1 .taken)) (c .if2 .taken)
 
 returns-2 : tie.Need-returns-2
 returns-2 c =
-    let a = c .before .before .before .before .before .before .args in
-    latest-new (a .best) (a .row) (a .x) (rw zero-is at (c .before .before .before .before .if1 .taken)) (c .if2 .left)
+    let t = candidate (c .before) in let a = begin (t .before) .args in
+    latest-new (a .best) (a .row) (a .x) (rw zero-is at (t .if1 .taken)) (c .if2 .left)
 
 returns-3 : tie.Need-returns-3
 returns-3 c =
-    let a = c .before .before .args in
+    let a = begin (c .before) .args in
     no-candidate (a .best) _ (a .x) (rw zero-is at (c .if1 .left))
 
 pub latest-of-spec : {M : Type 1} → statement M

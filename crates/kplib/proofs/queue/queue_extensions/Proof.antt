@@ -1,112 +1,121 @@
 -- Row by row, highest first: a row that extends the chain is put behind the entries with its key, and any other is passed over.
 use mathlib.Core.Path.{_≡_, refl, _∙_}
-use Prim.Native.Nat.{_-_, _≤_}
+use Prim.Native.Nat.{ℕ, _-_, _≤_, _<_}
 use native.Mathlib.Omega.{arith}
+use mathlib.Core.Bool.{true}
 use lib.ListN.{length, length-set}
-use mir.Syntax.{w32}
-use mir.Val.{toZ}
-use Rattle.paths.proofs.QueueLaws.{Queueing, queueing-begin, queueing-skip, queueing-more, queueing-done}
-use Rattle.kplib.specs.Graph.{mayFollowIn}
+use Rattle.paths.proofs.QueueLaws.{Queueing, queueing-begin, queueing-skip, queueing-done}
+use Rattle.paths.specs.Chains.{extends}
+use Rattle.kplib.specs.SearchSteps.{parentsOf, lastsOf, chainOf, followsBy}
 use Rattle.kplib.specs.Search.{distanceTo}
-use Rattle.kplib.proofs.WordLaws.{back}
-use Rattle.kplib.proofs.ExtensionLaws.{end-in, found, sum-fits, key-sizes, key-is}
+use Rattle.kplib.proofs.ExtensionLaws.{end-in, found, sum-fits, key-sizes, queueing-row}
 use Rattle.kplib.proofs.queue.queue_extensions.Statement.{statement}
 use Rattle.kplib.proofs.queue.queue_extensions.Tie as tie
 
 abbrev Inv-loop : tie.InvT-loop
-Inv-loop starts ends sizes full target parents₀ lasts₀ keys₀ used queued entry end size added₀ r₀ parents lasts keys added r =
-    (r ≤ length starts) × (length parents ≡ length parents₀) × (length lasts ≡ length lasts₀) × (length keys ≡ length keys₀)
-    × Queueing (mayFollowIn starts ends full) (length starts) (distanceTo sizes (toZ w32 target)) used queued entry parents₀ lasts₀ keys₀ parents lasts keys added r
+Inv-loop plan together sizes links₀ keys₀ used queued entry end size full parent added₀ r₀ links keys added r =
+    (r ≤ length sizes) × (length links ≡ length links₀) × (length keys ≡ length keys₀)
+    × Queueing (followsBy plan together) (length sizes) (distanceTo sizes (plan .target)) used queued entry (parentsOf links₀) (lastsOf links₀) keys₀ (parentsOf links) (lastsOf links) keys added r
 
 abbrev μ-loop : tie.MeasureT-loop
-μ-loop starts ends sizes full target parents₀ lasts₀ keys₀ used queued entry end size added₀ r₀ parents lasts keys added r =
+μ-loop plan together sizes links₀ keys₀ used queued entry end size full parent added₀ r₀ links keys added r =
     r
 
+-- the places: the call's beginning, a turn of the loop, and a turn whose row extends the chain
+abbrev begun : tie.At-loop Inv-loop μ-loop → tie.Start Inv-loop μ-loop
+begun l = l .before .before .before
+
+abbrev turn : tie.After-extends Inv-loop μ-loop → tie.At-loop Inv-loop μ-loop
+turn c = c .before .before
+
+abbrev told : tie.After-extends Inv-loop μ-loop → tie.Start Inv-loop μ-loop
+told c = begun (turn c)
+
+abbrev keyed : tie.After-key Inv-loop μ-loop → tie.Then1 Inv-loop μ-loop
+keyed c = c .before .before .before
+
+-- the row of a turn, and that it extends the chain
+abbrev row : tie.After-extends Inv-loop μ-loop → ℕ
+row c = turn c .loop .r - 1
+
+row-in : (c : tie.After-extends Inv-loop μ-loop) → row c < length (told c .args .sizes .now)
+row-in c = omega (arith, c .before .loop-test .taken, turn c .loop .inv .0)
+
+extending : (c : tie.Then1 Inv-loop μ-loop)
+    → extends (followsBy (told (c .before) .args .plan) (told (c .before) .args .together .now)) (chainOf (told (c .before) .args .links .now) (told (c .before) .args .entry)) (row (c .before)) ≡ true
+extending c = found (told (c .before) .pre) (row (c .before)) (c .before .extends .ensures) ∙ c .if1 .taken
+
+cast-parent : tie.Need-cast-parent Inv-loop μ-loop
+cast-parent c = let h = c .before .before .pre in record { fits = omega (arith, h .entry-in, h .few-entries) }
+
+mul-parent : tie.Need-mul-parent Inv-loop μ-loop
+mul-parent c = let h = c .before .before .pre in record { fits = omega (arith, h .entry-in, h .few-entries) }
+
 loop-holds : tie.Need-loop-holds Inv-loop μ-loop
-loop-holds c =
-    let h = c .before .before .before .before .before .pre in
-    (omega arith, refl, refl, refl, rw (back (c .before .before .before .before .before .args .target) (omega (arith, h .target-small))) (queueing-begin (h .queue)))
+loop-holds c = (omega arith, refl, refl, queueing-begin (c .before .before .pre .queue))
 
 sub-r : tie.Need-sub-r Inv-loop μ-loop
 sub-r c = omega arith
 
 cast-t19 : tie.Need-cast-t19 Inv-loop μ-loop
-cast-t19 c = record { fits = omega (arith, c .before .before .before .before .before .before .before .pre .few) }
+cast-t19 c = record { fits = omega (arith, begun (c .before) .pre .sized .few) }
 
 extends-requires : tie.Need-extends-requires Inv-loop μ-loop
-extends-requires c κs =
-    let h = c .before .before .before .before .before .before .before .pre in
-    record { ends-are = h .ends-are; end-in = end-in h; row-in = omega arith }
+extends-requires c κs = let h = begun (c .before) .pre in (end-in h, omega (arith, h .sized .few))
 
 add-new : tie.Need-add-new Inv-loop μ-loop
-add-new c = record { fits = omega (arith, c .before .before .before .before .before .before .before .before .before .pre .few-entries, c .before .before .before .loop .inv .4 .most) }
+add-new c = record { fits = omega (arith, told (c .before) .pre .few-entries, turn (c .before) .loop .inv .3 .most) }
 
-cast-parents : tie.Need-cast-parents Inv-loop μ-loop
-cast-parents c = record { fits = omega (arith, c .before .before .before .before .before .before .before .before .before .pre .entry-in, c .before .before .before .before .before .before .before .before .before .pre .few-entries) }
+cast-links : tie.Need-cast-links Inv-loop μ-loop
+cast-links c = record { fits = omega (arith, row-in (c .before), told (c .before) .pre .sized .few) }
 
-mul-parents : tie.Need-mul-parents Inv-loop μ-loop
-mul-parents c = record { fits = omega (arith, c .before .before .before .before .before .before .before .before .before .pre .few-entries, c .before .before .before .loop .inv .4 .most) }
+add-links : tie.Need-add-links Inv-loop μ-loop
+add-links c = let h = told (c .before) .pre in record { fits = omega (arith, row-in (c .before), h .sized .few, h .entry-in, h .few-entries) }
 
-slice-write-parents : tie.Need-slice-write-parents Inv-loop μ-loop
-slice-write-parents c =
-    let h = c .before .before .before .before .before .before .before .before .before .pre in
-    omega (arith, h .parent-room, h .last-room, h .sizes-are, h .few-entries, c .before .before .before .loop .inv .4 .most)
+mul-links : tie.Need-mul-links Inv-loop μ-loop
+mul-links c = record { fits = omega (arith, told (c .before) .pre .few-entries, turn (c .before) .loop .inv .3 .most) }
 
-cast-lasts : tie.Need-cast-lasts Inv-loop μ-loop
-cast-lasts c = record { fits = omega (arith, c .before .before .before .before .before .before .before .before .before .pre .few) }
-
-mul-lasts : tie.Need-mul-lasts Inv-loop μ-loop
-mul-lasts c = record { fits = omega (arith, c .before .before .before .before .before .before .before .before .before .pre .few-entries, c .before .before .before .loop .inv .4 .most) }
-
-slice-write-lasts : tie.Need-slice-write-lasts Inv-loop μ-loop
-slice-write-lasts c =
-    let h = c .before .before .before .before .before .before .before .before .before .pre in
-    omega (arith, h .parent-room, h .last-room, h .sizes-are, h .few-entries, c .before .before .before .loop .inv .4 .most)
+slice-write-links : tie.Need-slice-write-links Inv-loop μ-loop
+slice-write-links c = omega (arith, told (c .before) .pre .link-room, turn (c .before) .loop .inv .3 .most)
 
 mul-key : tie.Need-mul-key Inv-loop μ-loop
-mul-key c = record { fits = omega (arith, c .before .before .before .before .before .before .before .before .before .pre .few) }
+mul-key c = record { fits = omega (arith, row-in (c .before), told (c .before) .pre .sized .few) }
 
 shared-slice-copy-out-key : tie.Need-shared-slice-copy-out-key Inv-loop μ-loop
-shared-slice-copy-out-key c =
-    let h = c .before .before .before .before .before .before .before .before .before .pre in
-    omega (arith, h .parent-room, h .last-room, h .sizes-are, h .few-entries, c .before .before .before .loop .inv .4 .most)
+shared-slice-copy-out-key c = row-in (c .before)
 
 add-key : tie.Need-add-key Inv-loop μ-loop
-add-key c = sum-fits (c .before .before .before .before .before .before .before .before .before .before .pre) (c .before .before .before .before .loop .r - 1) (omega arith) (found (c .before .before .before .before .before .before .before .before .before .before .pre) (c .before .before .before .before .loop .r - 1) (c .before .before .extends .ensures) ∙ c .before .if1 .taken)
+add-key c = let t = c .before in sum-fits (told (t .before) .pre) (row-in (t .before)) (extending t)
 
 key-requires : tie.Need-key-requires Inv-loop μ-loop
 key-requires c κs =
-    let h = c .before .before .before .before .before .before .before .before .before .before .pre in
-    let k = key-sizes h (c .before .before .before .before .loop .r - 1) (omega arith) (found (c .before .before .before .before .before .before .before .before .before .before .pre) (c .before .before .before .before .loop .r - 1) (c .before .before .extends .ensures) ∙ c .before .if1 .taken) in
-    (k .0, k .1, omega (arith, h .few-entries, c .before .before .before .before .loop .inv .4 .most))
+    let t = c .before .before in
+    let h = told (t .before) .pre in
+    let k = key-sizes h (row-in (t .before)) (extending t) in
+    (k .0, k .1, omega (arith, h .few-entries, turn (t .before) .loop .inv .3 .most))
 
 add-keys : tie.Need-add-keys Inv-loop μ-loop
-add-keys c = record { fits = omega (arith, c .before .before .before .before .before .before .before .before .before .before .before .pre .key-room, c .before .before .before .before .before .loop .inv .4 .most) }
+add-keys c = record { fits = omega (arith, told (keyed c .before) .pre .key-room, turn (keyed c .before) .loop .inv .3 .most) }
 
 mul-keys : tie.Need-mul-keys Inv-loop μ-loop
-mul-keys c = record { fits = omega (arith, c .before .before .before .before .before .before .before .before .before .before .before .pre .key-room, c .before .before .before .before .before .loop .inv .4 .most) }
+mul-keys c = record { fits = omega (arith, told (keyed c .before) .pre .key-room, turn (keyed c .before) .loop .inv .3 .most) }
 
 slice-write-keys : tie.Need-slice-write-keys Inv-loop μ-loop
-slice-write-keys c = omega (arith, c .before .before .before .before .before .before .before .before .before .before .before .pre .key-room, c .before .before .before .before .before .loop .inv .4 .most)
+slice-write-keys c = omega (arith, told (keyed c .before) .pre .key-room, turn (keyed c .before) .loop .inv .3 .most)
 
 add-added : tie.Need-add-added Inv-loop μ-loop
-add-added c = record { fits = omega (arith, c .before .before .before .before .before .before .before .before .before .before .before .pre .few, c .before .before .before .before .before .loop .inv .4 .most) }
+add-added c = record { fits = omega (arith, told (keyed c .before) .pre .sized .few, turn (keyed c .before) .loop .inv .3 .most) }
 
 loop-less : tie.Need-loop-less Inv-loop μ-loop
 loop-less c = omega arith
 
 loop-again : tie.Need-loop-again Inv-loop μ-loop
 loop-again c =
-    let h = c .before .before .before .before .before .before .before .before .before .before .before .pre in
-    let l = c .before .before .before .before .before .loop in
-    let t = c .before .before .before .before .before .before .before .before .before .before .before .args .target in
-    let yes = found h (l .r - 1) (c .before .before .before .extends .ensures) ∙ c .before .before .if1 .taken in (
+    let l = turn (keyed c .before) .loop in (
       omega arith,
       simp length-set (l .inv .1),
       simp length-set (l .inv .2),
-      simp length-set (l .inv .3),
-      queueing-more (l .inv .4) (omega arith) yes (h .entry-in) (omega (arith, h .parent-room, l .inv .4 .most)) (omega (arith, h .last-room, l .inv .4 .most))
-          (omega (arith, h .key-room, l .inv .4 .most)) (h .few-entries) _ (rw (back t (omega (arith, h .target-small))) (key-is h (l .r - 1) (omega arith) yes _ _ (c .key .ensures))),
+      queueing-row (told (keyed c .before) .pre) (l .links) (l .inv .3) (l .inv .1) (l .inv .2) (omega arith) (extending (keyed c)) (c .key .ensures),
     )
 
 loop-less-2 : tie.Need-loop-less-2 Inv-loop μ-loop
@@ -114,9 +123,9 @@ loop-less-2 c = omega arith
 
 loop-again-2 : tie.Need-loop-again-2 Inv-loop μ-loop
 loop-again-2 c =
-    let h = c .before .before .before .before .before .before .before .before .before .pre in
-    let l = c .before .before .before .loop in
-    (omega arith, l .inv .1, l .inv .2, l .inv .3, queueing-skip (l .inv .4) (omega arith) (found h (l .r - 1) (c .before .extends .ensures) ∙ c .if1 .left))
+    let b = c .before in
+    let l = turn b .loop in
+    (omega arith, l .inv .1, l .inv .2, queueing-skip (l .inv .3) (omega arith) (found (told b .pre) (row b) (b .extends .ensures) ∙ c .if1 .left))
 
 same-length : tie.Need-same-length Inv-loop μ-loop
 same-length c = c .before .loop .inv .1
@@ -124,15 +133,11 @@ same-length c = c .before .loop .inv .1
 same-length-2 : tie.Need-same-length-2 Inv-loop μ-loop
 same-length-2 c = c .before .loop .inv .2
 
-same-length-3 : tie.Need-same-length-3 Inv-loop μ-loop
-same-length-3 c = c .before .loop .inv .3
-
 returns : tie.Need-returns Inv-loop μ-loop
 returns c =
-    let h = c .before .before .before .before .before .before .before .pre in
+    let h = begun (c .before) .pre in
     let l = c .before .loop in
-    let t = c .before .before .before .before .before .before .before .args .target in
-    (rw (back t (omega (arith, h .target-small))) at (queueing-done (l .inv .4) (omega arith) (omega (arith, h .key-room)) (omega (arith, h .key-room, l .inv .4 .most))), omega (arith, h .key-room, l .inv .4 .most))
+    (queueing-done (l .inv .3) (omega arith) (omega (arith, h .key-room)) (omega (arith, h .key-room, l .inv .3 .most)), omega (arith, h .key-room, l .inv .3 .most))
 
 pub queue-extensions-spec : {M : Type 1} → statement M
 queue-extensions-spec =
@@ -140,17 +145,17 @@ queue-extensions-spec =
     (tie.spec
     Inv-loop
     μ-loop
+    cast-parent
+    mul-parent
     loop-holds
     sub-r
     cast-t19
     extends-requires
     add-new
-    cast-parents
-    mul-parents
-    slice-write-parents
-    cast-lasts
-    mul-lasts
-    slice-write-lasts
+    cast-links
+    add-links
+    mul-links
+    slice-write-links
     mul-key
     shared-slice-copy-out-key
     add-key
@@ -165,5 +170,4 @@ queue-extensions-spec =
     loop-again-2
     same-length
     same-length-2
-    same-length-3
     returns)

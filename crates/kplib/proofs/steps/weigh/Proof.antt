@@ -7,6 +7,19 @@ use borrow.Author.Needs.{needs}
 use Rattle.kplib.proofs.steps.weigh.Statement.{statement}
 use Rattle.kplib.proofs.steps.weigh.Tie as tie
 
+-- the places at which a callee has returned
+abbrev begin : tie.After-read-chain → tie.Start
+begin c = c .before .before .before .before
+
+abbrev read : tie.After-rows-size-arg → tie.After-read-chain
+read c = c .before .before .before
+
+abbrev summed : tie.After-score-chain-arg2 → tie.After-rows-size
+summed c = c .before .before .before .before
+
+abbrev scored : tie.After-scratch → tie.After-score-chain
+scored c = c .before .before
+
 slice-aggregate-read-chain : tie.Need-slice-aggregate-read-chain
 slice-aggregate-read-chain c = search needs
 
@@ -26,8 +39,7 @@ part-rows-size-end : tie.Need-part-rows-size-end
 part-rows-size-end c = search needs
 
 rows-size-requires : tie.Need-rows-size-requires
-rows-size-requires c κs =
-    rowed-as (c .before .before .before .before .before .before .before .before .pre) (cut _ 64 _ (omega arith) (c .before .before .before .read-chain .ensures))
+rows-size-requires c κs = rowed-as (begin (read c) .pre) (cut _ 64 _ (omega arith) (read c .read-chain .ensures))
 
 mul-score-chain : tie.Need-mul-score-chain
 mul-score-chain c = search needs
@@ -46,21 +58,18 @@ slice-aggregate-score-chain c = search needs
 
 score-chain-requires : tie.Need-score-chain-requires
 score-chain-requires c κs =
-    let h = c .before .before .before .before .before .before .before .before .before .before .before .before .before .before .pre in
-    scorable-as h (cut _ 64 _ (omega arith) (c .before .before .before .before .before .before .before .before .before .read-chain .ensures))
-    (read-back _ (c .before .before .before .before .before .rows-size .ok) ∙ c .before .before .before .before .before .rows-size .ensures) (omega arith)
+    let size = summed c .rows-size in
+    let r = read (summed c .before) in
+    scorable-as (begin r .pre) (cut _ 64 _ (omega arith) (r .read-chain .ensures)) (read-back _ (size .ok) ∙ size .ensures) (omega arith)
 
 same-length : tie.Need-same-length
-same-length c = c .before .before .before .score-chain .kept .1 .1 .1 .1 .1 .1 .1 .1 .1 .1 .0
-
-same-length-2 : tie.Need-same-length-2
-same-length-2 c = c .before .before .before .score-chain .kept .1 .1 .1 .1 .1 .1 .1 .1 .1 .1 .1 .0
+same-length c = scored c .score-chain .kept .1 .1 .1 .1 .1 .1 .1 .1 .0
 
 returns : tie.Need-returns
 returns c =
-    let read = c .before .before .before .before .before .before .before .before .before .before .before .before .before in
-    let size = c .before .before .before .before .before .before .before .before .before .rows-size in
-    weighed-as (read .before .before .before .before .before .pre) (cut _ 64 _ (omega arith) (read .read-chain .ensures)) (read-back _ (size .ok) ∙ size .ensures) (c .before .before .before .score-chain .ensures)
+    let size = summed (scored c .before) .rows-size in
+    let r = read (summed (scored c .before) .before) in
+    weighed-as (begin r .pre) (cut _ 64 _ (omega arith) (r .read-chain .ensures)) (read-back _ (size .ok) ∙ size .ensures) (scored c .score-chain .ensures)
 
 pub weigh-spec : {M : Type 1} → statement M
 weigh-spec =
@@ -80,5 +89,4 @@ weigh-spec =
     slice-aggregate-score-chain
     score-chain-requires
     same-length
-    same-length-2
     returns)

@@ -1,10 +1,18 @@
 -- The scratch is cut to the job's width.
 use mathlib.Core.Path.{refl, sym, _∙_}
+use Prim.Native.Nat.{_≤_}
 use native.Mathlib.Omega.{arith}
 use lib.Seq.{length-take-le}
 use borrow.Author.Needs.{needs}
 use Rattle.kplib.proofs.traverse.alone.Statement.{statement}
 use Rattle.kplib.proofs.traverse.alone.Tie as tie
+
+-- the width of a row, at the places where the scratch is cut to it
+width-few : (c : tie.After-entries) → c .entries .result ≤ 4096
+width-few c = omega (arith, c .entries .ensures, c .before .pre .2 .rows .short)
+
+abbrev width : tie.After-whole-row → tie.After-entries
+width c = c .before .before
 
 entries-requires : tie.Need-entries-requires
 entries-requires c κs = search needs
@@ -13,13 +21,17 @@ slice-aggregate-one-to-one : tie.Need-slice-aggregate-one-to-one
 slice-aggregate-one-to-one c = refl
 
 array-borrow-prefix-whole-row : tie.Need-array-borrow-prefix-whole-row
-array-borrow-prefix-whole-row c = omega (arith, c .before .entries .ensures, c .before .before .pre .2 .rows .short)
+array-borrow-prefix-whole-row c = omega (arith, width-few (c .before))
 
 slice-aggregate-one-to-one-2 : tie.Need-slice-aggregate-one-to-one-2
-slice-aggregate-one-to-one-2 c = sym (length-take-le _ _ (omega (arith, c .before .before .entries .ensures, c .before .before .before .pre .2 .rows .short)))
+slice-aggregate-one-to-one-2 c = sym (length-take-le _ _ (omega (arith, width-few (width c))))
 
 one-to-one-requires : tie.Need-one-to-one-requires
-one-to-one-requires c κs = record { tables = c .before .before .before .pre .2; room = omega arith; whole-row = length-take-le _ _ (omega (arith, c .before .before .entries .ensures, c .before .before .before .pre .2 .rows .short)) ∙ c .before .before .entries .ensures }
+one-to-one-requires c κs = record {
+  tables = width c .before .pre .2;
+  room = omega arith;
+  whole-row = length-take-le _ _ (omega (arith, width-few (width c))) ∙ width c .entries .ensures;
+}
 
 returns : tie.Need-returns
 returns c = search needs

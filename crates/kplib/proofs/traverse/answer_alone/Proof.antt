@@ -6,6 +6,16 @@ use borrow.Author.Needs.{needs}
 use Rattle.kplib.proofs.traverse.answer_alone.Statement.{statement}
 use Rattle.kplib.proofs.traverse.answer_alone.Tie as tie
 
+-- the places at which a callee has returned
+abbrev begin : tie.After-alone → tie.Start
+begin c = c .before .before .before .before
+
+abbrev matched : tie.After-place-row → tie.After-alone
+matched c = c .before .before .before
+
+abbrev placed : tie.After-slice-known2 → tie.After-place-row
+placed c = c .before .before
+
 alone-requires : tie.Need-alone-requires
 alone-requires c κs = search needs
 
@@ -17,14 +27,19 @@ add-answer-with c = search needs
 
 answer-with-requires : tie.Need-answer-with-requires
 answer-with-requires c κs =
-    let h = c .before .before .before .before .before .before .before .before .before .pre .0 in
-    (omega (arith, c .before .before .place-row .ensures .0, lone-few (c .before .before .before .before .before .alone .result .scored .target) (c .before .before .before .before .before .alone .result .row .0)), omega (arith, h .sized .few, h .sizes-are))
+    let m = matched (placed c) in
+    let x = m .alone .result in
+    let h = begin m .pre .0 in
+    (omega (arith, placed c .place-row .ensures .0, lone-few (x .scored .target) (x .row .0)), omega (arith, h .sized .few, h .sizes-are))
 
 same-length : tie.Need-same-length
 same-length c = search needs
 
 returns : tie.Need-returns
-returns c = alone-answers _ _ _ (now (c .before .before .before .before .before .before .before .before .before .before .args .rows)) (c .before .before .before .before .before .before .alone .ensures) (c .before .before .before .place-row .ensures) (c .answer-with .ensures)
+returns c =
+    let p = placed (c .before) in
+    let m = matched p in
+    alone-answers _ _ _ (now (begin m .args .rows)) (m .alone .ensures) (p .place-row .ensures) (c .answer-with .ensures)
 
 pub answer-alone-spec : {M : Type 1} → statement M
 answer-alone-spec =

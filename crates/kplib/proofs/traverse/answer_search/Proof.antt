@@ -5,29 +5,39 @@ use borrow.Author.Needs.{needs}
 use Rattle.kplib.proofs.traverse.answer_search.Statement.{statement}
 use Rattle.kplib.proofs.traverse.answer_search.Tie as tie
 
+-- the places at which a callee has returned
+abbrev begin : tie.After-search-arg2 → tie.Start
+begin c = c .before .before .before .before .before .before .before
+
+abbrev searched : tie.After-place-chain-arg2 → tie.After-search
+searched c = c .before .before .before .before .before .before .before .before
+
+abbrev placed : tie.After-struct-known → tie.After-place-chain
+placed c = c .before .before .before
+
 search-requires : tie.Need-search-requires
-search-requires c κs = c .before .before .before .before .before .before .before .before .before .pre .0
+search-requires c κs = begin c .pre .0
 
 place-chain-requires : tie.Need-place-chain-requires
 place-chain-requires c κs = search needs
 
 answer-with-requires : tie.Need-answer-with-requires
-answer-with-requires c κs = search-few (c .before .before .before .before .before .before .before .before .before .before .before .before .before .before .before .search .ensures) (c .before .before .before .place-chain .ensures .0)
+answer-with-requires c κs = search-few (searched (placed c .before) .search .ensures) (placed c .place-chain .ensures .0)
 
 same-length : tie.Need-same-length
-same-length c = c .before .before .before .before .before .before .before .before .before .before .before .before .before .before .before .before .search .kept .1 .1 .1 .1 .1 .1 .1 .0
+same-length c = searched (placed (c .before) .before) .search .kept .1 .1 .1 .1 .1 .1 .1 .0
 
 same-length-2 : tie.Need-same-length-2
-same-length-2 c = c .before .before .before .before .before .before .before .before .before .before .before .before .before .before .before .before .search .kept .1 .1 .1 .1 .1 .1 .1 .1 .0
+same-length-2 c = searched (placed (c .before) .before) .search .kept .1 .1 .1 .1 .1 .1 .1 .1 .0
 
 same-length-3 : tie.Need-same-length-3
-same-length-3 c = c .before .before .before .before .before .before .before .before .before .before .before .before .before .before .before .before .search .kept .1 .1 .1 .1 .1 .1 .1 .1 .1 .0
-
-same-length-4 : tie.Need-same-length-4
-same-length-4 c = c .before .before .before .before .place-chain .kept .1 .1 .1 .1 .0
+same-length-3 c = placed (c .before) .place-chain .kept .1 .1 .1 .0
 
 returns : tie.Need-returns
-returns c = search-answers (now (c .before .before .before .before .before .before .before .before .before .before .before .before .before .before .before .before .before .before .before .before .before .before .before .before .before .before .args .rows)) (c .before .before .before .before .before .before .before .before .before .before .before .before .before .before .before .before .search .ensures) (c .before .before .before .before .place-chain .ensures) (c .answer-with .ensures)
+returns c =
+    let p = placed (c .before) in
+    let s = searched (p .before) in
+    search-answers (s .search .ensures) (now (begin (s .before) .args .rows)) (p .place-chain .ensures) (c .answer-with .ensures)
 
 pub answer-search-spec : {M : Type 1} → statement M
 answer-search-spec =
@@ -39,5 +49,4 @@ answer-search-spec =
     same-length
     same-length-2
     same-length-3
-    same-length-4
     returns)

@@ -2,11 +2,21 @@
 use mathlib.Core.Path.{sym, _∙_}
 use mathlib.Core.List.{reverse}
 use denote.Ref.{now}
-use Rattle.paths.specs.Queue.{chainAt}
+use Rattle.kplib.specs.SearchSteps.{chainOf}
 use Rattle.kplib.proofs.PlaceLaws.{placed-all, placed-none}
 use borrow.Author.Needs.{needs}
 use Rattle.kplib.proofs.traverse.place_chain.Statement.{statement}
 use Rattle.kplib.proofs.traverse.place_chain.Tie as tie
+
+-- the places: before and after the chain is copied
+abbrev begin : tie.After-matched → tie.Start
+begin c = c .before .before .before
+
+abbrev copied : tie.After-slice-known2 → tie.After-copy-chain
+copied c = c .before .before
+
+abbrev found : tie.After-copy-chain → tie.Then1
+found c = c .before .before
 
 matched-requires : tie.Need-matched-requires
 matched-requires c κs = search needs
@@ -18,10 +28,15 @@ same-length : tie.Need-same-length
 same-length c = search needs
 
 returns : tie.Need-returns
-returns c = placed-all (c .before .before .before .before .before .before .before .before .before .args .target) (reverse (chainAt (now (c .before .before .before .before .before .before .before .before .before .args .parents)) (now (c .before .before .before .before .before .before .before .before .before .args .lasts)) (c .before .before .before .before .before .before .before .before .before .args .entry))) (now (c .before .before .before .before .before .before .before .before .before .args .rows)) (sym (c .before .before .before .before .before .matched .ensures) ∙ c .before .before .before .before .if1 .taken) (c .before .before .copy-chain .ensures)
+returns c =
+    let m = found (copied c) in
+    let a = begin (m .before) .args in
+    placed-all (a .target) (reverse (chainOf (now (a .links)) (a .entry))) (now (a .rows)) (sym (m .before .matched .ensures) ∙ m .if1 .taken) (copied c .copy-chain .ensures)
 
 returns-2 : tie.Need-returns-2
-returns-2 c = placed-none (c .before .before .before .before .before .args .target) (now (c .before .before .before .before .before .args .rows)) (reverse (chainAt (now (c .before .before .before .before .before .args .parents)) (now (c .before .before .before .before .before .args .lasts)) (c .before .before .before .before .before .args .entry))) (sym (c .before .matched .ensures) ∙ c .if1 .left)
+returns-2 c =
+    let a = begin (c .before) .args in
+    placed-none (a .target) (now (a .rows)) (reverse (chainOf (now (a .links)) (a .entry))) (sym (c .before .matched .ensures) ∙ c .if1 .left)
 
 pub place-chain-spec : {M : Type 1} → statement M
 place-chain-spec =

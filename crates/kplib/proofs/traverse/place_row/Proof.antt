@@ -7,6 +7,9 @@ use borrow.Author.Needs.{needs}
 use Rattle.kplib.proofs.traverse.place_row.Statement.{statement}
 use Rattle.kplib.proofs.traverse.place_row.Tie as tie
 
+abbrev begin : tie.After-matched → tie.Start
+begin c = c .before .before
+
 matched-requires : tie.Need-matched-requires
 matched-requires c κs = search needs
 
@@ -17,10 +20,14 @@ same-length : tie.Need-same-length
 same-length c = search needs
 
 returns : tie.Need-returns
-returns c = placed-row (c .before .before .before .args .target) (c .before .before .before .args .row .0) (now (c .before .before .before .args .rows)) (sym (c .before .matched .ensures) ∙ c .if1 .taken) (omega arith)
+returns c =
+    let a = begin (c .before) .args in
+    placed-row (a .target) (a .row .0) (now (a .rows)) (sym (c .before .matched .ensures) ∙ c .if1 .taken) (omega arith)
 
 returns-2 : tie.Need-returns-2
-returns-2 c = placed-no-row (c .before .before .before .args .target) (c .before .before .before .args .row .0) (now (c .before .before .before .args .rows)) (sym (c .before .matched .ensures) ∙ c .if1 .left)
+returns-2 c =
+    let a = begin (c .before) .args in
+    placed-no-row (a .target) (a .row .0) (now (a .rows)) (sym (c .before .matched .ensures) ∙ c .if1 .left)
 
 pub place-row-spec : {M : Type 1} → statement M
 place-row-spec =

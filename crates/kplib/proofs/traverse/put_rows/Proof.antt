@@ -15,6 +15,13 @@ Inv-loop from rows₀ i₀ rows i = (i ≤ length from) × (length rows ≡ leng
 abbrev μ-loop : tie.MeasureT-loop
 μ-loop from rows₀ i₀ rows i = length from - i
 
+-- the places: a turn, and before the first
+abbrev begin : tie.At-loop Inv-loop μ-loop → tie.Start Inv-loop μ-loop
+begin c = c .before
+
+abbrev turn : tie.After-shared-slice-known Inv-loop μ-loop → tie.At-loop Inv-loop μ-loop
+turn c = c .before .before
+
 loop-holds : tie.Need-loop-holds Inv-loop μ-loop
 loop-holds c = (omega arith, refl, refl)
 
@@ -38,15 +45,17 @@ loop-less c = omega arith
 
 loop-again : tie.Need-loop-again Inv-loop μ-loop
 loop-again c =
-    let l = c .before .before .loop in
-    let a = c .before .before .before .args in
+    let l = turn c .loop in
+    let a = begin (turn c) .args in
     (omega arith, simp length-set (l .inv .1), rw (l .inv .2) (put-on (l .i) (now (a .from)) (now (a .rows)) (omega arith) (omega arith)))
 
 same-length : tie.Need-same-length Inv-loop μ-loop
 same-length c = omega arith
 
 returns : tie.Need-returns Inv-loop μ-loop
-returns c = c .before .loop .inv .2 ∙ put-done (c .before .loop .i) (now (c .before .before .args .from)) (now (c .before .before .args .rows)) (omega arith)
+returns c =
+    let a = begin (c .before) .args in
+    c .before .loop .inv .2 ∙ put-done (c .before .loop .i) (now (a .from)) (now (a .rows)) (omega arith)
 
 pub put-rows-spec : {M : Type 1} → statement M
 put-rows-spec =

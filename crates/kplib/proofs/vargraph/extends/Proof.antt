@@ -1,12 +1,21 @@
--- One law of `extendsAt` for each way out: a bare graph, the source, a row that is not later, an edge. Assumes nothing.
+-- One law of `extendsAt` for each way out: a bare graph, the source, a row that is not later, a flag. Assumes nothing.
 use borrow.Author.Tests.{not-true, not-false}
 use mathlib.Core.Path.{sym}
 use native.Mathlib.Omega.{arith}
-use Rattle.kplib.specs.Graph.{edge}
 use Rattle.kplib.proofs.GraphLaws.{at-bare, at-source, at-early, at-later}
 use borrow.Author.Needs.{needs}
 use Rattle.kplib.proofs.vargraph.extends.Statement.{statement}
 use Rattle.kplib.proofs.vargraph.extends.Tie as tie
+
+-- the places: the chain's last row is known, and the graph is full and the chain not empty
+abbrev known : tie.After-result → tie.After-row-of
+known c = c .before .before .before .before .before .before
+
+abbrev longer : tie.After-row-of → tie.Else2
+longer c = c .before
+
+abbrev full : tie.Else2 → tie.Else1
+full c = c .before .before
 
 returns : tie.Need-returns
 returns c = sym (at-bare _ _ _ _ (not-true _ (c .if1 .taken)))
@@ -18,49 +27,27 @@ row-of-requires : tie.Need-row-of-requires
 row-of-requires c κs = search needs
 
 returns-3 : tie.Need-returns-3
-returns-3 c =
-    let source = c .before .before .before .before in
-    sym (at-early _ _ _ _ (source .if2 .left) (omega arith))
+returns-3 c = sym (at-early _ _ _ _ (longer (c .before .before .before) .if2 .left) (omega arith))
 
-cast-r : tie.Need-cast-r
-cast-r c = search needs
+cast-result : tie.Need-cast-result
+cast-result c = search needs
 
-cast-s : tie.Need-cast-s
-cast-s c = search needs
+mul-result : tie.Need-mul-result
+mul-result c = search needs
 
-mul-overlaps : tie.Need-mul-overlaps
-mul-overlaps c = search needs
+cast-result-2 : tie.Need-cast-result-2
+cast-result-2 c = search needs
 
-shared-slice-read-overlaps : tie.Need-shared-slice-read-overlaps
-shared-slice-read-overlaps c = search needs
+add-result : tie.Need-add-result
+add-result c = search needs
 
-mul-overlaps-2 : tie.Need-mul-overlaps-2
-mul-overlaps-2 c = search needs
-
-shared-slice-read-overlaps-2 : tie.Need-shared-slice-read-overlaps-2
-shared-slice-read-overlaps-2 c = search needs
-
-mul-overlaps-3 : tie.Need-mul-overlaps-3
-mul-overlaps-3 c = search needs
-
-shared-slice-read-overlaps-3 : tie.Need-shared-slice-read-overlaps-3
-shared-slice-read-overlaps-3 c = search needs
-
-mul-overlaps-4 : tie.Need-mul-overlaps-4
-mul-overlaps-4 c = search needs
-
-shared-slice-read-overlaps-4 : tie.Need-shared-slice-read-overlaps-4
-shared-slice-read-overlaps-4 c = search needs
-
-overlaps-requires : tie.Need-overlaps-requires
-overlaps-requires c κs = search needs
+element-copy-out-result : tie.Need-element-copy-out-result
+element-copy-out-result c = search needs
 
 returns-4 : tie.Need-returns-4
-unfolding edge
 returns-4 c =
-    let called = c .before .before .before .before .before .before .before .before .before .before in
-    rw (c .overlaps .ensures, called .row-of .ensures)
-    (sym (at-later _ _ _ _ (not-false _ (called .before .before .before .if1 .left)) (called .before .if2 .left) (omega arith)))
+    let k = known c in
+    rw (k .row-of .ensures) (sym (at-later _ _ _ _ (not-false _ (full (longer k) .if1 .left)) (longer k .if2 .left) (omega arith)))
 
 pub extends-spec : {M : Type 1} → statement M
 extends-spec =
@@ -70,15 +57,9 @@ extends-spec =
     returns-2
     row-of-requires
     returns-3
-    cast-r
-    cast-s
-    mul-overlaps
-    shared-slice-read-overlaps
-    mul-overlaps-2
-    shared-slice-read-overlaps-2
-    mul-overlaps-3
-    shared-slice-read-overlaps-3
-    mul-overlaps-4
-    shared-slice-read-overlaps-4
-    overlaps-requires
+    cast-result
+    mul-result
+    cast-result-2
+    add-result
+    element-copy-out-result
     returns-4)

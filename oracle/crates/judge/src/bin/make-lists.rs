@@ -187,8 +187,8 @@ fn program_list() -> Vec<Vec<u8>> {
 
 /// A call of the library as the list stores it:
 /// 42 bytes, the settings record of the job form and its end;
-/// words of four bytes: the lengths of starts, ends, sizes, features, part sizes, part features, of the queue's three slices (parents,
-/// last rows, keys) and of the answer;
+/// words of four bytes: the lengths of starts, ends, sizes, features, part sizes, part features, of the queue's two slices (links, keys)
+/// and of the answer;
 /// the starts and ends (eight bytes each), the sizes, the part sizes;
 /// how many variant sequences, each as negative (0 or 1), letter count, letters; then the parts' likewise;
 /// how many entries are then changed, each as table (0 variants, 1 parts), place, value.
@@ -197,7 +197,7 @@ struct Stored {
     job: Job,
     call: Call,
     /// the lengths of the queue's slices; the shortest is its room
-    rooms: [usize; 3],
+    rooms: [usize; 2],
     changes: Vec<(u32, u32, i32)>,
 }
 
@@ -205,7 +205,7 @@ impl Stored {
     fn of(job: Job) -> Stored {
         let mut call = Call::of_job(&job);
         call.queue_room = call.queue_room.min(QUEUE_MOST);
-        Stored { rooms: [call.queue_room; 3], changes: vec![], job, call }
+        Stored { rooms: [call.queue_room; 2], changes: vec![], job, call }
     }
 
     fn change(&mut self, table: u32, place: usize, value: i32) {
@@ -241,7 +241,6 @@ impl Stored {
             call.part_features.len(),
             self.rooms[0],
             self.rooms[1],
-            self.rooms[2],
             call.answer_room,
         ];
         lengths.iter().for_each(|&length| word(&mut bytes, length as u32));
@@ -354,15 +353,15 @@ fn refused_ones() -> Vec<Stored> {
     with(&|s| (0..4).for_each(|place| s.change(0, place, -32_769)));
     with(&|s| (0..8).for_each(|place| s.change(0, place, [1, -1][place % 2])));
     for less in [0, 1, 22] {
-        for slice in 0..3 {
+        for slice in 0..2 {
             with(&|s| s.rooms[slice] -= less);
         }
     }
-    with(&|s| (s.rooms, s.job.settings.one_to_one, s.call.settings.one_to_one) = ([0; 3], true, true));
+    with(&|s| (s.rooms, s.job.settings.one_to_one, s.call.settings.one_to_one) = ([0; 2], true, true));
     with(&|s| s.call.answer_room = 1);
     with(&|s| s.call.answer_room = 0);
     with(&|s| s.call.answer_room = 9);
-    with(&|s| (s.call.answer_room, s.rooms) = (1, [1; 3]));
+    with(&|s| (s.call.answer_room, s.rooms) = (1, [1; 2]));
     for count in [64, 65] {
         let mut job = example();
         job.settings.maxpaths = 20;

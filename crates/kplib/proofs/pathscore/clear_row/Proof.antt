@@ -8,8 +8,8 @@ use lib.ListN.{length, drop, set, replicate, length-set, drop-of-length-le}
 use mathlib.Core.List.{List, _++_, append-nil}
 use Rattle.metrics.proofs.Fills.{fill-more}
 use Rattle.kplib.specs.Sums.{zeros}
-use Rattle.kplib.proofs.pathscore.clear.Statement.{statement}
-use Rattle.kplib.proofs.pathscore.clear.Tie as tie
+use Rattle.kplib.proofs.pathscore.clear_row.Statement.{statement}
+use Rattle.kplib.proofs.pathscore.clear_row.Tie as tie
 
 abbrev Inv-loop : tie.InvT-loop
 Inv-loop row₀ i₀ row i = (i ≤ length row₀) × (length row ≡ length row₀) × (row ≡ replicate i (pos 0) ++ drop i row₀)
@@ -50,8 +50,8 @@ returns c =
     let e : l .loop .i ≡ length row = omega arith in
     l .loop .inv .2 ∙ rw (drop-of-length-le row h, append-nil, e)
 
-pub clear-spec : {M : Type 1} → statement M
-clear-spec =
+pub clear-row-spec : {M : Type 1} → statement M
+clear-row-spec =
     tie.close
     (tie.spec
     Inv-loop
