@@ -19,8 +19,8 @@ use Rattle.job.specs.Settings40.{settingsOf, numberBytes, floatBytes, settingsB
 use Rattle.job.specs.Form.{bodyLen, inPlace, flagsOk, countOf, padOk, faultOf, after as afterRecord, run}
 use Rattle.job.specs.Job.{lettersIn, lettersAfter, variantOf, partOf, variantHere, partHere, gather, jobOf, readJob}
 use Rattle.job.specs.Job.{padded, lettersRecords, sequenceBytes, partBody, variantBody, variantBytes, partBytes, variantsBytes, partsBytes, jobBytes}
-use Rattle.desk.specs.Text.{bytesOf, digitsWithin, hexDigit, hex2, hex4, hex8, numberLine, floatLine, flagLine, rowText, rowsText, rowsLine, isWhole, similarityLines, reachLines, sevenLines}
-use Rattle.desk.specs.Desk.{variantFeatures, partFeatures, tableOfJob, partsOfJob, answerText, tooLarge, jobText, readText, deskText}
+use Rattle.text.specs.Text.{bytesOf, digitsWithin, hexDigit, hex2, hex4, hex8, numberLine, floatLine, flagLine, rowText, rowsText, rowsLine, isWhole, similarityLines, reachLines, sevenLines, answerText}
+use Rattle.desk.specs.Desk.{variantFeatures, partFeatures, tableOfJob, partsOfJob, tooLarge, jobText, readText, deskText}
 use Rattle.audit.specs.Worked.{Worked}
 
 pub worked : Worked

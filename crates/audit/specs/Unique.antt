@@ -21,6 +21,7 @@ use Rattle.job.specs.declared.reader.Reading.{Reading}
 use Rattle.job.specs.declared.writer.Writing.{Writing}
 use Rattle.job.specs.Reading.{Lent}
 use Rattle.job.specs.Promises.{ScanPromise, ReadJobPromise, WriteJobPromise}
+use Rattle.text.specs.Promises.{PutRefusedPromise, PutAnswerPromise}
 use Rattle.desk.specs.Promises.{AnswerPromise}
 use Rattle.capi.specs.Words.{settingsOfWords}
 use Rattle.capi.specs.Promises.{NdSeqToKmerPromise, NdSeqsimPromise, NdSizesimPromise, NdCountChainsPromise, NdAnswerPromise, NdApplyHaplotypePromise}
@@ -72,6 +73,8 @@ pub record Unique : Type 0 where
   pub read-job : (bytes : List ℕ) (t : Lent) → Two Lent Reading (ReadsInto bytes t)
   pub write-job : (s : Settings) (t : Lent) (out : List ℕ)
       → Two (List ℕ) Writing (WriteJobPromise s (t .starts) (t .ends) (t .sizes) (t .negatives) (t .counts) (t .partSizes) (t .partNegatives) (t .partCounts) (t .letters) out)
+  pub put-refused : (out : List ℕ) (at n : ℕ) → Two (List ℕ) ℕ (PutRefusedPromise out at n)
+  pub put-answer : (out : List ℕ) (at : ℕ) (rows : List ℕ) (a : Answer) → Two (List ℕ) ℕ (PutAnswerPromise out at rows a)
   pub answer : (input out : List ℕ) → Two (List ℕ) ℕ (AnswerPromise input out)
   pub nd-seq-to-kmer : (letters : List ℕ) (k : ℕ) (negative : Bool) (row : List ℤ) → Two (List ℤ) ℕ (NdSeqToKmerPromise letters k negative row)
   pub nd-seqsim : (a b : List ℤ) (minkfreq : ℕ) (place : Float) → Two Float ℕ (NdSeqsimPromise a b minkfreq place)

@@ -36,7 +36,7 @@ pub record RowsFit (k width : ℕ) (negatives : List Bool) (counts letters : Lis
   pub few : length letters ≤ 32768
   pub table-end : length counts * width ≤ length table
 
-pub record Counted (k width : ℕ) (negatives : List Bool) (counts letters : List ℕ) (first r : ℕ) (old new : List ℤ) : Type 0 where
+pub record RowsCounted (k width : ℕ) (negatives : List Bool) (counts letters : List ℕ) (first r : ℕ) (old new : List ℤ) : Type 0 where
   pub front : take (length counts * width) new ≡ rowsFrom k negatives counts (drop first letters)
   pub next : r ≡ first + sum counts
   pub kept : length new ≡ length old
