@@ -4,8 +4,8 @@ use mathlib.Core.Bool.{Bool, false}
 use mathlib.Core.List.{List}
 use Prim.Native.Nat.{ℕ}
 use Rattle.metrics.specs.Letters.{countsOf, rowAfter}
-use Rattle.job.specs.Job.{jobBytes}
-use Rattle.job.specs.Writing.{jobFrom, outAfter}
+use Rattle.form.specs.Job.{jobBytes}
+use Rattle.writer.specs.Writing.{jobFrom, outAfter}
 use Rattle.text.specs.Written.{Written}
 use Rattle.audit.specs.Unique.{Agree, Unique}
 
@@ -58,6 +58,19 @@ unique = record {
   count-fault = λ starts ends cap. one;
   count-chains = λ starts ends full cap. one;
   apply-haplotype = λ s starts ends sizes features partSizes partFeatures links keys rows. agree;
+  u8-at = λ s at. one;
+  u32-at = λ s at. one;
+  u64-at = λ s at. one;
+  i32-of = λ x. one;
+  u32-of = λ z. one;
+  float-of = λ n. one;
+  put-u8 = λ out at x. one;
+  put-u32 = λ out at x. one;
+  put-u64 = λ out at x. one;
+  body-len = λ k. one;
+  count-of = λ k b. one;
+  read-settings = λ b. one;
+  write-settings = λ out at s. one;
   scan = λ bytes. one;
   read-job = λ bytes t. two;
   write-job = λ s t out. through (λ r. outAfter r (jobBytes (jobFrom s t)) out);

@@ -8,11 +8,11 @@ use lib.IntN.{ℤ}
 use lib.Ieee.{Float}
 use lib.ListN.{length}
 use Rattle.metrics.specs.Letters.{countsOf, counterAnswer, countedNumber, rowAfter}
+use Rattle.metrics.specs.Placed.{placed as placedText}
 use Rattle.metrics.specs.Similarity.{sizesimOf, seqsimOf, number, value}
 use Rattle.kplib.specs.Graph.{cappedCount, countNumber, countValue}
 use Rattle.kplib.specs.Answer.{answerOf, rowsOf, placed}
 use Rattle.kplib.specs.Promises.{callLent, QueueKept}
-use Rattle.job.specs.Reading.{placed as placedText}
 use Rattle.desk.specs.Desk.{deskText}
 use Rattle.capi.specs.Words.{settingsOfWords}
 use Rattle.capi.specs.Report.{reportOf}

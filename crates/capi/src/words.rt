@@ -2,9 +2,9 @@
 ghost use mathlib.Core.Path.{_≡_};
 ghost use Prim.Native.Nat.{_≤_};
 ghost use lib.ListN.{length};
-ghost use lib.Ieee.{binary32, ofBits};
 ghost use Rattle.capi.specs.Words.{flagOfWord, settingsOfWords};
 ghost use Rattle.capi.specs.Held.{byteHeld, settingsHeld};
+use fields::float_of;
 use params::Settings;
 
 // A byte holds no larger k than 255, which is refused as any larger one is.
@@ -18,16 +18,6 @@ fn flag_of(word: u32) -> bool
     ensures { λ r. ⌜ r ≡ flagOfWord word ⌝ }
 {
     word != 0
-}
-
-fn float_of(n: u32) -> f32
-    ensures { λ r. ⌜ r ≡ ofBits binary32 n ⌝ }
-{
-    if 2139095040 < n % 2147483648 {
-        0.0 / 0.0
-    } else {
-        f32::from_bits(n)
-    }
 }
 
 pub(crate) fn settings_of(words: &[u32; 13]) -> Settings

@@ -7,8 +7,8 @@ use mathlib.Core.List.{List, _++_}
 use lib.ListN.{length, drop}
 use lib.Seq.{sets-eq}
 use borrow.Author.Tests.{lt-ltb, le-ltb}
-use Rattle.job.specs.Job.{readJob}
-use Rattle.job.specs.Reading.{placed}
+use Rattle.form.specs.Job.{readJob}
+use Rattle.metrics.specs.Placed.{placed}
 use Rattle.text.specs.Text.{refusedText}
 use Rattle.text.specs.Written.{Written}
 use Rattle.text.proofs.AnswerLaws.{refused-short}

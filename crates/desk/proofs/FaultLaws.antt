@@ -6,10 +6,10 @@ use mathlib.Core.Bool.{Bool, true, false, cond, not, _&&_}
 use mathlib.Core.List.{List, [], _∷_}
 use lib.Dec.{ltb, eqb}
 use lib.ListN.{length}
-use Rattle.job.specs.declared.form.Scan.{Scan}
-use Rattle.job.specs.declared.form.Scan.the-variants.{Good, Refused}
-use Rattle.job.specs.Form.{bodyLen, inPlace, flagsOk, countOf, padOk, faultOf, after, start, counted, judge, run}
-use Rattle.job.specs.Job.{Job, Read, Faulty, Held, readOf, jobOf, readJob}
+use Rattle.form.specs.declared.records.Scan.{Scan}
+use Rattle.form.specs.declared.records.Scan.the-variants.{Good, Refused}
+use Rattle.form.specs.Form.{bodyLen, inPlace, flagsOk, countOf, padOk, faultOf, after, outset, counted, judge, run}
+use Rattle.form.specs.Job.{Job, Read, Faulty, Held, readOf, jobOf, readJob}
 
 abbrev Low : Scan → Type 0
 Low (Refused n) = n < 30
@@ -54,7 +54,7 @@ read-low (Good c) job h = tt
 
 job-low : (input : List ℕ) → LowRead (readJob input)
 unfolding readJob
-job-low input = read-low (run input 0 start) (jobOf input) (run-low input 0 start)
+job-low input = read-low (run input 0 outset) (jobOf input) (run-low input 0 outset)
 
 pub form-fault : (input : List ℕ) (n : ℕ) → readJob input ≡ Faulty n → n < 30
 form-fault input n e = subst LowRead e (job-low input)

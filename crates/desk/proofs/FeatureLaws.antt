@@ -15,8 +15,8 @@ use Rattle.metrics.specs.declared.kmer.Counted.the-variants.{Done}
 use Rattle.metrics.specs.Letters.{windowsOf, timesIn, signed, countsOf, counterAnswer, rowAfter}
 use Rattle.metrics.proofs.Windows.{table-length}
 use Rattle.metrics.proofs.Totals.{counter-done}
-use Rattle.job.proofs.RowLaws.{sum-next}
-use Rattle.job.specs.Writing.{sum}
+use Rattle.form.proofs.GatherLaws.{sum-next}
+use Rattle.form.specs.Lent.{sum}
 use Rattle.desk.specs.Rows.{rowsFrom, rowStored, RowFits, RowsFit, RowsCounted}
 
 row-length : (k : ℕ) (negative : Bool) (s : List ℕ) → length (countsOf k negative s) ≡ 4 ^ k

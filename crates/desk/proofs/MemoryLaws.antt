@@ -14,9 +14,9 @@ use Rattle.metrics.specs.Letters.{entryCount}
 use Rattle.metrics.proofs.Entries.{power}
 use Rattle.params.specs.declared.Settings.{Settings}
 use Rattle.params.specs.Numbers.{tableOf, partsOf}
-use Rattle.job.specs.Job.{Variant, Part, Job, Held}
-use Rattle.job.specs.Reading.{Lent, lent, variantLetters, partLetters, lettersOf}
-use Rattle.job.specs.Writing.{sum}
+use Rattle.form.specs.Job.{Variant, Part, Job, Held}
+use Rattle.form.specs.Lent.{Lent, lent, variantLetters, partLetters, lettersOf}
+use Rattle.form.specs.Lent.{sum}
 use Rattle.text.specs.Text.{refusedText, answerText}
 use Rattle.desk.specs.Desk.{variantFeatures, partFeatures, tableOfJob, partsOfJob, callOfJob, tooLarge, jobText, readText}
 use Rattle.desk.specs.Rows.{rowsFrom, RowsFit, RowsCounted}

@@ -12,12 +12,14 @@ use lib.Seq.{take-at}
 use borrow.Author.Tests.{ltb-false, leb-true, le-leb, ne-eqb}
 use Rattle.params.specs.declared.Settings.{Settings}
 use Rattle.params.proofs.CheckLaws.{and-yes}
-use Rattle.job.specs.declared.form.Counts.{Counts}
-use Rattle.job.specs.declared.reader.Reading.{Reading}
-use Rattle.job.specs.declared.reader.Reading.the-variants.{Refused as Declined, Job as Given}
-use Rattle.job.specs.Job.{Variant, Part, Job, Read, Faulty, Held, readJob}
-use Rattle.job.specs.Reading.{Lent, lent, lettersOf, five, three, jobCounts, hasRoom, placed, lentWith, readingOf, lentAfter}
-use Rattle.job.proofs.LetterLaws.{letters-within}
+use Rattle.form.specs.declared.records.Counts.{Counts}
+use Rattle.reader.specs.declared.Reading.{Reading}
+use Rattle.reader.specs.declared.Reading.the-variants.{Refused as Declined, Job as Given}
+use Rattle.form.specs.Job.{Variant, Part, Job, Read, Faulty, Held, readJob}
+use Rattle.form.specs.Lent.{Lent, lent, lettersOf, jobCounts}
+use Rattle.reader.specs.Reading.{five, three, hasRoom, lentWith, readingOf, lentAfter}
+use Rattle.metrics.specs.Placed.{placed}
+use Rattle.form.proofs.LetterLaws.{letters-within}
 use Rattle.text.specs.Text.{refusedText}
 use Rattle.desk.specs.Desk.{tooLarge, jobText, readText}
 use Rattle.desk.specs.Memory.{heldText, cut, toldAs, readingText, Fits, Front, Loaded}

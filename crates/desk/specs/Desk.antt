@@ -8,7 +8,7 @@ use lib.ListN.{length}
 use Rattle.metrics.specs.Letters.{countsOf}
 use Rattle.params.specs.Numbers.{Table, Parts, Call, tableOf, partsOf, callOf}
 use Rattle.kplib.specs.Answer.{answerOf, rowsOf}
-use Rattle.job.specs.Job.{Variant, Part, Job, Read, Faulty, Held, readJob}
+use Rattle.form.specs.Job.{Variant, Part, Job, Read, Faulty, Held, readJob}
 use Rattle.text.specs.Text.{refusedText, answerText}
 
 -- the feature rows of the variants one behind the other, and of the parts

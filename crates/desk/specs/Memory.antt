@@ -8,10 +8,10 @@ use lib.ListN.{length, take, drop}
 use Rattle.params.specs.declared.Settings.{Settings}
 use Rattle.params.specs.Numbers.{Table, Parts, tableOf, partsOf, callOf}
 use Rattle.kplib.specs.Answer.{answerOf, rowsOf}
-use Rattle.job.specs.declared.reader.Reading.{Reading}
-use Rattle.job.specs.declared.reader.Reading.the-variants.{Refused as Declined, Job as Given}
-use Rattle.job.specs.Reading.{Lent, lent}
-use Rattle.job.specs.Writing.{sum}
+use Rattle.reader.specs.declared.Reading.{Reading}
+use Rattle.reader.specs.declared.Reading.the-variants.{Refused as Declined, Job as Given}
+use Rattle.form.specs.Lent.{Lent, lent}
+use Rattle.form.specs.Lent.{sum}
 use Rattle.text.specs.Text.{refusedText, answerText}
 use Rattle.text.specs.Written.{Written}
 use Rattle.desk.specs.Rows.{rowsFrom}

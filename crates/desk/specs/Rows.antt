@@ -6,7 +6,7 @@ use mathlib.Core.List.{List, [], _∷_, _++_}
 use lib.IntN.{ℤ}
 use lib.ListN.{length, take, drop}
 use Rattle.metrics.specs.Letters.{countsOf}
-use Rattle.job.specs.Writing.{sum}
+use Rattle.form.specs.Lent.{sum}
 
 -- rows counted from letters that stand one sequence behind the other
 unfoldable pub rowsFrom : ℕ → List Bool → List ℕ → List ℕ → List ℤ

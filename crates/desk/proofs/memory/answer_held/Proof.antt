@@ -5,7 +5,7 @@ use mathlib.Core.Path.{sym}
 use Prim.Native.Nat.{_*_, _≤_}
 use lib.ListN.{length}
 use lib.Seq.{length-take-le}
-use Rattle.job.specs.Reading.{Lent, lent}
+use Rattle.form.specs.Lent.{Lent, lent}
 use Rattle.desk.proofs.DeskLaws.{printed-refused, printed-as}
 use Rattle.desk.proofs.MemoryLaws.{variants-end, parts-end, variants-fit, parts-fit, within-limits, limit-text, counted-text}
 use borrow.Author.Needs.{needs}

@@ -2,7 +2,7 @@
 use denote.Ref.{now}
 use mathlib.Core.Path.{sym, ap, _∙_}
 use lib.Seq.{length-take-le}
-use Rattle.job.specs.Reading.{Lent, lent}
+use Rattle.form.specs.Lent.{Lent, lent}
 use Rattle.text.specs.Text.{refusedText}
 use Rattle.desk.proofs.DeskLaws.{printed-refused, printed-as}
 use Rattle.desk.proofs.ReadLaws.{declined-reading, given-reading, given-loaded}

@@ -1,0 +1,6 @@
+-- Laws that several proofs cite.
+pub mod FormLaws
+pub mod GatherLaws
+pub mod CountLaws
+pub mod LetterLaws
+pub mod SettingsLaws
