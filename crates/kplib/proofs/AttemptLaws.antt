@@ -5,7 +5,7 @@ use mathlib.Core.Bool.{Bool, true, false}
 use mathlib.Core.List.{List, _++_, append-nil}
 use Prim.Native.Nat.{ℕ, _+_, _-_, _/_, _≤_}
 use native.Mathlib.Omega.{arith}
-use lib.IntN.{ℤ, natAbs}
+use lib.IntN.{ℤ}
 use lib.ListN.{length, take, drop, length-append, length-drop}
 use lib.Seq.{length-take-le, take-length, drop-length, take-at, drop-at}
 use borrow.Rule.Slice.PartMut.{putMid, post-is}
@@ -13,7 +13,7 @@ use mir.Syntax.{w32}
 use mir.Val.{toZ, ofZ}
 use Rattle.kplib.specs.Sums.{featuresOf}
 use Rattle.kplib.specs.Score.{listScore, greaterOf}
-use Rattle.kplib.specs.Scoring.{listOfCode, Summable, Ready, total, Comparable, Paired, mayWin, afterCode, Attempt, Attempted}
+use Rattle.kplib.specs.Scoring.{listOfCode, Summable, Ready, total, Testable, Comparable, Paired, mayWin, afterCode, Attempt, Attempted}
 use Rattle.kplib.specs.declared.pathscore.Scored.{Scored}
 use Rattle.kplib.specs.declared.pathscore.Verdict.{Verdict}
 use Rattle.kplib.specs.declared.pathscore.Best.{Best}
@@ -28,10 +28,10 @@ rest-is w rows = ap (λ (n : ℕ). take n (drop w rows)) (sym (length-drop w row
 
 module _ {plan : Plan} {chainSize : ℤ} {chainLen : ℕ} {listSize : ℤ} {listLen : ℕ} {rows : List ℤ} (y : Paired plan chainSize chainLen listSize listLen rows) where
   chain-as-read : toZ w32 (ofZ w32 chainSize) ≡ chainSize
-  chain-as-read = back chainSize (omega (arith, y .comparable .chain-size))
+  chain-as-read = back chainSize (omega (arith, y .comparable .tests .chain-size))
 
   list-as-read : toZ w32 (ofZ w32 listSize) ≡ listSize
-  list-as-read = back listSize (omega (arith, y .comparable .list-size))
+  list-as-read = back listSize (omega (arith, y .comparable .tests .list-size))
 
   pub rows-comparable : Comparable (plan .s) (toZ w32 (ofZ w32 chainSize)) (take (plan .width) rows) chainLen (toZ w32 (ofZ w32 listSize))
       (take (length rows - plan .width) (drop (plan .width) rows)) listLen (plan .m - listLen)
@@ -70,10 +70,17 @@ module _ {plan : Plan} {features : List ℤ} {chain : List ℕ} {chainSize : ℤ
   l-back : toZ w32 (ofZ w32 size) ≡ size
   l-back = back size (omega (arith, y .listed .size-small))
 
-  pub may-ok : (natAbs (toZ w32 (ofZ w32 chainSize)) ≤ 8388608) × (natAbs (toZ w32 (ofZ w32 size)) ≤ 8388608) × (length chain ≤ 64) × (code / 65536 ≤ 64) × (plan .m - code / 65536 ≤ 64)
-  may-ok =
-      rw (c-back, l-back)
-      (y .chain-size, y .listed .size-small, y .chained .most, omega (arith, y .listed .most, y .planned .few), omega (arith, y .planned .few))
+  tests : Testable chainSize (length chain) size (code / 65536) partial
+  tests = record {
+    chain-size = y .chain-size;
+    list-size = y .listed .size-small;
+    chain-few = y .chained .most;
+    list-few = omega (arith, y .listed .most, y .planned .few);
+    partial-few = omega (arith, y .planned .few);
+  }
+
+  pub may-ok : Testable (toZ w32 (ofZ w32 chainSize)) (length chain) (toZ w32 (ofZ w32 size)) (code / 65536) (plan .m - code / 65536)
+  may-ok = rw (c-back, l-back) tests
 
   pub attempt-lost : (best : Best) {t : Bool} → t ≡ mayWin (plan .s) (toZ w32 (ofZ w32 chainSize)) (length chain) (toZ w32 (ofZ w32 size)) (code / 65536) (plan .m - code / 65536) (best .scored .score)
       → t ≡ false → Ready (best .summed) (take (plan .width) scratch) (featuresOf (plan .width) features chain)
@@ -150,11 +157,7 @@ module _ {plan : Plan} {features : List ℤ} {chain : List ℕ} {chainSize : ℤ
             widths = features-length width features chain (y .chained) ∙ sym (features-length width partFeatures list list-sum);
             chain-row = features-sum width features chain (y .chained);
             list-row = features-sum width partFeatures list list-sum;
-            chain-size = y .chain-size;
-            list-size = y .listed .size-small;
-            chain-few = y .chained .most;
-            list-few = may-ok .3;
-            partial-few = may-ok .4;
+            tests = tests;
           });
         })
 

@@ -1,6 +1,6 @@
 -- The two cases of a chain count, and what an accepted one is known to be. Assumes nothing.
 use mathlib.Core.Path.{_≡_, refl, sym, _∙_}
-use Prim.Native.Nat.{ℕ, zero, suc}
+use Prim.Native.Nat.{ℕ, zero, suc, _≤_}
 use native.Mathlib.Omega.{arith}
 use mathlib.Core.List.{List}
 use lib.Dec.{eqb}
@@ -9,7 +9,6 @@ use borrow.Author.Tests.{ltb-false, eqb-true, not-false}
 use Rattle.kplib.specs.declared.vargraph.ChainCount.the-variants.{Chains, Refused}
 use Rattle.params.specs.Numbers.{chainCountRules, chainCountFault}
 use Rattle.kplib.specs.Graph.{countCase}
-use Rattle.kplib.specs.GraphWalk.{Walk}
 use Rattle.params.proofs.CheckLaws.{none-given}
 
 pub refused-case : (found fault n : ℕ) → found ≡ fault → (found ≡ 0 → ⊥) → Refused found ≡ countCase fault n
@@ -20,14 +19,12 @@ pub counted-case : (found fault count n : ℕ) → found ≡ fault → found ≡
 counted-case found zero count n e z h = rw h
 counted-case found (suc f) count n e z h = absurd (omega arith)
 
-pub walk-ready : (starts ends : List ℕ) (cap found : ℕ) → found ≡ chainCountFault cap starts ends → found ≡ 0 → Walk starts ends 0 0 cap
+-- what an accepted call is known to be
+pub count-ready : (starts ends : List ℕ) (cap found : ℕ) → found ≡ chainCountFault cap starts ends → found ≡ 0 → (length ends ≡ length starts) × (length starts ≤ 64) × (cap ≤ 4096)
 unfolding chainCountFault
-walk-ready starts ends cap found e z =
-    let p = none-given (chainCountRules cap starts ends) refl (sym e ∙ z) in
-    record {
-      few = ltb-false 64 (length starts) (p .1 .1 .0);
-      ends-are = eqb-true (length ends) (length starts) (not-false (eqb (length ends) (length starts)) (p .1 .1 .1 .0));
-      end-in = omega arith;
-      row-in = omega arith;
-      cap-in = ltb-false 4096 cap (p .0);
-    }
+count-ready starts ends cap found e z =
+    let p = none-given (chainCountRules cap starts ends) refl (sym e ∙ z) in (
+      eqb-true (length ends) (length starts) (not-false (eqb (length ends) (length starts)) (p .1 .1 .1 .0)),
+      ltb-false 64 (length starts) (p .1 .1 .0),
+      ltb-false 4096 cap (p .0),
+    )

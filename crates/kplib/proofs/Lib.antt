@@ -2,6 +2,7 @@
 pub mod GraphLaws
 pub mod TogetherLaws
 pub mod LinkLaws
+mod StopLaws
 mod CappedLaws
 pub mod WordLaws
 pub mod SimilarityLaws

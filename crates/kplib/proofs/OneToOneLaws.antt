@@ -178,11 +178,13 @@ module _ {plan : Plan} {sizes features wholeRow : List ℤ} (y : Matching plan s
       widths = row-length width features r (row-room .0) ∙ sym (y .width-is);
       chain-row = omega (arith, y .rows .rowed r);
       list-row = y .whole-sum;
-      chain-size = omega (arith, y .sized .sized r);
-      list-size = y .target-small;
-      chain-few = omega arith;
-      list-few = y .planned .few;
-      partial-few = omega arith;
+      tests = record {
+        chain-size = omega (arith, y .sized .sized r);
+        list-size = y .target-small;
+        chain-few = omega arith;
+        list-few = y .planned .few;
+        partial-few = omega arith;
+      };
     })
 
     pub row-scored : {x none : Scored} {v : Verdict} → none ≡ start

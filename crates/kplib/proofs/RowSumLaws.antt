@@ -125,7 +125,7 @@ features-step : (e : ℕ) (table x : List ℤ) (rows : List ℕ) (i : ℕ) → i
 unfolding featuresFrom
 features-step e table x rows i h = rw (add-one, drop-cons rows i 0 h)
 
-pub features-done : (e : ℕ) (table x : List ℤ) (rows : List ℕ) (i : ℕ) → length rows ≤ i → featuresFrom e table x (drop i rows) ≡ x
+features-done : (e : ℕ) (table x : List ℤ) (rows : List ℕ) (i : ℕ) → length rows ≤ i → featuresFrom e table x (drop i rows) ≡ x
 unfolding featuresFrom
 features-done e table x rows i h = rw (drop-of-length-le rows h)
 
@@ -155,18 +155,18 @@ features-sum e table rows s = omega (arith, features-from-sum e table (zeros e) 
 pub slice-is : (a e : ℕ) (t : List ℤ) → take (a + e - a) (drop a t) ≡ take e (drop a t)
 slice-is a e t = let h : a + e - a ≡ e = omega arith in rw h
 
-pub row-place : (e : ℕ) (table : List ℤ) (rows : List ℕ) → Summable e table rows → (i : ℕ) → i < length rows
+pub row-place : {e : ℕ} {table : List ℤ} {rows : List ℕ} → Summable e table rows → {i : ℕ} → i < length rows
     → (getD rows i 0 * e + e ≤ length table) × (length table ≤ 262144)
-row-place e table rows s i h = (inside-at (length table) e rows i (s .inside) h, s .entries)
+row-place {e} {table} {rows} s {i} h = (inside-at (length table) e rows i (s .inside) h, s .entries)
 
 -- x with the first i rows added is `out`: the rest added to it gives the whole sum
 abbrev pub Adding : ℕ → List ℤ → List ℕ → List ℤ → List ℤ → ℕ → Type 0
 Adding e table rows x out i =
     (i ≤ length rows) × (length out ≡ e) × (magnitudeSum out ≤ i * 131072) × (featuresFrom e table out (drop i rows) ≡ featuresFrom e table x rows)
 
-module _ (e : ℕ) (table : List ℤ) (rows : List ℕ) (s : Summable e table rows) (x out : List ℤ) (i : ℕ) (h : i < length rows) (v : Adding e table rows x out i) where
+module _ {e : ℕ} {table : List ℤ} {rows : List ℕ} (s : Summable e table rows) (x out : List ℤ) {i : ℕ} (h : i < length rows) (v : Adding e table rows x out i) where
   named-length : length (rowAt e table (getD rows i 0)) ≡ e
-  named-length = row-length e table (getD rows i 0) (row-place e table rows s i h .0)
+  named-length = row-length e table (getD rows i 0) (row-place s h .0)
 
   pub adding-ok : (length (take (getD rows i 0 * e + e - getD rows i 0 * e) (drop (getD rows i 0 * e) table)) ≡ length out)
       × (magnitudeSum out ≤ 8388608) × (magnitudeSum (take (getD rows i 0 * e + e - getD rows i 0 * e) (drop (getD rows i 0 * e) table)) ≤ 131072)
@@ -174,13 +174,16 @@ module _ (e : ℕ) (table : List ℤ) (rows : List ℕ) (s : Summable e table ro
       rw (slice-is (getD rows i 0 * e) e table)
       (named-length ∙ sym (v .1), omega (arith, s .most), s .rowed (getD rows i 0))
 
-  pub adding-turn : (out' : List ℤ) → out' ≡ rowPlus out (take (getD rows i 0 * e + e - getD rows i 0 * e) (drop (getD rows i 0 * e) table)) → Adding e table rows x out' (i + 1)
-  adding-turn out' g =
+  pub adding-turn : {out' : List ℤ} → out' ≡ rowPlus out (take (getD rows i 0 * e + e - getD rows i 0 * e) (drop (getD rows i 0 * e) table)) → Adding e table rows x out' (i + 1)
+  adding-turn {out'} g =
       let r = getD rows i 0 in
       let f : out' ≡ rowPlus out (rowAt e table r) = g ∙ ap (λ (y : List ℤ). rowPlus out y) (slice-is (r * e) e table) in
       let k : length out' ≡ e = ap length f ∙ plus-length out (rowAt e table r) (named-length ∙ sym (v .1)) ∙ v .1 in
       let b : magnitudeSum out' ≤ (i + 1) * 131072 = omega (arith, ap magnitudeSum f, plus-sum out (rowAt e table r), s .rowed r) in
       (omega arith, k, b, ap (λ (y : List ℤ). featuresFrom e table y (drop (i + 1) rows)) f ∙ sym (features-step e table out rows i h) ∙ v .3)
+
+pub adding-done : (e : ℕ) (table : List ℤ) (rows : List ℕ) (x out : List ℤ) {i : ℕ} → length rows ≤ i → Adding e table rows x out i → out ≡ featuresFrom e table x rows
+adding-done e table rows x out {i} h v = sym (features-done e table out rows i h) ∙ v .3
 
 pub cleared-sum : (e : ℕ) (x : List ℤ) → x ≡ zeros e → magnitudeSum x ≡ 0
 cleared-sum e x g = ap magnitudeSum g ∙ zeros-sum e

@@ -2,7 +2,7 @@
 use mathlib.Core.Path.{_≡_, refl, sym, ap, _∙_}
 use mathlib.Core.Bool.{Bool, true, false, cond, not, _&&_}
 use mathlib.Core.List.{List}
-use Prim.Native.Nat.{ℕ, _≤_}
+use Prim.Native.Nat.{ℕ}
 use native.Mathlib.Omega.{arith}
 use borrow.Author.Tests.{eq-eqb, ne-eqb}
 use lib.Dec.{eqb}
@@ -13,7 +13,7 @@ use mir.Val.{toZ, ofZ}
 use Rattle.metrics.specs.Similarity.{whole, sizesimValue, seqsimValue, sumD, sumN}
 use Rattle.metrics.proofs.Casts.{one-is}
 use Rattle.kplib.specs.Score.{sign, gapOf, scoreValue, seqsimOfRows, listScore, targetOf, greaterOf}
-use Rattle.kplib.specs.Scoring.{total, mayWin}
+use Rattle.kplib.specs.Scoring.{total, Testable, Comparable, mayWin}
 use Rattle.params.specs.declared.Settings.{Settings}
 use Rattle.kplib.specs.declared.pathscore.Scored.{Scored}
 use Rattle.kplib.specs.declared.pathscore.Target.{Target}
@@ -23,67 +23,67 @@ use Rattle.kplib.proofs.WordLaws.{back}
 use Rattle.kplib.proofs.RoundingLaws.{beaten, score-safe}
 
 -- ---- the sizes as the machine reads them
-module _ (c l : ℤ) (hc : natAbs c ≤ 8388608) (hl : natAbs l ≤ 8388608) where
+module _ {c : ℤ} {chainLen : ℕ} {l : ℤ} {listLen partial : ℕ} (y : Testable c chainLen l listLen partial) where
   c-back : toZ w32 (ofZ w32 c) ≡ c
-  c-back = back c (omega arith)
+  c-back = back c (omega (arith, y .chain-size))
 
   l-back : toZ w32 (ofZ w32 l) ≡ l
-  l-back = back l (omega arith)
+  l-back = back l (omega (arith, y .list-size))
 
-  module _ (a b : ℕ) (f : a ≡ sign (toZ w32 (ofZ w32 c))) (g : b ≡ sign (toZ w32 (ofZ w32 l))) where
+  module _ {a b : ℕ} (f : a ≡ sign (toZ w32 (ofZ w32 c))) (g : b ≡ sign (toZ w32 (ofZ w32 l))) where
     same-sign : a ≡ b → eqb (sign c) (sign l) ≡ true
     same-sign h = eq-eqb (sign c) (sign l) (ap sign (sym c-back) ∙ sym f ∙ h ∙ g ∙ ap sign l-back)
 
     other-sign : (a ≡ b → ⊥) → eqb (sign c) (sign l) ≡ false
     other-sign h = ne-eqb (sign c) (sign l) (λ k. h (f ∙ ap sign c-back ∙ k ∙ ap sign (sym l-back) ∙ sym g))
 
-  size-is : (z : Float) → z ≡ sizesimValue (natAbs (toZ w32 (ofZ w32 c))) (natAbs (toZ w32 (ofZ w32 l))) → z ≡ sizesimValue (natAbs c) (natAbs l)
-  size-is z e = e ∙ rw (c-back, l-back)
+  size-is : {z : Float} → z ≡ sizesimValue (natAbs (toZ w32 (ofZ w32 c))) (natAbs (toZ w32 (ofZ w32 l))) → z ≡ sizesimValue (natAbs c) (natAbs l)
+  size-is e = e ∙ rw (c-back, l-back)
 
 -- ---- the score of a list
-module _ (s : Settings) (c : ℤ) (chainRow : List ℤ) (chainLen : ℕ) (l : ℤ) (listRow : List ℤ) (listLen partial : ℕ) (hc : natAbs c ≤ 8388608) (hl : natAbs l ≤ 8388608)
-    (t : Bool) (te : t ≡ (s .squish && eqb chainLen 0)) where
+module _ {s : Settings} {c : ℤ} {chainRow : List ℤ} {chainLen : ℕ} {l : ℤ} {listRow : List ℤ} {listLen partial : ℕ} (y : Comparable s c chainRow chainLen l listRow listLen partial)
+    {t : Bool} (te : t ≡ (s .squish && eqb chainLen 0)) where
   pub by-squish : t ≡ true → Skipped ≡ listScore s (total c chainRow chainLen) (total l listRow listLen) partial
   unfolding listScore
   by-squish h = rw (sym te ∙ h)
 
-  module _ (tf : t ≡ false) (a b : ℕ) (f : a ≡ sign (toZ w32 (ofZ w32 c))) (g : b ≡ sign (toZ w32 (ofZ w32 l))) where
+  module _ (tf : t ≡ false) {a b : ℕ} (f : a ≡ sign (toZ w32 (ofZ w32 c))) (g : b ≡ sign (toZ w32 (ofZ w32 l))) where
     pub by-sign : (a ≡ b → ⊥) → Skipped ≡ listScore s (total c chainRow chainLen) (total l listRow listLen) partial
     unfolding listScore
-    by-sign h = rw (sym te ∙ tf, other-sign c l hc hl a b f g h)
+    by-sign h = rw (sym te ∙ tf, other-sign (y .tests) f g h)
 
-    module _ (h : a ≡ b) (z : Float) (ze : z ≡ sizesimValue (natAbs (toZ w32 (ofZ w32 c))) (natAbs (toZ w32 (ofZ w32 l)))) where
+    module _ (h : a ≡ b) {z : Float} (ze : z ≡ sizesimValue (natAbs (toZ w32 (ofZ w32 c))) (natAbs (toZ w32 (ofZ w32 l)))) where
       pub by-size : lt z (s .sizesim) ≡ true → Skipped ≡ listScore s (total c chainRow chainLen) (total l listRow listLen) partial
       unfolding listScore
-      by-size k = rw (sym te ∙ tf, same-sign c l hc hl a b f g h, rw (size-is c l hc hl z ze) at k)
+      by-size k = rw (sym te ∙ tf, same-sign (y .tests) f g h, rw (size-is (y .tests) ze) at k)
 
-      module _ (zf : lt z (s .sizesim) ≡ false) (q : Float) (qe : q ≡ seqsimOfRows (s .minkfreq) chainRow listRow) where
+      module _ (zf : lt z (s .sizesim) ≡ false) {q : Float} (qe : q ≡ seqsimOfRows (s .minkfreq) chainRow listRow) where
         pub by-seq : lt q (s .seqsim) ≡ true → Skipped ≡ listScore s (total c chainRow chainLen) (total l listRow listLen) partial
         unfolding listScore
-        by-seq k = rw (sym te ∙ tf, same-sign c l hc hl a b f g h, rw (size-is c l hc hl z ze) at zf, rw qe at k)
+        by-seq k = rw (sym te ∙ tf, same-sign (y .tests) f g h, rw (size-is (y .tests) ze) at zf, rw qe at k)
 
-        pub by-score : lt q (s .seqsim) ≡ false → (w : ℕ) → w ≡ gapOf (s .squish) listLen chainLen → (x : Float) → x ≡ scoreValue s q z partial w
+        pub by-score : lt q (s .seqsim) ≡ false → {w : ℕ} → w ≡ gapOf (s .squish) listLen chainLen → {x : Float} → x ≡ scoreValue s q z partial w
             → Scores x z q ≡ listScore s (total c chainRow chainLen) (total l listRow listLen) partial
         unfolding listScore
-        by-score k w we x xe =
-            rw (xe, we, size-is c l hc hl z ze, qe, sym te ∙ tf, same-sign c l hc hl a b f g h, rw (size-is c l hc hl z ze) at zf, rw qe at k)
+        by-score k we xe =
+            rw (xe, we, size-is (y .tests) ze, qe, sym te ∙ tf, same-sign (y .tests) f g h, rw (size-is (y .tests) ze) at zf, rw qe at k)
 
 -- ---- whether it may win
-module _ (s : Settings) (c : ℤ) (chainLen : ℕ) (l : ℤ) (listLen partial : ℕ) (best : Float) (hc : natAbs c ≤ 8388608) (hl : natAbs l ≤ 8388608)
-    (a b : ℕ) (f : a ≡ sign (toZ w32 (ofZ w32 c))) (g : b ≡ sign (toZ w32 (ofZ w32 l))) where
+module _ (s : Settings) (best : Float) {c : ℤ} {chainLen : ℕ} {l : ℤ} {listLen partial : ℕ} (y : Testable c chainLen l listLen partial)
+    {a b : ℕ} (f : a ≡ sign (toZ w32 (ofZ w32 c))) (g : b ≡ sign (toZ w32 (ofZ w32 l))) where
   pub lost-by-sign : (a ≡ b → ⊥) → false ≡ mayWin s c chainLen l listLen partial best
   unfolding mayWin
-  lost-by-sign h = rw (other-sign c l hc hl a b f g h)
+  lost-by-sign h = rw (other-sign y f g h)
 
-  module _ (h : a ≡ b) (z : Float) (ze : z ≡ sizesimValue (natAbs (toZ w32 (ofZ w32 c))) (natAbs (toZ w32 (ofZ w32 l)))) where
+  module _ (h : a ≡ b) {z : Float} (ze : z ≡ sizesimValue (natAbs (toZ w32 (ofZ w32 c))) (natAbs (toZ w32 (ofZ w32 l)))) where
     pub lost-by-size : lt z (s .sizesim) ≡ true → false ≡ mayWin s c chainLen l listLen partial best
     unfolding mayWin
-    lost-by-size k = rw (same-sign c l hc hl a b f g h, rw (size-is c l hc hl z ze) at k)
+    lost-by-size k = rw (same-sign y f g h, rw (size-is y ze) at k)
 
-    pub by-bound : lt z (s .sizesim) ≡ false → (w : ℕ) → w ≡ gapOf (s .squish) listLen chainLen → (x : Float) → x ≡ scoreValue s (ofBits binary32 0x3f80_0000) z partial w
+    pub by-bound : lt z (s .sizesim) ≡ false → {w : ℕ} → w ≡ gapOf (s .squish) listLen chainLen → {x : Float} → x ≡ scoreValue s (ofBits binary32 0x3f80_0000) z partial w
         → not (le x best) ≡ mayWin s c chainLen l listLen partial best
     unfolding mayWin
-    by-bound k w we x xe = rw (xe, we, one-is, size-is c l hc hl z ze, same-sign c l hc hl a b f g h, rw (size-is c l hc hl z ze) at k)
+    by-bound k we xe = rw (xe, we, one-is, size-is y ze, same-sign y f g h, rw (size-is y ze) at k)
 
 -- ---- the better of the two
 pub greater-new : (best : Scored) (partial : ℕ) (v : Verdict) (target : Target) (x size seq : Float) → v ≡ Scores x size seq → target ≡ targetOf partial → lt (best .score) x ≡ true

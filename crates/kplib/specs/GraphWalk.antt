@@ -1,7 +1,7 @@
 -- The graph's rule by the node at which a chain ends, and as a table of flags, as the walks over the rows ask it. No public promise cites this file.
 use Prim.Native.Nat.{ℕ, zero, suc, _+_, _*_, _≤_, _<_}
 use mathlib.Core.Path.{_≡_}
-use mathlib.Core.Bool.{Bool, false, _&&_}
+use mathlib.Core.Bool.{Bool, true, false, _&&_}
 use mathlib.Core.List.{List}
 use lib.Dec.{leb}
 use lib.ListN.{length, getD}
@@ -25,9 +25,19 @@ pub record RowLaid (edge : ℕ → ℕ → Bool) (v r : ℕ) (t u : List Bool) :
   pub laid : (s : ℕ) → r < s → s < v → flagOf u r s ≡ edge r s
   pub kept : (i : ℕ) → i < 64 * r → getD u i false ≡ getD t i false
 
--- a count, up to a cap, of the chains that go on by this row or a later one of the v
-pub record Counting (v end row cap : ℕ) : Type 0 where
-  pub few : v ≤ 64
+-- from this row on none of the v rows extends a chain that ends at this node
+pub record Stop (linked : ℕ → ℕ → Bool) (v end stop : ℕ) : Type 0 where
+  pub within : stop ≤ v
+  pub none : (s : ℕ) → stop ≤ s → s < v → extendsAt linked true end s ≡ false
+
+-- the stop of each node; the source's is the number of rows
+pub record Stopping (linked : ℕ → ℕ → Bool) (v : ℕ) (stops : List ℕ) : Type 0 where
+  pub source : getD stops 0 0 ≡ v
+  pub each : (end : ℕ) → end ≤ v → Stop linked v end (getD stops end 0)
+
+-- a count of the chains that go on by this row or a later one from a chain that ends at this node
+pub record Counting (linked : ℕ → ℕ → Bool) (stops : List ℕ) (end row : ℕ) : Type 0 where
+  pub stopping : Stopping linked (getD stops 0 0) stops
+  pub few : getD stops 0 0 ≤ 64
   pub end-in : end ≤ row
-  pub row-in : row ≤ v
-  pub cap-in : cap ≤ 4096
+  pub row-in : row ≤ getD stops 0 0

@@ -141,17 +141,21 @@ abbrev pub chainTotal : ℕ → List ℤ → List ℕ → ℤ → Total
 unfolding featuresOf
 chainTotal e features chain size = total size (featuresOf e features chain) (length chain)
 
+-- the sizes and lengths of a chain and of a list that leaves so many parts out, within the limits
+pub record Testable (chainSize : ℤ) (chainLen : ℕ) (listSize : ℤ) (listLen partial : ℕ) : Type 0 where
+  pub chain-size : natAbs chainSize ≤ 8388608
+  pub list-size : natAbs listSize ≤ 8388608
+  pub chain-few : chainLen ≤ 64
+  pub list-few : listLen ≤ 64
+  pub partial-few : partial ≤ 64
+
 -- a summed chain and a summed list, within what the similarities take
 pub record Comparable (s : Settings) (chainSize : ℤ) (chainRow : List ℤ) (chainLen : ℕ) (listSize : ℤ) (listRow : List ℤ) (listLen partial : ℕ) : Type 0 where
   pub minkfreq : s .minkfreq ≤ 16777216
   pub widths : length chainRow ≡ length listRow
   pub chain-row : magnitudeSum chainRow ≤ 8388608
   pub list-row : magnitudeSum listRow ≤ 8388608
-  pub chain-size : natAbs chainSize ≤ 8388608
-  pub list-size : natAbs listSize ≤ 8388608
-  pub chain-few : chainLen ≤ 64
-  pub list-few : listLen ≤ 64
-  pub partial-few : partial ≤ 64
+  pub tests : Testable chainSize chainLen listSize listLen partial
 
 -- a summed chain and a summed list of so many parts in one slice, the chain's row in front
 pub record Paired (plan : Plan) (chainSize : ℤ) (chainLen : ℕ) (listSize : ℤ) (listLen : ℕ) (rows : List ℤ) : Type 0 where

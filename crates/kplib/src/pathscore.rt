@@ -8,7 +8,7 @@ ghost use lib.ListN.{length, take, drop};
 ghost use Rattle.metrics.specs.Similarity.{sizesimValue, magnitudeSum};
 ghost use Rattle.kplib.specs.Sums.{rowPlus, zeros, featuresFrom, featuresOf};
 ghost use Rattle.kplib.specs.Score.{sign, seqsimOfRows, gapOf, scoreValue, listScore, start, targetOf, greaterOf};
-ghost use Rattle.kplib.specs.Scoring.{Summable, Ready, Comparable, Paired, mayWin, total, chainTotal, codedScore, Attempt, Attempted, noneTried, Scorable};
+ghost use Rattle.kplib.specs.Scoring.{Summable, Ready, Testable, Comparable, Paired, mayWin, total, chainTotal, codedScore, Attempt, Attempted, noneTried, Scorable};
 use crate::haplotype::positions;
 use crate::plan::Plan;
 use metrics::Sim;
@@ -241,7 +241,7 @@ fn may_win(
     partial: usize,
     best: f32,
 ) -> bool
-    requires { ⌜ (natAbs «chain_size» ≤ 8388608) × (natAbs «list_size» ≤ 8388608) × («chain_len» ≤ 64) × («list_len» ≤ 64) × (partial ≤ 64) ⌝ }
+    requires { ⌜ Testable «chain_size» «chain_len» «list_size» «list_len» partial ⌝ }
     ensures { λ r. ⌜ r ≡ mayWin s «chain_size» «chain_len» «list_size» «list_len» partial best ⌝ }
 {
     if sign_of(chain_size) != sign_of(list_size) {

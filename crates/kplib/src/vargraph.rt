@@ -5,10 +5,10 @@ use params::checks::count_fault;
 ghost use mathlib.Core.Path.{_≡_};
 ghost use mathlib.Core.Bool.{true};
 ghost use Prim.Native.Nat.{_-_, _<_, _≤_, min};
-ghost use lib.ListN.{length};
+ghost use lib.ListN.{length, getD};
 ghost use Rattle.paths.specs.Count.{sumRowsFrom, rowCount};
 ghost use Rattle.kplib.specs.Graph.{nodeOf, rowOf, edge, chainsOf};
-ghost use Rattle.kplib.specs.GraphWalk.{extendsAt, flagOf, Together, RowLaid, Counting};
+ghost use Rattle.kplib.specs.GraphWalk.{extendsAt, flagOf, Together, RowLaid, Stop, Stopping, Counting};
 ghost use Rattle.kplib.specs.Promises.{CountChainsPromise};
 
 // A variant's row in the table, from 0.
@@ -75,31 +75,66 @@ pub(crate) fn extends(together: &[bool; 4096], full: bool, end: Node, row: Row) 
     together[64 * (last.0 as usize) + (row.0 as usize)]
 }
 
-// How many chains go on from a chain that ends at this node by this row or a later one of the v; at most cap.
-fn count_rows(together: &[bool; 4096], v: usize, end: Node, row: Row, cap: u32) -> u32
-    requires { ⌜ Counting v (end .0) (row .0) cap ⌝ }
-    ensures { λ r.
+// One more than the last row that may stand with row r, or 0 where no later row may.
+fn stop_after(together: &[bool; 4096], v: usize, r: usize) -> u32
+    requires { ⌜ (v ≤ 64) × (r < v) ⌝ }
+    ensures { λ stop. ⌜ Stop (flagOf (now (together .entry))) v (nodeOf r) stop ⌝ }
+{
+    let mut s = v;
+    while s > r + 1 {
+        s -= 1;
+        if together[64 * r + s] {
+            return (s as u32) + 1;
+        }
+    }
+    0
+}
+
+// For each node, the row from which on none of the v rows extends a chain that ends there.
+fn stops_of(together: &[bool; 4096], v: usize) -> [u32; 65]
+    requires { ⌜ v ≤ 64 ⌝ }
+    ensures { λ stops. ⌜ Stopping (flagOf (now (together .entry))) v stops ⌝ }
+{
+    let mut stops = [0; 65];
+    stops[0] = v as u32;
+    let mut r: usize = 0;
+    while r < v {
+        stops[r + 1] = stop_after(together, v, r);
+        r += 1;
+    }
+    stops
+}
+
+// What is left of the cap once the chains are counted that go on from a chain that ends at this node by this row or a later one.
+// The source's stop is the number of rows.
+fn count_rows(together: &[bool; 4096], stops: &[u32; 65], end: Node, row: Row, cap: u32) -> u32
+    requires { ⌜ Counting (flagOf (now together)) (now stops) (end .0) (row .0) ⌝ }
+    ensures { λ left.
         let linked = flagOf (now (together .entry)) in
-        ⌜ r ≡ min cap (sumRowsFrom (extendsAt linked true (end .0)) (rowCount linked v) (v - row .0) (row .0)) ⌝ }
+        let v = getD (now (stops .entry)) 0 0 in
+        ⌜ left ≡ cap - sumRowsFrom (extendsAt linked true (end .0)) (rowCount linked v) (v - row .0) (row .0) ⌝ }
 {
     if cap == 0 {
         return 0;
     }
-    if (row.0 as usize) == v {
-        return 0;
+    if stops[end.0 as usize] <= row.0 {
+        return cap;
     }
     let next = Row(row.0 + 1);
-    if extends(together, true, end, row) {
-        let below = count_rows(together, v, node_of(row), next, cap - 1);
-        below + 1 + count_rows(together, v, end, next, cap - 1 - below)
-    } else {
-        count_rows(together, v, end, next, cap)
+    if !extends(together, true, end, row) {
+        return count_rows(together, stops, end, next, cap);
     }
+    let longer = node_of(row);
+    if stops[longer.0 as usize] <= next.0 {
+        return count_rows(together, stops, end, next, cap - 1);
+    }
+    let left = count_rows(together, stops, longer, next, cap - 1);
+    count_rows(together, stops, end, next, left)
 }
 
 // The smaller of N and cap.
 fn count_capped(starts: &[u64], ends: &[u64], full: bool, cap: u32) -> u32
-    requires { ⌜ (length (now ends) ≡ length (now starts)) × ((length (now starts) ≤ 64) × (cap ≤ 4096)) ⌝ }
+    requires { ⌜ (length (now ends) ≡ length (now starts)) × (length (now starts) ≤ 64) × (cap ≤ 4096) ⌝ }
     ensures { λ r. ⌜ r ≡ min (chainsOf (now (starts .entry)) (now (ends .entry)) full) cap ⌝ }
 {
     if cap == 0 {
@@ -109,7 +144,9 @@ fn count_capped(starts: &[u64], ends: &[u64], full: bool, cap: u32) -> u32
         return 1;
     }
     let together = pairs_together(starts, ends);
-    count_rows(&together, starts.len(), Node(0), Row(0), cap - 1) + 1
+    let stops = stops_of(&together, starts.len());
+    let others = cap - 1;
+    others - count_rows(&together, &stops, Node(0), Row(0), others) + 1
 }
 
 // The number of chains up to a cap, or the number of a refusal.

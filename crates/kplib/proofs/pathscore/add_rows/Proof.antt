@@ -1,10 +1,9 @@
 -- What is summed, with the rows that are left, is the whole sum.
-use mathlib.Core.Path.{sym, _∙_}
 use native.Mathlib.Omega.{arith}
 use borrow.Author.Needs.{needs}
 use Prim.Native.Nat.{_-_}
 use lib.ListN.{length}
-use Rattle.kplib.proofs.RowSumLaws.{Adding, row-place, adding-ok, adding-turn, features-done}
+use Rattle.kplib.proofs.RowSumLaws.{Adding, row-place, adding-ok, adding-turn, adding-done}
 use Rattle.kplib.proofs.pathscore.add_rows.Statement.{statement}
 use Rattle.kplib.proofs.pathscore.add_rows.Tie as tie
 
@@ -13,6 +12,16 @@ Inv-loop table rows out₀ width i₀ out i = Adding (length out₀) table rows 
 
 abbrev μ-loop : tie.MeasureT-loop
 μ-loop table rows out₀ width i₀ out i = length rows - i
+
+-- the places that the proof speaks of
+abbrev begin : tie.At-loop Inv-loop μ-loop → tie.Start Inv-loop μ-loop
+begin l = l .before .before
+
+abbrev inside : tie.After-add-row-arg Inv-loop μ-loop → tie.In-loop Inv-loop μ-loop
+inside c = c .before .before
+
+abbrev added : tie.After-out Inv-loop μ-loop → tie.After-add-row Inv-loop μ-loop
+added c = c .before
 
 loop-holds : tie.Need-loop-holds Inv-loop μ-loop
 loop-holds c = search needs
@@ -27,19 +36,13 @@ cast-a : tie.Need-cast-a Inv-loop μ-loop
 cast-a c = omega (arith, c .shared-slice-known2 .given (c .before .before .loop .i))
 
 mul-a-2 : tie.Need-mul-a-2 Inv-loop μ-loop
-mul-a-2 c =
-    let s = c .before .before .before .before in
-    omega (arith, row-place (length (s .args .out .now)) (s .args .table .now) (s .args .rows .now) (s .pre .0) (c .before .before .loop .i) (c .before .loop-test .taken))
+mul-a-2 c = let i = c .before in omega (arith, row-place (begin (i .before) .pre .0) (i .loop-test .taken))
 
 add-e : tie.Need-add-e Inv-loop μ-loop
-add-e c =
-    let s = c .before .before .before .before in
-    omega (arith, row-place (length (s .args .out .now)) (s .args .table .now) (s .args .rows .now) (s .pre .0) (c .before .before .loop .i) (c .before .loop-test .taken))
+add-e c = let i = c .before in omega (arith, row-place (begin (i .before) .pre .0) (i .loop-test .taken))
 
 mul-add-row : tie.Need-mul-add-row Inv-loop μ-loop
-mul-add-row c =
-    let s = c .before .before .before .before .before in
-    omega (arith, row-place (length (s .args .out .now)) (s .args .table .now) (s .args .rows .now) (s .pre .0) (c .before .before .before .loop .i) (c .before .before .loop-test .taken))
+mul-add-row c = let i = inside c in omega (arith, row-place (begin (i .before) .pre .0) (i .loop-test .taken))
 
 sub-add-row : tie.Need-sub-add-row Inv-loop μ-loop
 sub-add-row c = search needs
@@ -48,15 +51,12 @@ part-add-row-start : tie.Need-part-add-row-start Inv-loop μ-loop
 part-add-row-start c = search needs
 
 part-add-row-end : tie.Need-part-add-row-end Inv-loop μ-loop
-part-add-row-end c =
-    let s = c .before .before .before .before .before in
-    row-place (length (s .args .out .now)) (s .args .table .now) (s .args .rows .now) (s .pre .0) (c .before .before .before .loop .i) (c .before .before .loop-test .taken) .0
+part-add-row-end c = let i = inside c in row-place (begin (i .before) .pre .0) (i .loop-test .taken) .0
 
 add-row-requires : tie.Need-add-row-requires Inv-loop μ-loop
 add-row-requires c κs =
-    let s = c .before .before .before .before .before .before in
-    let l = c .before .before .before .before in
-    adding-ok (length (s .args .out .now)) (s .args .table .now) (s .args .rows .now) (s .pre .0) (s .args .out .now) (l .loop .out) (l .loop .i) (c .before .before .before .loop-test .taken) (l .loop .inv)
+    let i = inside (c .before) in let l = i .before in let s = begin l in
+    adding-ok (s .pre .0) (s .args .out .now) (l .loop .out) (i .loop-test .taken) (l .loop .inv)
 
 add-i : tie.Need-add-i Inv-loop μ-loop
 add-i c = search needs
@@ -66,19 +66,16 @@ loop-less c = search needs
 
 loop-again : tie.Need-loop-again Inv-loop μ-loop
 loop-again c =
-    let s = c .before .before .before .before .before .before .before .before in
-    let l = c .before .before .before .before .before .before in
-    adding-turn (length (s .args .out .now)) (s .args .table .now) (s .args .rows .now) (s .pre .0) (s .args .out .now) (l .loop .out) (l .loop .i) (c .before .before .before .before .before .loop-test .taken) (l .loop .inv)
-    (c .before .add-row .last .0) (c .before .add-row .ensures)
+    let a = added c in let i = inside (a .before .before) in let l = i .before in let s = begin l in
+    adding-turn (s .pre .0) (s .args .out .now) (l .loop .out) (i .loop-test .taken) (l .loop .inv) (a .add-row .ensures)
 
 same-length : tie.Need-same-length Inv-loop μ-loop
 same-length c = c .before .loop .inv .1
 
 returns : tie.Need-returns Inv-loop μ-loop
 returns c =
-    let s = c .before .before .before in
-    let l = c .before in
-    sym (features-done (length (s .args .out .now)) (s .args .table .now) (l .loop .out) (s .args .rows .now) (l .loop .i) (c .loop-test .left)) ∙ l .loop .inv .3
+    let l = c .before in let a = begin l .args in
+    adding-done (length (a .out .now)) (a .table .now) (a .rows .now) (a .out .now) (l .loop .out) (c .loop-test .left) (l .loop .inv)
 
 pub add-rows-spec : {M : Type 1} → statement M
 add-rows-spec =

@@ -4,13 +4,21 @@ use borrow.Author.Needs.{needs}
 use Rattle.kplib.proofs.pathscore.list_score.Statement.{statement}
 use Rattle.kplib.proofs.pathscore.list_score.Tie as tie
 
+-- the places that the proof speaks of
+abbrev asked : tie.After-sign-of2 → tie.Else1
+asked c = c .before .before
+
+abbrev signed : tie.After-struct-known → tie.Else2
+signed c = c .before .before
+
+abbrev sized : tie.After-struct-known2 → tie.Else3
+sized c = c .before .before
+
 accepts-none-requires : tie.Need-accepts-none-requires
 accepts-none-requires c κs = search needs
 
 returns : tie.Need-returns
-returns c =
-    let s = c .before .before in
-    by-squish (s .args .s) (s .args .chain-size) (s .args .chain-row .now) (s .args .chain-len) (s .args .list-size) (s .args .list-row .now) (s .args .list-len) (s .args .partial) (s .pre .chain-size) (s .pre .list-size) _ (c .before .accepts-none .ensures) (c .if1 .taken)
+returns c = let n = c .before in by-squish (n .before .pre) (n .accepts-none .ensures) (c .if1 .taken)
 
 sign-of-requires : tie.Need-sign-of-requires
 sign-of-requires c κs = search needs
@@ -20,24 +28,26 @@ sign-of-requires-2 c κs = search needs
 
 returns-2 : tie.Need-returns-2
 returns-2 c =
-    let s = c .before .before .before .before .before in
-    by-sign (s .args .s) (s .args .chain-size) (s .args .chain-row .now) (s .args .chain-len) (s .args .list-size) (s .args .list-row .now) (s .args .list-len) (s .args .partial) (s .pre .chain-size) (s .pre .list-size) _ (c .before .before .before .before .accepts-none .ensures) (c .before .before .before .if1 .left) _ _ (c .before .before .sign-of .ensures) (c .before .sign-of2 .ensures) (c .if2 .taken)
+    let b = c .before in let e = asked b in let n = e .before in
+    by-sign (n .before .pre) (n .accepts-none .ensures) (e .if1 .left) (b .before .sign-of .ensures) (b .sign-of2 .ensures) (c .if2 .taken)
 
 size-alike-requires : tie.Need-size-alike-requires
 size-alike-requires c κs = search needs
 
 returns-3 : tie.Need-returns-3
 returns-3 c =
-    let s = c .before .before .before .before .before .before .before .before in
-    by-size (s .args .s) (s .args .chain-size) (s .args .chain-row .now) (s .args .chain-len) (s .args .list-size) (s .args .list-row .now) (s .args .list-len) (s .args .partial) (s .pre .chain-size) (s .pre .list-size) _ (c .before .before .before .before .before .before .before .accepts-none .ensures) (c .before .before .before .before .before .before .if1 .left) _ _ (c .before .before .before .before .before .sign-of .ensures) (c .before .before .before .before .sign-of2 .ensures) (c .before .before .before .if2 .left) _ (c .before .before .size-alike .ensures) (c .if3 .taken)
+    let z = c .before .before in let f = signed (c .before) in let b = f .before in let e = asked b in let n = e .before in
+    by-size (n .before .pre) (n .accepts-none .ensures) (e .if1 .left) (b .before .sign-of .ensures) (b .sign-of2 .ensures) (f .if2 .left) (z .size-alike .ensures) (c .if3 .taken)
 
 seq-alike-requires : tie.Need-seq-alike-requires
 seq-alike-requires c κs = search needs
 
 returns-4 : tie.Need-returns-4
 returns-4 c =
-    let s = c .before .before .before .before .before .before .before .before .before .before .before in
-    by-seq (s .args .s) (s .args .chain-size) (s .args .chain-row .now) (s .args .chain-len) (s .args .list-size) (s .args .list-row .now) (s .args .list-len) (s .args .partial) (s .pre .chain-size) (s .pre .list-size) _ (c .before .before .before .before .before .before .before .before .before .before .accepts-none .ensures) (c .before .before .before .before .before .before .before .before .before .if1 .left) _ _ (c .before .before .before .before .before .before .before .before .sign-of .ensures) (c .before .before .before .before .before .before .before .sign-of2 .ensures) (c .before .before .before .before .before .before .if2 .left) _ (c .before .before .before .before .before .size-alike .ensures) (c .before .before .before .if3 .left) _ (c .before .before .seq-alike .ensures) (c .if4 .taken)
+    let q = c .before .before in let g = sized (c .before) in let z = g .before .before in let f = signed (g .before) in
+    let b = f .before in let e = asked b in let n = e .before in
+    by-seq (n .before .pre) (n .accepts-none .ensures) (e .if1 .left) (b .before .sign-of .ensures) (b .sign-of2 .ensures) (f .if2 .left) (z .size-alike .ensures) (g .if3 .left)
+    (q .seq-alike .ensures) (c .if4 .taken)
 
 gap-of-requires : tie.Need-gap-of-requires
 gap-of-requires c κs = search needs
@@ -47,8 +57,10 @@ score-value-requires c κs = search needs
 
 returns-5 : tie.Need-returns-5
 returns-5 c =
-    let s = c .before .before .before .before .before .before .before .before .before .before .before .before .before in
-    by-score (s .args .s) (s .args .chain-size) (s .args .chain-row .now) (s .args .chain-len) (s .args .list-size) (s .args .list-row .now) (s .args .list-len) (s .args .partial) (s .pre .chain-size) (s .pre .list-size) _ (c .before .before .before .before .before .before .before .before .before .before .before .before .accepts-none .ensures) (c .before .before .before .before .before .before .before .before .before .before .before .if1 .left) _ _ (c .before .before .before .before .before .before .before .before .before .before .sign-of .ensures) (c .before .before .before .before .before .before .before .before .before .sign-of2 .ensures) (c .before .before .before .before .before .before .before .before .if2 .left) _ (c .before .before .before .before .before .before .before .size-alike .ensures) (c .before .before .before .before .before .if3 .left) _ (c .before .before .before .before .seq-alike .ensures) (c .before .before .if4 .left) _ (c .before .gap-of .ensures .0) _ (c .score-value .ensures)
+    let k = c .before .before in let q = k .before .before in let g = sized (k .before) in let z = g .before .before in let f = signed (g .before) in
+    let b = f .before in let e = asked b in let n = e .before in
+    by-score (n .before .pre) (n .accepts-none .ensures) (e .if1 .left) (b .before .sign-of .ensures) (b .sign-of2 .ensures) (f .if2 .left) (z .size-alike .ensures) (g .if3 .left)
+    (q .seq-alike .ensures) (k .if4 .left) (c .before .gap-of .ensures .0) (c .score-value .ensures)
 
 pub list-score-spec : {M : Type 1} → statement M
 list-score-spec =

@@ -4,6 +4,13 @@ use borrow.Author.Needs.{needs}
 use Rattle.kplib.proofs.pathscore.may_win.Statement.{statement}
 use Rattle.kplib.proofs.pathscore.may_win.Tie as tie
 
+-- the places that the proof speaks of
+abbrev begin : tie.After-sign-of2 → tie.Start
+begin c = c .before .before
+
+abbrev signed : tie.After-struct-known → tie.Else1
+signed c = c .before .before
+
 sign-of-requires : tie.Need-sign-of-requires
 sign-of-requires c κs = search needs
 
@@ -12,16 +19,16 @@ sign-of-requires-2 c κs = search needs
 
 returns : tie.Need-returns
 returns c =
-    let s = c .before .before .before in
-    lost-by-sign (s .args .s) (s .args .chain-size) (s .args .chain-len) (s .args .list-size) (s .args .list-len) (s .args .partial) (s .args .best) (s .pre .0) (s .pre .1) _ _ (c .before .before .sign-of .ensures) (c .before .sign-of2 .ensures) (c .if1 .taken)
+    let b = c .before in let s = begin b in
+    lost-by-sign (s .args .s) (s .args .best) (s .pre) (b .before .sign-of .ensures) (b .sign-of2 .ensures) (c .if1 .taken)
 
 size-alike-requires : tie.Need-size-alike-requires
 size-alike-requires c κs = search needs
 
 returns-2 : tie.Need-returns-2
 returns-2 c =
-    let s = c .before .before .before .before .before .before in
-    lost-by-size (s .args .s) (s .args .chain-size) (s .args .chain-len) (s .args .list-size) (s .args .list-len) (s .args .partial) (s .args .best) (s .pre .0) (s .pre .1) _ _ (c .before .before .before .before .before .sign-of .ensures) (c .before .before .before .before .sign-of2 .ensures) (c .before .before .before .if1 .left) _ (c .before .before .size-alike .ensures) (c .if2 .taken)
+    let z = c .before .before in let e = signed (c .before) in let b = e .before in let s = begin b in
+    lost-by-size (s .args .s) (s .args .best) (s .pre) (b .before .sign-of .ensures) (b .sign-of2 .ensures) (e .if1 .left) (z .size-alike .ensures) (c .if2 .taken)
 
 gap-of-requires : tie.Need-gap-of-requires
 gap-of-requires c κs = search needs
@@ -31,8 +38,9 @@ score-value-requires c κs = search needs
 
 returns-3 : tie.Need-returns-3
 returns-3 c =
-    let s = c .before .before .before .before .before .before .before .before in
-    by-bound (s .args .s) (s .args .chain-size) (s .args .chain-len) (s .args .list-size) (s .args .list-len) (s .args .partial) (s .args .best) (s .pre .0) (s .pre .1) _ _ (c .before .before .before .before .before .before .before .sign-of .ensures) (c .before .before .before .before .before .before .sign-of2 .ensures) (c .before .before .before .before .before .if1 .left) _ (c .before .before .before .before .size-alike .ensures) (c .before .before .if2 .left) _ (c .before .gap-of .ensures .0) _ (c .score-value .ensures)
+    let f = c .before .before in let z = f .before .before in let e = signed (f .before) in let b = e .before in let s = begin b in
+    by-bound (s .args .s) (s .args .best) (s .pre) (b .before .sign-of .ensures) (b .sign-of2 .ensures) (e .if1 .left) (z .size-alike .ensures) (f .if2 .left)
+    (c .before .gap-of .ensures .0) (c .score-value .ensures)
 
 pub may-win-spec : {M : Type 1} → statement M
 may-win-spec =

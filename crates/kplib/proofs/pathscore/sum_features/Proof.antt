@@ -5,21 +5,28 @@ use Rattle.kplib.proofs.RowSumLaws.{summable-at, cleared-sum, summed-is
 use Rattle.kplib.proofs.pathscore.sum_features.Statement.{statement}
 use Rattle.kplib.proofs.pathscore.sum_features.Tie as tie
 
+-- the places that the proof speaks of
+abbrev begin : tie.After-clear-row → tie.Start
+begin c = c .before .before .before
+
+abbrev cleared : tie.After-add-rows-arg → tie.After-clear-row
+cleared c = c .before .before
+
 clear-row-requires : tie.Need-clear-row-requires
 clear-row-requires c κs = search needs
 
 add-rows-requires : tie.Need-add-rows-requires
 add-rows-requires c κs =
-    let s = c .before .before .before .before .before in
-    (summable-at (length (s .args .out .now)) _ (s .args .table .now) (s .args .rows .now) (c .before .before .clear-row .kept .0) (s .pre), cleared-sum (length (s .args .out .now)) _ (c .before .before .clear-row .ensures))
+    let z = cleared c in let s = begin z in let width = length (s .args .out .now) in
+    (summable-at width _ (s .args .table .now) (s .args .rows .now) (z .clear-row .kept .0) (s .pre), cleared-sum width _ (z .clear-row .ensures))
 
 same-length : tie.Need-same-length
 same-length c = search needs
 
 returns : tie.Need-returns
 returns c =
-    let s = c .before .before .before .before .before .before .before in
-    summed-is (length (s .args .out .now)) _ (s .args .table .now) _ _ (s .args .rows .now) (c .before .before .before .before .clear-row .ensures) (c .before .before .before .before .clear-row .kept .0) (c .before .add-rows .ensures)
+    let r = c .before in let z = cleared (r .before) in let a = begin z .args in
+    summed-is (length (a .out .now)) _ (a .table .now) _ _ (a .rows .now) (z .clear-row .ensures) (z .clear-row .kept .0) (r .add-rows .ensures)
 
 pub sum-features-spec : {M : Type 1} → statement M
 sum-features-spec = tie.close (tie.spec clear-row-requires add-rows-requires same-length returns)
