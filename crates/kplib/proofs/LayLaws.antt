@@ -53,8 +53,8 @@ module _ (at mid : ℕ) (sizes : List ℤ) (c c' : List ℕ) (z z' : List ℤ) (
 take-shorter : {A : Type 0} (k n : ℕ) (a b : List A) → k ≤ n → take n a ≡ take n b → take k a ≡ take k b
 take-shorter k n a b h e = sym (take-take k n a h) ∙ ap (λ (x : List _). take k x) e ∙ take-take k n b h
 
-module _ (p n d bits bit at : ℕ) (size : ℤ) (sizes : List ℤ) (codes : List ℕ) (listSizes : List ℤ) (y : Choosing p n d bits bit at size sizes codes listSizes) where
-  pub prefix-le : natAbs size ≤ 8388608
+module _ {p n d bits bit at : ℕ} {size : ℤ} {sizes : List ℤ} {codes : List ℕ} {listSizes : List ℤ} (y : Choosing p n d bits bit at size sizes codes listSizes) where
+  prefix-le : natAbs size ≤ 8388608
   prefix-le =
       subst (λ (z : ℤ). natAbs z ≤ 8388608) (sym (y .size-is))
       (size-le sizes (positionsOfBits 0 (length sizes) bits) (y .sized) (omega (arith, y .count, y .less, y .inside, y .few)))
@@ -114,23 +114,26 @@ module _ (p n d bits bit at : ℕ) (size : ℤ) (sizes : List ℤ) (codes : List
       go x zero k = let a : at + 0 ≡ at = omega arith in rw a x
       go x (suc i) k = absurd (not-suc-le-zero (le-of-suc-le-suc k))
 
-  module _ (h : p < length sizes) (nz : n ≡ 0 → ⊥) where
+  module _ (enough : n ≤ length sizes - p) (nz : n ≡ 0 → ⊥) where
+    pub position-left : p < length sizes
+    position-left = omega (arith, enough, nz)
+
     bits-next : positionsOfBits 0 (length sizes) (bits + bit) ≡ positionsOfBits 0 (length sizes) bits ++ (p ∷ [])
     bits-next =
         let z : 0 + p ≡ p = omega arith in
-        rw (y .bit-is, bits-more p (length sizes) 0 bits (y .low) h, z)
+        rw (y .bit-is, bits-more p (length sizes) 0 bits (y .low) position-left, z)
 
     bit-next : bit * 2 ≡ 2 ^ (p + 1)
     bit-next = rw (y .bit-is, add-one p) (sym (pow-suc 2 p))
 
-    pub taking : (more : ℤ) → more ≡ toZ w32 (ofZ w32 size) +ℤ getD sizes p (pos 0) → natAbs (getD sizes p (pos 0)) ≤ 131072
+    pub taking : {more : ℤ} → more ≡ toZ w32 (ofZ w32 size) +ℤ getD sizes p (pos 0)
         → Choosing (p + 1) (n - 1) (d + 1) (bits + bit) (bit * 2) at (toZ w32 (ofZ w32 more)) sizes codes listSizes
-    taking more f b =
+    taking {more} f =
         let g : more ≡ size +ℤ getD sizes p (pos 0) = f ∙ ap (λ (z : ℤ). z +ℤ getD sizes p (pos 0)) size-back in
-        let r : natAbs more ≤ 16777216 = omega (arith, ap natAbs g, add-le size (getD sizes p (pos 0)), prefix-le) in
+        let r : natAbs more ≤ 16777216 = omega (arith, ap natAbs g, add-le size (getD sizes p (pos 0)), y .sized .sized p, prefix-le) in
         record {
           few = y .few;
-          inside = omega arith;
+          inside = omega (arith, position-left);
           bit-is = bit-next;
           low = omega (arith, y .low, y .bit-is, bit-next);
           count = omega (arith, ap length bits-next, length-append (positionsOfBits 0 (length sizes) bits) (p ∷ []), y .count);
@@ -139,15 +142,16 @@ module _ (p n d bits bit at : ℕ) (size : ℤ) (sizes : List ℤ) (codes : List
           less = omega (arith, y .less);
           sized = y .sized;
           size-is = back more r ∙ g ∙ ap (λ (z : ℤ). z +ℤ getD sizes p (pos 0)) (y .size-is) ∙ sym (size-snoc sizes (positionsOfBits 0 (length sizes) bits) p) ∙ ap (λ (l : List ℕ). sizeOf sizes l) (sym bits-next);
-          room = omega (arith, split-length (length sizes) p n h nz, y .room);
+          room = omega (arith, split-length (length sizes) p n position-left nz, y .room);
           beside = y .beside;
         }
 
-    module _ (codes1 : List ℕ) (listSizes1 : List ℤ) (mid : ℕ) (w : Chosen (p + 1) (n - 1) (bits + bit) at sizes codes codes1 listSizes listSizes1 mid) (lc : length codes1 ≡ length codes) (ll : length listSizes1 ≡ length listSizes) where
+    module _ {codes1 : List ℕ} {listSizes1 : List ℤ} {mid : ℕ} (w : Chosen (p + 1) (n - 1) (bits + bit) at sizes codes codes1 listSizes listSizes1 mid)
+        (lc : length codes1 ≡ length codes) (ll : length listSizes1 ≡ length listSizes) where
       pub leaving : Choosing (p + 1) n d bits (bit * 2) mid (toZ w32 (ofZ w32 size)) sizes codes1 listSizes1
       leaving = record {
         few = y .few;
-        inside = omega arith;
+        inside = omega (arith, position-left);
         bit-is = bit-next;
         low = omega (arith, y .low, y .bit-is, bit-next);
         count = y .count;
@@ -156,22 +160,23 @@ module _ (p n d bits bit at : ℕ) (size : ℤ) (sizes : List ℤ) (codes : List
         less = omega (arith, y .less);
         sized = y .sized;
         size-is = size-back ∙ y .size-is;
-        room = omega (arith, split-length (length sizes) p n h nz, y .room, w .end);
+        room = omega (arith, split-length (length sizes) p n position-left nz, y .room, w .end);
         beside = ll ∙ y .beside ∙ sym lc;
       }
 
-      pub both-chosen : (codes2 : List ℕ) (listSizes2 : List ℤ) (r : ℕ) → Chosen (p + 1) n bits mid sizes codes1 codes2 listSizes1 listSizes2 r → Chosen p n bits at sizes codes codes2 listSizes listSizes2 r
-      both-chosen codes2 listSizes2 r v =
+      pub both-chosen : {codes2 : List ℕ} {listSizes2 : List ℤ} {r : ℕ} → Chosen (p + 1) n bits mid sizes codes1 codes2 listSizes1 listSizes2 r
+          → Chosen p n bits at sizes codes codes2 listSizes listSizes2 r
+      both-chosen {codes2} {listSizes2} v =
           let A = choices (length sizes - (p + 1)) (p + 1) (n - 1) in
           let L = map (λ (l : List ℕ). (positionsOfBits 0 (length sizes) bits ++ (p ∷ [])) ++ l) A in
           let R = map (λ (l : List ℕ). positionsOfBits 0 (length sizes) bits ++ l) (choices (length sizes - (p + 1)) (p + 1) n) in
           let le : at ≤ mid = omega (arith, w .end) in
           let g : mid ≡ at + length L = omega (arith, w .end, map-length (positionsOfBits 0 (length sizes) bits ++ (p ∷ [])) A) in
           record {
-            end = omega (arith, v .end, w .end, split-length (length sizes) p n h nz);
+            end = omega (arith, v .end, w .end, split-length (length sizes) p n position-left nz);
             codes-kept = take-shorter at mid codes2 codes1 le (v .codes-kept) ∙ w .codes-kept;
             sizes-kept = take-shorter at mid listSizes2 listSizes1 le (v .sizes-kept) ∙ w .sizes-kept;
-            laid = rw (split-under (length sizes) p n h nz (positionsOfBits 0 (length sizes) bits)) (laid-append at mid sizes codes1 codes2 listSizes1 listSizes2 L R g (v .codes-kept) (v .sizes-kept) (rw bits-next at (w .laid)) (v .laid));
+            laid = rw (split-under (length sizes) p n position-left nz (positionsOfBits 0 (length sizes) bits)) (laid-append at mid sizes codes1 codes2 listSizes1 listSizes2 L R g (v .codes-kept) (v .sizes-kept) (rw bits-next at (w .laid)) (v .laid));
           }
 
 -- ---- one length after another
@@ -187,7 +192,7 @@ Laying sizes i at codes listSizes =
 pub laying-starts : (sizes : List ℤ) (codes : List ℕ) (listSizes : List ℤ) → Laying sizes 0 0 codes listSizes
 laying-starts sizes codes listSizes = rw (falling-none (length sizes) (length sizes)) (refl, λ i k. absurd (not-suc-le-zero k))
 
-module _ (sizes : List ℤ) (lengths : ℕ) (codes₀ : List ℕ) (listSizes₀ : List ℤ) (y : LayingLengths sizes lengths codes₀ listSizes₀) (i at : ℕ) (h : i < lengths)
+module _ {sizes : List ℤ} {lengths : ℕ} {codes₀ : List ℕ} {listSizes₀ : List ℤ} (y : LayingLengths sizes lengths codes₀ listSizes₀) {i at : ℕ} (h : i < lengths)
     (codes : List ℕ) (listSizes : List ℤ) (lc : length codes ≡ length codes₀) (ll : length listSizes ≡ length listSizes₀) (v : Laying sizes i at codes listSizes) where
   all-left : length sizes - 0 ≡ length sizes
   all-left = omega arith
@@ -214,8 +219,8 @@ module _ (sizes : List ℤ) (lengths : ℕ) (codes₀ : List ℕ) (listSizes₀ 
     beside = ll ∙ y .beside ∙ sym lc;
   }
 
-  pub laying-turn : (codes' : List ℕ) (listSizes' : List ℤ) (r : ℕ) → Chosen 0 (length sizes - i) 0 at sizes codes codes' listSizes listSizes' r → Laying sizes (i + 1) r codes' listSizes'
-  laying-turn codes' listSizes' r w =
+  pub laying-turn : {codes' : List ℕ} {listSizes' : List ℤ} {r : ℕ} → Chosen 0 (length sizes - i) 0 at sizes codes codes' listSizes listSizes' r → Laying sizes (i + 1) r codes' listSizes'
+  laying-turn {codes'} {listSizes'} w =
       let R = choices (length sizes) 0 (length sizes - i) in
       let laid : LaidFrom sizes at codes' listSizes' R = rw (bits-zero 0 (length sizes), all-left, map-nil R) at (w .laid) in
       let g : at ≡ 0 + length (fallingLists (length sizes) i (length sizes)) = omega (arith, v .0) in (
@@ -224,17 +229,17 @@ module _ (sizes : List ℤ) (lengths : ℕ) (codes₀ : List ℕ) (listSizes₀ 
             (laid-append 0 at sizes codes codes' listSizes listSizes' (fallingLists (length sizes) i (length sizes)) R g (w .codes-kept) (w .sizes-kept) (v .1) laid),
       )
 
-pub laying-done : (sizes : List ℤ) (lengths : ℕ) (codes₀ : List ℕ) (listSizes₀ : List ℤ) → LayingLengths sizes lengths codes₀ listSizes₀ → (i at : ℕ) → i ≡ lengths
+pub laying-done : {sizes : List ℤ} {lengths : ℕ} {codes₀ : List ℕ} {listSizes₀ : List ℤ} → LayingLengths sizes lengths codes₀ listSizes₀ → {i at : ℕ} → i ≡ lengths
     → (codes : List ℕ) (listSizes : List ℤ) → Laying sizes i at codes listSizes → LaidLengths sizes lengths codes listSizes at
-laying-done sizes lengths codes₀ listSizes₀ y i at e codes listSizes v =
+laying-done {sizes} {lengths} y e codes listSizes v =
     let w = rw e at v in
     record { counted = w .0; laid = w .1; few = omega (arith, w .0, falling-few (length sizes) lengths (length sizes) (y .lengths-few) (y .few)) }
 
 -- ---- all the part lists
-module _ (s : Settings) (sizes : List ℤ) (codes : List ℕ) (listSizes : List ℤ) (y : Layable s sizes codes listSizes) where
-  pub whole-laid : (size : ℤ) → size ≡ sizeOf sizes (wholeOf (length sizes)) → s .pileupmax ≤ length sizes
+module _ {s : Settings} {sizes : List ℤ} {codes : List ℕ} {listSizes : List ℤ} (y : Layable s sizes codes listSizes) where
+  pub whole-laid : {size : ℤ} → size ≡ sizeOf sizes (wholeOf (length sizes)) → s .pileupmax ≤ length sizes
       → LaidDown s sizes (set codes 0 (65536 * length sizes)) (set listSizes 0 (toZ w32 (ofZ w32 size))) 1
-  whole-laid size e h =
+  whole-laid {size} e h =
       let m = length sizes in
       let only = whole-only m (s .fnmax) (s .pileupmax) h in
       let b : natAbs size ≤ 8388608 = subst (λ (z : ℤ). natAbs z ≤ 8388608) (sym e) (size-le sizes (wholeOf m) (y .sized) (omega (arith, whole-length m, y .sized .few))) in
@@ -258,10 +263,10 @@ module _ (s : Settings) (sizes : List ℤ) (codes : List ℕ) (listSizes : List 
       go size x zero k = rw (getD-set-same codes 0 (65536 * length sizes) 0 (omega (arith, y .room)), getD-set-same listSizes 0 size (pos 0) (omega (arith, y .room, y .beside))) x
       go size x (suc i) k = absurd (not-suc-le-zero (le-of-suc-le-suc k))
 
-  module _ (lengths : ℕ) (e : lengths ≡ lengthsOf (length sizes) (s .fnmax)) (f : lengths ≤ length sizes) (h : length sizes < s .pileupmax) where
-    pub lengths-laid : (codes' : List ℕ) (listSizes' : List ℤ) (r : ℕ) → length codes' ≡ length codes → length listSizes' ≡ length listSizes
+  module _ {lengths : ℕ} (e : lengths ≡ lengthsOf (length sizes) (s .fnmax)) (f : lengths ≤ length sizes) (h : length sizes < s .pileupmax) where
+    pub lengths-laid : {codes' : List ℕ} {listSizes' : List ℤ} {r : ℕ} → length codes' ≡ length codes → length listSizes' ≡ length listSizes
         → LaidLengths sizes lengths codes' listSizes' r → LaidDown s sizes codes' listSizes' r
-    lengths-laid codes' listSizes' r lc ll w =
+    lengths-laid lc ll w =
         let all : partLists (length sizes) (s .fnmax) (s .pileupmax) ≡ fallingLists (length sizes) lengths (length sizes) =
         all-lengths (length sizes) (s .fnmax) (s .pileupmax) h ∙ ap (λ (x : ℕ). fallingLists (length sizes) x (length sizes)) (sym e) in
         record {

@@ -99,7 +99,7 @@ nodes-same f g same best node (suc n) = rw (same best node) (nodes-same f g same
 
 -- whichever way a node is scored: where an anchor is no candidate, source and sink may be left out
 module _ (score : Total → Scored) (e : ℕ) (sizes features : List ℤ) where
-  abbrev nodeStep : Lone → ℕ → Lone
+  abbrev pub nodeStep : Lone → ℕ → Lone
   nodeStep best node = latestOf best node (score (nodeTotal e sizes features node))
 
   row-node : {r : ℕ} → r < length sizes → nodeTotal e sizes features (r + 1) ≡ rowTotal e sizes features r

@@ -2,7 +2,7 @@
 use native.Mathlib.Omega.{arith}
 use Prim.Native.Nat.{ℕ, _-_, _<_}
 use lib.ListN.{length, length-set}
-use Rattle.kplib.proofs.LayLaws.{size-ok, numbers, leaf-room, none-chosen, one-chosen, taking, leaving, both-chosen}
+use Rattle.kplib.proofs.LayLaws.{size-ok, numbers, leaf-room, none-chosen, one-chosen, position-left, taking, leaving, both-chosen}
 use borrow.Fn.Kinds.{In}
 use borrow.Fn.PlainCycle.{Measures, is, falls, and}
 use Rattle.kplib.proofs.haplotype.lay_choices.Reads as lay-choices
@@ -23,6 +23,33 @@ abbrev lay-choices-below : ℕ → In 3 lay-choices-kinds.ps
 lay-choices-below t =
     and 3 lay-choices-kinds.ps (falls 3 lay-choices-kinds.ps _<_ μ-lay-choices t) lay-choices.Pre
 
+-- the places that the proof speaks of
+abbrev summed : (t : ℕ) → lay-choices-lts.After-lay-choices-arg2 (
+  plus-part-reads.Asked,
+  plus-part-reads.Learnt,
+  lay-choices-below t,
+  lay-choices.Post,
+) (lay-choices-at t) lay-choices.Post → lay-choices-lts.After-plus-part (
+  plus-part-reads.Asked,
+  plus-part-reads.Learnt,
+  lay-choices-below t,
+  lay-choices.Post,
+) (lay-choices-at t) lay-choices.Post
+summed t c = c .before .before
+
+abbrev first : (t : ℕ) → lay-choices-lts.After-lay-choices-arg4 (
+  plus-part-reads.Asked,
+  plus-part-reads.Learnt,
+  lay-choices-below t,
+  lay-choices.Post,
+) (lay-choices-at t) lay-choices.Post → lay-choices-lts.After-lay-choices (
+  plus-part-reads.Asked,
+  plus-part-reads.Learnt,
+  lay-choices-below t,
+  lay-choices.Post,
+) (lay-choices-at t) lay-choices.Post
+first t c = c .before .before .before .before .before
+
 lay-choices-sub-if1 : (t : ℕ) → lay-choices-lts.Need-sub-if1 (
   plus-part-reads.Asked,
   plus-part-reads.Learnt,
@@ -39,7 +66,7 @@ lay-choices-returns : (t : ℕ) → lay-choices-lts.Need-returns (
 ) (lay-choices-at t) lay-choices.Post
 lay-choices-returns t c =
     let s = c .before .before in
-    none-chosen (s .args .p) (s .args .n) (s .args .d) (s .args .bits) (s .args .bit) (s .args .at) (s .args .size) (s .args .sizes .now) (s .args .codes .now) (s .args .totals .now) (s .pre .1) (c .if1 .taken)
+    none-chosen (s .pre .1) (c .if1 .taken)
 
 lay-choices-mul-codes : (t : ℕ) → lay-choices-lts.Need-mul-codes (
   plus-part-reads.Asked,
@@ -48,9 +75,7 @@ lay-choices-mul-codes : (t : ℕ) → lay-choices-lts.Need-mul-codes (
   lay-choices.Post,
 ) (lay-choices-at t) lay-choices.Post
 lay-choices-mul-codes t c =
-    let s = c .before .before .before in
-    let q = numbers (s .args .p) (s .args .n) (s .args .d) (s .args .bits) (s .args .bit) (s .args .at) (s .args .size) (s .args .sizes .now) (s .args .codes .now) (s .args .totals .now) (s .pre .1) in
-    omega arith
+    let s = c .before .before .before in omega (arith, numbers (s .pre .1))
 
 lay-choices-add-codes : (t : ℕ) → lay-choices-lts.Need-add-codes (
   plus-part-reads.Asked,
@@ -59,9 +84,7 @@ lay-choices-add-codes : (t : ℕ) → lay-choices-lts.Need-add-codes (
   lay-choices.Post,
 ) (lay-choices-at t) lay-choices.Post
 lay-choices-add-codes t c =
-    let s = c .before .before .before in
-    let q = numbers (s .args .p) (s .args .n) (s .args .d) (s .args .bits) (s .args .bit) (s .args .at) (s .args .size) (s .args .sizes .now) (s .args .codes .now) (s .args .totals .now) (s .pre .1) in
-    omega arith
+    let s = c .before .before .before in omega (arith, numbers (s .pre .1))
 
 lay-choices-mul-codes-2 : (t : ℕ) → lay-choices-lts.Need-mul-codes-2 (
   plus-part-reads.Asked,
@@ -79,7 +102,7 @@ lay-choices-slice-write-codes : (t : ℕ) → lay-choices-lts.Need-slice-write-c
 ) (lay-choices-at t) lay-choices.Post
 lay-choices-slice-write-codes t c =
     let s = c .before .before .before in
-    leaf-room (s .args .p) (s .args .n) (s .args .d) (s .args .bits) (s .args .bit) (s .args .at) (s .args .size) (s .args .sizes .now) (s .args .codes .now) (s .args .totals .now) (s .pre .1) (c .if2 .taken) .0
+    leaf-room (s .pre .1) (c .if2 .taken) .0
 
 lay-choices-mul-size : (t : ℕ) → lay-choices-lts.Need-mul-size (
   plus-part-reads.Asked,
@@ -97,7 +120,7 @@ lay-choices-slice-set-from-size : (t : ℕ) → lay-choices-lts.Need-slice-set-f
 ) (lay-choices-at t) lay-choices.Post
 lay-choices-slice-set-from-size t c =
     let s = c .before .before .before in
-    leaf-room (s .args .p) (s .args .n) (s .args .d) (s .args .bits) (s .args .bit) (s .args .at) (s .args .size) (s .args .sizes .now) (s .args .codes .now) (s .args .totals .now) (s .pre .1) (c .if2 .taken) .1
+    leaf-room (s .pre .1) (c .if2 .taken) .1
 
 lay-choices-add-result : (t : ℕ) → lay-choices-lts.Need-add-result (
   plus-part-reads.Asked,
@@ -133,7 +156,7 @@ lay-choices-returns-2 : (t : ℕ) → lay-choices-lts.Need-returns-2 (
 ) (lay-choices-at t) lay-choices.Post
 lay-choices-returns-2 t c =
     let s = c .before .before .before in
-    one-chosen (s .args .p) (s .args .n) (s .args .d) (s .args .bits) (s .args .bit) (s .args .at) (s .args .size) (s .args .sizes .now) (s .args .codes .now) (s .args .totals .now) (s .pre .1) (c .if2 .taken)
+    one-chosen (s .pre .1) (c .if2 .taken)
 
 lay-choices-add-q : (t : ℕ) → lay-choices-lts.Need-add-q (
   plus-part-reads.Asked,
@@ -150,9 +173,7 @@ lay-choices-mul-next : (t : ℕ) → lay-choices-lts.Need-mul-next (
   lay-choices.Post,
 ) (lay-choices-at t) lay-choices.Post
 lay-choices-mul-next t c =
-    let s = c .before .before .before in
-    let q = numbers (s .args .p) (s .args .n) (s .args .d) (s .args .bits) (s .args .bit) (s .args .at) (s .args .size) (s .args .sizes .now) (s .args .codes .now) (s .args .totals .now) (s .pre .1) in
-    omega arith
+    let s = c .before .before .before in omega (arith, numbers (s .pre .1))
 
 lay-choices-add-taken : (t : ℕ) → lay-choices-lts.Need-add-taken (
   plus-part-reads.Asked,
@@ -161,9 +182,7 @@ lay-choices-add-taken : (t : ℕ) → lay-choices-lts.Need-add-taken (
   lay-choices.Post,
 ) (lay-choices-at t) lay-choices.Post
 lay-choices-add-taken t c =
-    let s = c .before .before .before in
-    let q = numbers (s .args .p) (s .args .n) (s .args .d) (s .args .bits) (s .args .bit) (s .args .at) (s .args .size) (s .args .sizes .now) (s .args .codes .now) (s .args .totals .now) (s .pre .1) in
-    omega arith
+    let s = c .before .before .before in omega (arith, numbers (s .pre .1))
 
 lay-choices-plus-part-requires : (t : ℕ) → lay-choices-lts.Need-plus-part-requires (
   plus-part-reads.Asked,
@@ -173,7 +192,7 @@ lay-choices-plus-part-requires : (t : ℕ) → lay-choices-lts.Need-plus-part-re
 ) (lay-choices-at t) lay-choices.Post
 lay-choices-plus-part-requires t c κs =
     let s = c .before .before .before in
-    (size-ok (s .args .p) (s .args .n) (s .args .d) (s .args .bits) (s .args .bit) (s .args .at) (s .args .size) (s .args .sizes .now) (s .args .codes .now) (s .args .totals .now) (s .pre .1), omega arith, s .pre .1 .sized)
+    (size-ok (s .pre .1), omega arith, s .pre .1 .sized)
 
 lay-choices-sub-lay-choices : (t : ℕ) → lay-choices-lts.Need-sub-lay-choices (
   plus-part-reads.Asked,
@@ -190,9 +209,7 @@ lay-choices-add-lay-choices : (t : ℕ) → lay-choices-lts.Need-add-lay-choices
   lay-choices.Post,
 ) (lay-choices-at t) lay-choices.Post
 lay-choices-add-lay-choices t c =
-    let s = c .before .before .before .before in
-    let q = numbers (s .args .p) (s .args .n) (s .args .d) (s .args .bits) (s .args .bit) (s .args .at) (s .args .size) (s .args .sizes .now) (s .args .codes .now) (s .args .totals .now) (s .pre .1) in
-    omega arith
+    let s = c .before .before .before .before in omega (arith, numbers (s .pre .1))
 
 lay-choices-lay-choices-requires : (t : ℕ) → lay-choices-lts.Need-lay-choices-requires (
   plus-part-reads.Asked,
@@ -201,9 +218,10 @@ lay-choices-lay-choices-requires : (t : ℕ) → lay-choices-lts.Need-lay-choice
   lay-choices.Post,
 ) (lay-choices-at t) lay-choices.Post
 lay-choices-lay-choices-requires t c κs =
-    let s = c .before .before .before .before .before .before in
-    let h : s .args .p < length (s .args .sizes .now) = omega (arith, c .before .before .before .before .if1 .left, c .before .before .before .if2 .left, s .pre .1 .inside) in
-    (omega (arith, s .pre .0), taking (s .args .p) (s .args .n) (s .args .d) (s .args .bits) (s .args .bit) (s .args .at) (s .args .size) (s .args .sizes .now) (s .args .codes .now) (s .args .totals .now) (s .pre .1) h (c .before .before .before .if2 .left) _ (c .before .before .plus-part .ensures) (s .pre .1 .sized .sized (s .args .p)))
+    let a = summed t c in let e = a .before in let s = e .before .before .before in (
+      omega (arith, s .pre .0, position-left (s .pre .1) (e .before .if1 .left) (e .if2 .left)),
+      taking (s .pre .1) (e .before .if1 .left) (e .if2 .left) (a .plus-part .ensures),
+    )
 
 lay-choices-lay-choices-requires-2 : (t : ℕ) → lay-choices-lts.Need-lay-choices-requires-2 (
   plus-part-reads.Asked,
@@ -212,9 +230,10 @@ lay-choices-lay-choices-requires-2 : (t : ℕ) → lay-choices-lts.Need-lay-choi
   lay-choices.Post,
 ) (lay-choices-at t) lay-choices.Post
 lay-choices-lay-choices-requires-2 t c κs =
-    let s = c .before .before .before .before .before .before .before .before .before .before .before .before in
-    let h : s .args .p < length (s .args .sizes .now) = omega (arith, c .before .before .before .before .before .before .before .before .before .before .if1 .left, c .before .before .before .before .before .before .before .before .before .if2 .left, s .pre .1 .inside) in
-    (omega (arith, s .pre .0), leaving (s .args .p) (s .args .n) (s .args .d) (s .args .bits) (s .args .bit) (s .args .at) (s .args .size) (s .args .sizes .now) (s .args .codes .now) (s .args .totals .now) (s .pre .1) h (c .before .before .before .before .before .before .before .before .before .if2 .left) _ _ _ (c .before .before .before .before .before .lay-choices .ensures) (c .before .before .before .before .before .lay-choices .kept .1 .1 .1 .1 .1 .1 .1 .1 .0) (c .before .before .before .before .before .lay-choices .kept .1 .1 .1 .1 .1 .1 .1 .1 .1 .0))
+    let f = first t c in let e = summed t (f .before) .before in let s = e .before .before .before in (
+      omega (arith, s .pre .0, position-left (s .pre .1) (e .before .if1 .left) (e .if2 .left)),
+      leaving (s .pre .1) (e .before .if1 .left) (e .if2 .left) (f .lay-choices .ensures) (f .lay-choices .kept .1 .1 .1 .1 .1 .1 .1 .1 .0) (f .lay-choices .kept .1 .1 .1 .1 .1 .1 .1 .1 .1 .0),
+    )
 
 lay-choices-same-length-3 : (t : ℕ) → lay-choices-lts.Need-same-length-3 (
   plus-part-reads.Asked,
@@ -239,9 +258,9 @@ lay-choices-returns-3 : (t : ℕ) → lay-choices-lts.Need-returns-3 (
   lay-choices.Post,
 ) (lay-choices-at t) lay-choices.Post
 lay-choices-returns-3 t c =
-    let s = c .before .before .before .before .before .before .before .before .before .before .before .before .before .before .before .before in
-    let h : s .args .p < length (s .args .sizes .now) = omega (arith, c .before .before .before .before .before .before .before .before .before .before .before .before .before .before .if1 .left, c .before .before .before .before .before .before .before .before .before .before .before .before .before .if2 .left, s .pre .1 .inside) in
-    both-chosen (s .args .p) (s .args .n) (s .args .d) (s .args .bits) (s .args .bit) (s .args .at) (s .args .size) (s .args .sizes .now) (s .args .codes .now) (s .args .totals .now) (s .pre .1) h (c .before .before .before .before .before .before .before .before .before .before .before .before .before .if2 .left) _ _ _ (c .before .before .before .before .before .before .before .before .before .lay-choices .ensures) (c .before .before .before .before .before .before .before .before .before .lay-choices .kept .1 .1 .1 .1 .1 .1 .1 .1 .0) (c .before .before .before .before .before .before .before .before .before .lay-choices .kept .1 .1 .1 .1 .1 .1 .1 .1 .1 .0) _ _ _ (c .before .before .before .lay-choices2 .ensures)
+    let r = c .before .before .before in let f = first t (r .before) in let e = summed t (f .before) .before in let s = e .before .before .before in
+    both-chosen (s .pre .1) (e .before .if1 .left) (e .if2 .left) (f .lay-choices .ensures) (f .lay-choices .kept .1 .1 .1 .1 .1 .1 .1 .1 .0)
+    (f .lay-choices .kept .1 .1 .1 .1 .1 .1 .1 .1 .1 .0) (r .lay-choices2 .ensures)
 
 pub +lay-choices-spec : {M : Type 1} → statement M
 +lay-choices-spec = close μ-lay-choices λ t. lay-choices-lts.spec (

@@ -4,6 +4,16 @@ use borrow.Author.Needs.{needs}
 use Rattle.kplib.proofs.haplotype.lay_lists.Statement.{statement}
 use Rattle.kplib.proofs.haplotype.lay_lists.Tie as tie
 
+-- the places that the proof speaks of
+abbrev begin : tie.After-struct-known → tie.Start
+begin c = c .before .before
+
+abbrev counted : tie.After-lay-lengths → tie.After-lengths-of
+counted c = c .before .before .before
+
+abbrev laid : tie.After-list-sizes → tie.After-lay-lengths
+laid c = c .before .before .before
+
 cast-if1 : tie.Need-cast-if1
 cast-if1 c = search needs
 
@@ -29,9 +39,7 @@ same-length-2 : tie.Need-same-length-2
 same-length-2 c = search needs
 
 returns : tie.Need-returns
-returns c =
-    let s = c .before .before .before .before in
-    whole-laid (s .args .s) (s .args .part-sizes .now) (s .args .codes .now) (s .args .list-sizes .now) (s .pre) _ (c .whole-size .ensures) (c .before .if1 .taken)
+returns c = let t = c .before in whole-laid (begin (t .before) .pre) (c .whole-size .ensures) (t .if1 .taken)
 
 lengths-of-requires : tie.Need-lengths-of-requires
 lengths-of-requires c κs = search needs
@@ -47,9 +55,9 @@ same-length-4 c = search needs
 
 returns-2 : tie.Need-returns-2
 returns-2 c =
-    let s = c .before .before .before .before .before .before .before .before .before .before in
-    let k = c .before .before .before .lay-lengths in
-    lengths-laid (s .args .s) (s .args .part-sizes .now) (s .args .codes .now) (s .args .list-sizes .now) (s .pre) _ (c .before .before .before .before .before .before .lengths-of .ensures .0) (c .before .before .before .before .before .before .lengths-of .ensures .1) (c .before .before .before .before .before .before .before .if1 .left) _ _ _ (k .kept .1 .1 .0) (k .kept .1 .1 .1 .0) (k .ensures)
+    let l = laid c in let n = counted l in let e = n .before in
+    lengths-laid (begin (e .before) .pre) (n .lengths-of .ensures .0) (n .lengths-of .ensures .1) (e .if1 .left) (l .lay-lengths .kept .1 .1 .0) (l .lay-lengths .kept .1 .1 .1 .0)
+    (l .lay-lengths .ensures)
 
 pub lay-lists-spec : {M : Type 1} → statement M
 lay-lists-spec =
