@@ -123,7 +123,8 @@ module _ {sizes : List ℤ} {rows : List ℕ} {size : ℤ} {i : ℕ} (h : Rowed 
   next-small = omega (arith, v .small, add-le size (getD sizes (getD rows i 0) (pos 0)), h .sized .sized (getD rows i 0))
 
   pub summing-fits : SFits w32 (size +ℤ toZ w32 (ofZ w32 (getD sizes (getD rows i 0) (pos 0))))
-  summing-fits = rw (back (getD sizes (getD rows i 0) (pos 0)) (omega (arith, h .sized .sized (getD rows i 0)))) (fits (size +ℤ getD sizes (getD rows i 0) (pos 0)) (omega (arith, next-small, h .most)))
+  summing-fits =
+      rw (back (getD sizes (getD rows i 0) (pos 0)) (omega (arith, h .sized .sized (getD rows i 0)))) (fits (size +ℤ getD sizes (getD rows i 0) (pos 0)) (omega (arith, next-small, h .most)))
 
   pub summing-on : Summing sizes rows (toZ w32 (ofZ w32 (size +ℤ toZ w32 (ofZ w32 (getD sizes (getD rows i 0) (pos 0)))))) (i + 1)
   unfolding sizeFrom

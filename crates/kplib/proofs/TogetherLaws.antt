@@ -66,18 +66,21 @@ extends-same joins joins′ v same full (r ∷ c) s l = go (leb (suc r) s) refl
     go false e = refl
 
 module _ (starts ends : List ℕ) (together : List Bool) (laid : Together (edge starts ends) (length starts) together) where
+  -- the flags extend a chain as the graph's rule does
+  extends-in : (full : Bool) (c : List ℕ) (s : ℕ) → isChain (mayFollow (flagOf together) full) (length starts) c ≡ true → s < length starts
+      → extends (mayFollow (flagOf together) full) c s ≡ extends (mayFollowIn starts ends full) c s
+  extends-in full c s h l = extends-same (flagOf together) (edge starts ends) (length starts) laid full c s l
+
   -- the search by the flags is the search by the graph's rule
   pub ended-in : {R : Type 0} {le : R → R → Bool} {start : R} {score : List ℕ → R} {full : Bool} {D : List ℕ → ℕ} {steps k : ℕ} {b : R} {complete : Bool}
       → Ended le start score (mayFollow (flagOf together) full) (length starts) D steps k b complete → Ended le start score (mayFollowIn starts ends full) (length starts) D steps k b complete
-  ended-in {R} {le} {start} {score} {full} {D} {steps} h =
-      let same : (c : List ℕ) (s : ℕ) → isChain (mayFollow (flagOf together) full) (length starts) c ≡ true → s < length starts
-      → extends (mayFollow (flagOf together) full) c s ≡ extends (mayFollowIn starts ends full) c s = λ c s chain l. extends-same (flagOf together) (edge starts ends) (length starts) laid full c s l in
-      let q = scored-same (mayFollow (flagOf together) full) (mayFollowIn starts ends full) (length starts) same D steps in
-      let w = left-same (mayFollow (flagOf together) full) (mayFollowIn starts ends full) (length starts) same D steps in
+  ended-in {le = le} {start = start} {score = score} {full = full} {D = D} {steps = steps} h =
+      let scored = scored-same (mayFollow (flagOf together) full) (mayFollowIn starts ends full) (length starts) (extends-in full) D steps in
+      let left = left-same (mayFollow (flagOf together) full) (mayFollowIn starts ends full) (length starts) (extends-in full) D steps in
       record {
-        best-is = h .best-is ∙ ap (λ (l : List (List ℕ)). best le start (map score l)) q;
-        count-is = h .count-is ∙ ap length q;
-        complete-is = h .complete-is ∙ ap none w;
+        best-is = h .best-is ∙ ap (λ (l : List (List ℕ)). best le start (map score l)) scored;
+        count-is = h .count-is ∙ ap length scored;
+        complete-is = h .complete-is ∙ ap none left;
       }
 
   -- and so is the count

@@ -67,16 +67,20 @@ module _ (f g : List ℕ → ℕ → Bool) (v : ℕ) (same : (c : List ℕ) (s :
       go true e ih = (chain-longer f v k c h l e, ih)
       go false e ih = ih
 
+  all-same : (c : List ℕ) → isChain f v c ≡ true → extensions f v c ≡ extensions g v c
+  all-same c h = extensions-same c h v (omega arith)
+
+  all-chains : (c : List ℕ) → isChain f v c ≡ true → All (λ e. isChain f v e ≡ true) (extensions f v c)
+  all-chains c h = extensions-chains c h v (omega arith)
+
   module _ (D : List ℕ → ℕ) (steps : ℕ) where
     pub scored-same : scoredChains f v D steps ≡ scoredChains g v D steps
     unfolding isChain
-    scored-same =
-        all-scored-same D (λ c. isChain f v c ≡ true) (λ c. extensions f v c) (λ c. extensions g v c) (λ c h. extensions-same c h v (omega arith)) (λ c h. extensions-chains c h v (omega arith)) steps ([] ∷ []) (refl, tt)
+    scored-same = all-scored-same D (λ c. isChain f v c ≡ true) (λ c. extensions f v c) (λ c. extensions g v c) all-same all-chains steps ([] ∷ []) (refl, tt)
 
     pub left-same : leftChains f v D steps ≡ leftChains g v D steps
     unfolding isChain
-    left-same =
-        all-left-same D (λ c. isChain f v c ≡ true) (λ c. extensions f v c) (λ c. extensions g v c) (λ c h. extensions-same c h v (omega arith)) (λ c h. extensions-chains c h v (omega arith)) steps ([] ∷ []) (refl, tt)
+    left-same = all-left-same D (λ c. isChain f v c ≡ true) (λ c. extensions f v c) (λ c. extensions g v c) all-same all-chains steps ([] ∷ []) (refl, tt)
 
 -- ---- the count
 sumRows-same : (p q : ℕ → Bool) (w w′ : ℕ → ℕ) (k : ℕ) → ((s : ℕ) → s < k → p s ≡ q s) → ((s : ℕ) → w s ≡ w′ s) → sumRows p w k ≡ sumRows q w′ k

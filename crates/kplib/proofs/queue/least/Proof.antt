@@ -15,6 +15,13 @@ Inv-loop keys queued place₀ at₀ place at = (at ≤ queued) × Least keys at 
 abbrev μ-loop : tie.MeasureT-loop
 μ-loop keys queued place₀ at₀ place at = queued - at
 
+-- the places: a turn of the loop, and the call's beginning
+abbrev turn : tie.After-may-hold-below Inv-loop μ-loop → tie.At-loop Inv-loop μ-loop
+turn c = c .before .before .before
+
+abbrev begun : tie.At-loop Inv-loop μ-loop → tie.Start Inv-loop μ-loop
+begun l = l .before .before
+
 loop-holds : tie.Need-loop-holds Inv-loop μ-loop
 loop-holds c = (omega arith, one (now (c .before .args .keys)))
 
@@ -37,7 +44,7 @@ add-least-through : tie.Need-add-least-through Inv-loop μ-loop
 add-least-through c = omega arith
 
 least-through-requires : tie.Need-least-through-requires Inv-loop μ-loop
-least-through-requires c κs = (omega arith, omega arith, c .before .before .before .before .loop .inv .1)
+least-through-requires c κs = (omega arith, omega arith, turn (c .before) .loop .inv .1)
 
 add-at : tie.Need-add-at Inv-loop μ-loop
 add-at c = omega arith
@@ -47,8 +54,8 @@ loop-less c = omega arith
 
 loop-again : tie.Need-loop-again Inv-loop μ-loop
 loop-again c =
-    let l = c .before .before .before .before .loop in
-    let k = now (c .before .before .before .before .before .before .args .keys) in
+    let l = turn (c .before) .loop in
+    let k = now (begun (turn (c .before)) .args .keys) in
     ⊎-elim (λ w. (omega arith, rw (w .2) (w .1 .ensures)))
     (λ w. (omega arith, rw (w .1) (passed-over k (l .at) _ (l .place) (l .inv .1) (omega arith) (c .before .may-hold-below .ensures (w .0 .left))))) (c .if1 .came)
 

@@ -15,6 +15,13 @@ Inv-loop keys place from to at₀ i₀ at i = (i ≤ to) × Least keys i at
 abbrev μ-loop : tie.MeasureT-loop
 μ-loop keys place from to at₀ i₀ at i = to - i
 
+-- the places: a turn of the loop, and the call's beginning
+abbrev turn : tie.Joined1 Inv-loop μ-loop → tie.At-loop Inv-loop μ-loop
+turn c = c .before .before .before .before
+
+abbrev begun : tie.At-loop Inv-loop μ-loop → tie.Start Inv-loop μ-loop
+begun l = l .before
+
 loop-holds : tie.Need-loop-holds Inv-loop μ-loop
 loop-holds c = (c .pre .0, c .pre .2)
 
@@ -38,14 +45,14 @@ loop-less c = omega arith
 
 loop-again : tie.Need-loop-again Inv-loop μ-loop
 loop-again c =
-    let l = c .before .before .before .before .loop in
-    let k = now (c .before .before .before .before .before .args .keys) in
+    let l = turn c .loop in
+    let k = now (begun (turn c) .args .keys) in
     ⊎-elim (λ w. (omega arith, rw (w .1) (nearer k (l .i) (l .at) (l .inv .1) (w .0 .taken))))
     (λ w. (omega arith, rw (w .1) (farther k (l .i) (l .at) (l .inv .1) (w .0 .left)))) (c .if1 .came)
 
 returns : tie.Need-returns Inv-loop μ-loop
 returns c =
-    let e : c .before .loop .i ≡ c .before .before .args .to = omega arith in
+    let e : c .before .loop .i ≡ begun (c .before) .args .to = omega arith in
     rw e at (c .before .loop .inv .1)
 
 pub least-through-spec : {M : Type 1} → statement M

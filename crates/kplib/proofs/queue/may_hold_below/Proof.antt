@@ -15,6 +15,13 @@ Inv-loop keys from to key seen₀ i₀ seen i = seen < 9223372036854775808 → (
 abbrev μ-loop : tie.MeasureT-loop
 μ-loop keys from to key seen₀ i₀ seen i = to - i
 
+-- the places: a turn of the loop, and the call's beginning
+abbrev turn : tie.After-wrapping-sub-u64 Inv-loop μ-loop → tie.At-loop Inv-loop μ-loop
+turn c = c .before .before .before
+
+abbrev begun : tie.At-loop Inv-loop μ-loop → tie.Start Inv-loop μ-loop
+begun l = l .before .before
+
 loop-holds : tie.Need-loop-holds Inv-loop μ-loop
 loop-holds c = λ h. (h, λ j l m. absurd (omega arith))
 
@@ -35,8 +42,8 @@ loop-less c = omega arith
 
 loop-again : tie.Need-loop-again Inv-loop μ-loop
 loop-again c =
-    let l = c .before .before .before .loop in
-    none-more (now (c .before .before .before .before .before .args .keys)) _ _ (l .i) (l .seen) _ (l .inv) (omega (arith, c .wrapping-sub-u64 .ok)) (c .wrapping-sub-u64 .ensures)
+    let l = turn c .loop in
+    none-more (now (begun (turn c) .args .keys)) _ _ (l .i) (l .seen) _ (l .inv) (omega (arith, c .wrapping-sub-u64 .ok)) (c .wrapping-sub-u64 .ensures)
 
 returns : tie.Need-returns Inv-loop μ-loop
 returns c = λ h j l m. c .before .loop .inv (leb-false _ _ h) .1 j (omega arith) m

@@ -2,7 +2,8 @@
 use mathlib.Core.Path.{_≡_, refl, _∙_}
 use Prim.Native.Nat.{ℕ, _-_, _≤_, _<_}
 use native.Mathlib.Omega.{arith}
-use mathlib.Core.Bool.{true}
+use mathlib.Core.Bool.{Bool, true}
+use mathlib.Core.List.{List}
 use lib.ListN.{length, length-set}
 use Rattle.paths.proofs.QueueLaws.{Queueing, queueing-begin, queueing-skip, queueing-done}
 use Rattle.paths.specs.Chains.{extends}
@@ -41,8 +42,10 @@ row c = turn c .loop .r - 1
 row-in : (c : tie.After-extends Inv-loop μ-loop) → row c < length (told c .args .sizes .now)
 row-in c = omega (arith, c .before .loop-test .taken, turn c .loop .inv .0)
 
-extending : (c : tie.Then1 Inv-loop μ-loop)
-    → extends (followsBy (told (c .before) .args .plan) (told (c .before) .args .together .now)) (chainOf (told (c .before) .args .links .now) (told (c .before) .args .entry)) (row (c .before)) ≡ true
+abbrev follows : tie.After-extends Inv-loop μ-loop → List ℕ → ℕ → Bool
+follows c = followsBy (told c .args .plan) (told c .args .together .now)
+
+extending : (c : tie.Then1 Inv-loop μ-loop) → extends (follows (c .before)) (chainOf (told (c .before) .args .links .now) (told (c .before) .args .entry)) (row (c .before)) ≡ true
 extending c = found (told (c .before) .pre) (row (c .before)) (c .before .extends .ensures) ∙ c .if1 .taken
 
 cast-parent : tie.Need-cast-parent Inv-loop μ-loop

@@ -15,6 +15,13 @@ Inv-loop sizes rows size₀ i₀ size i = (i ≤ length rows) × Summing sizes r
 abbrev μ-loop : tie.MeasureT-loop
 μ-loop sizes rows size₀ i₀ size i = length rows - i
 
+-- the places: a turn of the loop, and the call's beginning
+abbrev turn : tie.After-shared-slice-known Inv-loop μ-loop → tie.At-loop Inv-loop μ-loop
+turn c = c .before .before
+
+abbrev begun : tie.At-loop Inv-loop μ-loop → tie.Start Inv-loop μ-loop
+begun l = l .before
+
 loop-holds : tie.Need-loop-holds Inv-loop μ-loop
 loop-holds c = (omega arith, summing-begin (now (c .args .sizes)) (now (c .args .rows)))
 
@@ -25,16 +32,16 @@ shared-slice-read-r : tie.Need-shared-slice-read-r Inv-loop μ-loop
 shared-slice-read-r c = omega arith
 
 cast-r : tie.Need-cast-r Inv-loop μ-loop
-cast-r c = record { fits = omega (arith, c .shared-slice-known .given (c .before .before .loop .i)) }
+cast-r c = record { fits = omega (arith, c .shared-slice-known .given (turn c .loop .i)) }
 
 mul-size : tie.Need-mul-size Inv-loop μ-loop
-mul-size c = record { fits = omega (arith, c .before .before .before .pre .sized .few, below-at (now (c .before .before .before .args .rows)) (c .before .before .loop .i) (omega arith) (c .before .before .before .pre .within)) }
+mul-size c = record { fits = omega (arith, begun (turn c) .pre .sized .few, below-at (now (begun (turn c) .args .rows)) (turn c .loop .i) (omega arith) (begun (turn c) .pre .within)) }
 
 shared-slice-copy-out-size : tie.Need-shared-slice-copy-out-size Inv-loop μ-loop
-shared-slice-copy-out-size c = below-at (now (c .before .before .before .args .rows)) (c .before .before .loop .i) (omega arith) (c .before .before .before .pre .within)
+shared-slice-copy-out-size c = below-at (now (begun (turn c) .args .rows)) (turn c .loop .i) (omega arith) (begun (turn c) .pre .within)
 
 add-size : tie.Need-add-size Inv-loop μ-loop
-add-size c = summing-fits (c .before .before .before .before .pre) (c .before .before .before .loop .inv .1) (omega arith)
+add-size c = summing-fits (begun (turn (c .before)) .pre) (turn (c .before) .loop .inv .1) (omega arith)
 
 add-i : tie.Need-add-i Inv-loop μ-loop
 add-i c = omega arith
@@ -43,7 +50,7 @@ loop-less : tie.Need-loop-less Inv-loop μ-loop
 loop-less c = omega arith
 
 loop-again : tie.Need-loop-again Inv-loop μ-loop
-loop-again c = (omega arith, summing-on (c .before .before .before .before .pre) (c .before .before .before .loop .inv .1) (omega arith))
+loop-again c = (omega arith, summing-on (begun (turn (c .before)) .pre) (turn (c .before) .loop .inv .1) (omega arith))
 
 returns : tie.Need-returns Inv-loop μ-loop
 returns c = summing-done (c .before .loop .inv .1) (omega arith)

@@ -15,6 +15,13 @@ Inv-loop keys₀ queued place i₀ keys i =
 abbrev μ-loop : tie.MeasureT-loop
 μ-loop keys₀ queued place i₀ keys i = queued - i
 
+-- the places: a turn of the loop, and the call's beginning
+abbrev turn : tie.After-slice-known Inv-loop μ-loop → tie.At-loop Inv-loop μ-loop
+turn c = c .before .before
+
+abbrev begun : tie.At-loop Inv-loop μ-loop → tie.Start Inv-loop μ-loop
+begun l = l .before
+
 add-i : tie.Need-add-i Inv-loop μ-loop
 add-i c = omega arith
 
@@ -47,8 +54,8 @@ loop-less c = omega arith
 
 loop-again : tie.Need-loop-again Inv-loop μ-loop
 loop-again c =
-    let l = c .before .before .loop in
-    let n = c .before .before .before .args .queued in
+    let l = turn c .loop in
+    let n = begun (turn c) .args .queued in
     let e : l .i + 1 - 1 ≡ l .i = omega arith in
     (omega arith, omega arith, simp length-set (l .inv .2), rw e (shift-on (l .keys) n (l .i) (l .inv .0) (omega arith) (omega arith) ∙ l .inv .3))
 
@@ -58,7 +65,7 @@ same-length c = omega arith
 returns : tie.Need-returns Inv-loop μ-loop
 returns c =
     let l = c .before .loop in
-    let n = c .before .before .args .queued in
+    let n = begun (c .before) .args .queued in
     let e : l .i ≡ n = omega arith in
     sym (shift-done (l .keys) n (omega arith) (omega arith)) ∙ (rw e at (l .inv .3))
 
