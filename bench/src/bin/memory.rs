@@ -1,4 +1,4 @@
-//! What each side's queue holds in a search, in bytes. Ours is the room that the caller lends, three slices; the Rust's is
+//! What each side's queue holds in a search, in bytes. Ours is the room that the caller lends, two slices; the Rust's is
 //! counted by this program's allocator: the most that the call held, less what its part lists take.
 //! A command of its own, so that counting slows no timed call.
 use bench::cases::{shapes, Case};
