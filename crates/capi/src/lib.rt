@@ -2,7 +2,7 @@
 ghost use Rattle.capi.specs.Promises.{NdSeqToKmerPromise, NdSeqsimPromise, NdSizesimPromise, NdCountChainsPromise, NdAnswerPromise, NdApplyHaplotypePromise};
 use crate::report::put_report;
 use crate::words::length_word;
-use crate::words::settings_of;
+use crate::words::settings_of_words;
 use kplib::vargraph::ChainCount;
 use metrics::Sim;
 use metrics::kmer::Counted;
@@ -107,7 +107,7 @@ pub extern "C" fn nd_apply_haplotype(
         (now («part_sizes» .entry)) (now («part_features» .entry)) (now (links .entry)) (now (keys .entry)) (now (rows .entry)) (now (report .entry))
         (now (links .exit)) (now (keys .exit)) (now (rows .exit)) (now (report .exit)) r ⌝ }
 {
-    let s = settings_of(settings);
+    let s = settings_of_words(settings);
     let answer = kplib::traverse::apply_haplotype(
         s,
         starts,

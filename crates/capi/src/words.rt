@@ -8,26 +8,26 @@ use fields::float_of;
 use params::Settings;
 
 // A byte holds no larger k than 255, which is refused as any larger one is.
-fn byte_of(word: u32) -> u8
+fn byte_of_word(word: u32) -> u8
     ensures { λ r. ⌜ r ≡ byteHeld word ⌝ }
 {
     if 255 < word { 255 } else { word as u8 }
 }
 
-fn flag_of(word: u32) -> bool
+fn flag_of_word(word: u32) -> bool
     ensures { λ r. ⌜ r ≡ flagOfWord word ⌝ }
 {
     word != 0
 }
 
-pub(crate) fn settings_of(words: &[u32; 13]) -> Settings
+pub(crate) fn settings_of_words(words: &[u32; 13]) -> Settings
     ensures { λ r. ⌜ r ≡ settingsHeld (settingsOfWords (now (words .entry))) ⌝ }
 {
     Settings {
-        k: byte_of(words[0]),
-        squish: flag_of(words[1]),
-        one_to_one: flag_of(words[2]),
-        full: flag_of(words[3]),
+        k: byte_of_word(words[0]),
+        squish: flag_of_word(words[1]),
+        one_to_one: flag_of_word(words[2]),
+        full: flag_of_word(words[3]),
         maxpaths: words[4],
         maxnodes: words[5],
         fnmax: words[6],

@@ -14,11 +14,11 @@ abbrev searched : tie.After-put-report-arg → tie.After-apply-haplotype
 searched c = c .before .before .before .before .before .before .before
 
 -- the settings, before the slices are lent
-abbrev settled : tie.After-apply-haplotype → tie.After-settings-of
+abbrev settled : tie.After-apply-haplotype → tie.After-settings-of-words
 settled c = c .before .before .before .before
 
-settings-of-requires : tie.Need-settings-of-requires
-settings-of-requires c κs = search needs
+settings-of-words-requires : tie.Need-settings-of-words-requires
+settings-of-words-requires c κs = search needs
 
 apply-haplotype-requires : tie.Need-apply-haplotype-requires
 apply-haplotype-requires c κs = search needs
@@ -39,7 +39,7 @@ returns : tie.Need-returns
 returns c =
     let found = searched (c .before) in
     let promised = found .apply-haplotype .ensures in
-    let alike = held-alike _ _ _ _ _ (settled found .settings-of .ensures) in
+    let alike = held-alike _ _ _ _ _ (settled found .settings-of-words .ensures) in
     let answer = promised .0 ∙ alike .answer in
     let queue = promised .1 .1 in (
       ap (λ a. a .refusal) answer,
@@ -50,7 +50,7 @@ pub nd-apply-haplotype-spec : {M : Type 1} → statement M
 nd-apply-haplotype-spec =
     tie.close
     (tie.spec
-    settings-of-requires
+    settings-of-words-requires
     apply-haplotype-requires
     put-report-requires
     same-length

@@ -2,90 +2,69 @@
 use mathlib.Core.Path.{refl}
 use Rattle.capi.specs.Words.{settingsOfWords}
 use borrow.Author.Needs.{needs}
-use Rattle.capi.proofs.words.settings_of.Statement.{statement}
-use Rattle.capi.proofs.words.settings_of.Tie as tie
+use Rattle.capi.proofs.words.settings_of_words.Statement.{statement}
+use Rattle.capi.proofs.words.settings_of_words.Tie as tie
 
--- src/words.rt:35:20
-element-copy-out-byte-of : tie.Need-element-copy-out-byte-of
-element-copy-out-byte-of c = search needs
+element-copy-out-byte-of-word : tie.Need-element-copy-out-byte-of-word
+element-copy-out-byte-of-word c = search needs
 
--- src/words.rt:35:12
-byte-of-requires : tie.Need-byte-of-requires
-byte-of-requires c κs = search needs
+byte-of-word-requires : tie.Need-byte-of-word-requires
+byte-of-word-requires c κs = search needs
 
--- src/words.rt:36:25
-element-copy-out-flag-of : tie.Need-element-copy-out-flag-of
-element-copy-out-flag-of c = search needs
+element-copy-out-flag-of-word : tie.Need-element-copy-out-flag-of-word
+element-copy-out-flag-of-word c = search needs
 
--- src/words.rt:36:17
-flag-of-requires : tie.Need-flag-of-requires
-flag-of-requires c κs = search needs
+flag-of-word-requires : tie.Need-flag-of-word-requires
+flag-of-word-requires c κs = search needs
 
--- src/words.rt:37:29
-element-copy-out-flag-of-2 : tie.Need-element-copy-out-flag-of-2
-element-copy-out-flag-of-2 c = search needs
+element-copy-out-flag-of-word-2 : tie.Need-element-copy-out-flag-of-word-2
+element-copy-out-flag-of-word-2 c = search needs
 
--- src/words.rt:37:21
-flag-of-requires-2 : tie.Need-flag-of-requires-2
-flag-of-requires-2 c κs = search needs
+flag-of-word-requires-2 : tie.Need-flag-of-word-requires-2
+flag-of-word-requires-2 c κs = search needs
 
--- src/words.rt:38:23
-element-copy-out-flag-of-3 : tie.Need-element-copy-out-flag-of-3
-element-copy-out-flag-of-3 c = search needs
+element-copy-out-flag-of-word-3 : tie.Need-element-copy-out-flag-of-word-3
+element-copy-out-flag-of-word-3 c = search needs
 
--- src/words.rt:38:15
-flag-of-requires-3 : tie.Need-flag-of-requires-3
-flag-of-requires-3 c κs = search needs
+flag-of-word-requires-3 : tie.Need-flag-of-word-requires-3
+flag-of-word-requires-3 c κs = search needs
 
--- src/words.rt:39:19
 element-copy-out-t20 : tie.Need-element-copy-out-t20
 element-copy-out-t20 c = search needs
 
--- src/words.rt:40:19
 element-copy-out-t23 : tie.Need-element-copy-out-t23
 element-copy-out-t23 c = search needs
 
--- src/words.rt:41:16
 element-copy-out-t26 : tie.Need-element-copy-out-t26
 element-copy-out-t26 c = search needs
 
--- src/words.rt:42:20
 element-copy-out-t29 : tie.Need-element-copy-out-t29
 element-copy-out-t29 c = search needs
 
--- src/words.rt:43:19
 element-copy-out-t32 : tie.Need-element-copy-out-t32
 element-copy-out-t32 c = search needs
 
--- src/words.rt:44:27
 element-copy-out-float-of : tie.Need-element-copy-out-float-of
 element-copy-out-float-of c = search needs
 
--- src/words.rt:44:18
 float-of-requires : tie.Need-float-of-requires
 float-of-requires c κs = search needs
 
--- src/words.rt:45:26
 element-copy-out-float-of-2 : tie.Need-element-copy-out-float-of-2
 element-copy-out-float-of-2 c = search needs
 
--- src/words.rt:45:17
 float-of-requires-2 : tie.Need-float-of-requires-2
 float-of-requires-2 c κs = search needs
 
--- src/words.rt:46:28
 element-copy-out-float-of-3 : tie.Need-element-copy-out-float-of-3
 element-copy-out-float-of-3 c = search needs
 
--- src/words.rt:46:19
 float-of-requires-3 : tie.Need-float-of-requires-3
 float-of-requires-3 c κs = search needs
 
--- src/words.rt:47:28
 element-copy-out-float-of-4 : tie.Need-element-copy-out-float-of-4
 element-copy-out-float-of-4 c = search needs
 
--- src/words.rt:47:19
 float-of-requires-4 : tie.Need-float-of-requires-4
 float-of-requires-4 c κs = search needs
 
@@ -99,19 +78,18 @@ seqsim c = c .before .before
 abbrev sizesim : tie.After-float-of2 → tie.After-float-of
 sizesim c = c .before .before
 
-abbrev full : tie.After-float-of → tie.After-flag-of3
+abbrev full : tie.After-float-of → tie.After-flag-of-word3
 full c = c .before .before .before .before .before .before .before
 
-abbrev one-to-one : tie.After-flag-of3 → tie.After-flag-of2
+abbrev one-to-one : tie.After-flag-of-word3 → tie.After-flag-of-word2
 one-to-one c = c .before .before
 
-abbrev squish : tie.After-flag-of2 → tie.After-flag-of
+abbrev squish : tie.After-flag-of-word2 → tie.After-flag-of-word
 squish c = c .before .before
 
-abbrev number : tie.After-flag-of → tie.After-byte-of
+abbrev number : tie.After-flag-of-word → tie.After-byte-of-word
 number c = c .before .before
 
--- src/words.rt:31:1
 returns : tie.Need-returns
 unfolding settingsOfWords
 returns c =
@@ -122,28 +100,28 @@ returns c =
     let o = one-to-one u in
     let s = squish o in
     rw (
-      ← number s .byte-of .ensures,
-      ← s .flag-of .ensures,
-      ← o .flag-of2 .ensures,
-      ← u .flag-of3 .ensures,
+      ← number s .byte-of-word .ensures,
+      ← s .flag-of-word .ensures,
+      ← o .flag-of-word2 .ensures,
+      ← u .flag-of-word3 .ensures,
       ← z .float-of .ensures,
       ← q .float-of2 .ensures,
       ← f .float-of3 .ensures,
       ← c .float-of4 .ensures,
     ) refl
 
-pub settings-of-spec : {M : Type 1} → statement M
-settings-of-spec =
+pub settings-of-words-spec : {M : Type 1} → statement M
+settings-of-words-spec =
     tie.close
     (tie.spec
-    element-copy-out-byte-of
-    byte-of-requires
-    element-copy-out-flag-of
-    flag-of-requires
-    element-copy-out-flag-of-2
-    flag-of-requires-2
-    element-copy-out-flag-of-3
-    flag-of-requires-3
+    element-copy-out-byte-of-word
+    byte-of-word-requires
+    element-copy-out-flag-of-word
+    flag-of-word-requires
+    element-copy-out-flag-of-word-2
+    flag-of-word-requires-2
+    element-copy-out-flag-of-word-3
+    flag-of-word-requires-3
     element-copy-out-t20
     element-copy-out-t23
     element-copy-out-t26
