@@ -128,5 +128,5 @@ fn a_room_serves_one_search_after_the_other() {
         let settings = Settings { maxpaths, ..example_settings() };
         assert_eq!(apply_haplotype_in(&settings, &table, &haplotype, &mut room), apply_haplotype(&settings, &table, &haplotype));
     }
-    assert_eq!(room.bytes(), 16 * (1 + 4_096 * 2));
+    assert_eq!(room.bytes(), 12 * (1 + 4_096 * 2));
 }
