@@ -4,6 +4,12 @@
 #include <stdio.h>
 #include <string.h>
 
+#ifdef __cplusplus
+#define LANGUAGE "C++"
+#else
+#define LANGUAGE "C"
+#endif
+
 enum { K = 1, ENTRIES = 4, V = 2, MAXPATHS = 10, ROOM = 1 + (MAXPATHS + 1) * V };
 
 static int failed;
@@ -98,6 +104,6 @@ int main(void)
     worked_example();
     program_text();
     refusals();
-    puts(failed ? "the C binding differs" : "the C binding agrees");
+    puts(failed ? "the " LANGUAGE " binding differs" : "the " LANGUAGE " binding agrees");
     return failed;
 }
