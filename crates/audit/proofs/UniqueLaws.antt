@@ -81,7 +81,6 @@ unique = record {
   nd-seqsim = λ a b minkfreq place. two;
   nd-sizesim = λ a b place. two;
   nd-count-chains = λ starts ends full cap count. two;
-  nd-apply-haplotype =
-      λ k squish oneToOne full maxpaths maxnodes fnmax pileupmax minkfreq sizesim seqsim fpenalty gpenalty starts ends sizes features partSizes partFeatures links keys rows report x y p q.
-      agree x y (both (x .says) p) (both (y .says) q);
+  nd-answer = λ job text. two;
+  nd-apply-haplotype = λ settings starts ends sizes features partSizes partFeatures links keys rows report x y p q. agree x y (both (x .says) p) (both (y .says) q);
 }

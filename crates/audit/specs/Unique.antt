@@ -26,8 +26,8 @@ use Rattle.reader.specs.Promises.{ReadJobPromise}
 use Rattle.writer.specs.Promises.{WriteJobPromise}
 use Rattle.text.specs.Promises.{PutRefusedPromise, PutAnswerPromise}
 use Rattle.desk.specs.Promises.{AnswerPromise}
-use Rattle.capi.specs.Report.{settingsOf}
-use Rattle.capi.specs.Promises.{NdSeqToKmerPromise, NdSeqsimPromise, NdSizesimPromise, NdCountChainsPromise, NdApplyHaplotypePromise}
+use Rattle.capi.specs.Words.{settingsOfWords}
+use Rattle.capi.specs.Promises.{NdSeqToKmerPromise, NdSeqsimPromise, NdSizesimPromise, NdCountChainsPromise, NdAnswerPromise, NdApplyHaplotypePromise}
 
 -- at most one result meets a promise of a value, and at most one pair a promise of what a slice holds at exit and a value
 abbrev pub One : (A : Type 0) → (A → Type 0) → Type 0
@@ -96,11 +96,8 @@ pub record Unique : Type 0 where
   pub nd-seqsim : (a b : List ℤ) (minkfreq : ℕ) (place : Float) → Two Float ℕ (NdSeqsimPromise a b minkfreq place)
   pub nd-sizesim : (a b : ℕ) (place : Float) → Two Float ℕ (NdSizesimPromise a b place)
   pub nd-count-chains : (starts ends : List ℕ) (full : Bool) (cap count : ℕ) → Two ℕ ℕ (NdCountChainsPromise starts ends full cap count)
-  pub nd-apply-haplotype : (k : ℕ) (squish oneToOne full : Bool) (maxpaths maxnodes fnmax pileupmax minkfreq : ℕ) (sizesim seqsim fpenalty gpenalty : Float)
-      (starts ends : List ℕ) (sizes features partSizes partFeatures : List ℤ) (links keys rows report : List ℕ)
-      → Agree (List ℕ × ℕ)
-      (searches (callLent (settingsOf k squish oneToOne full maxpaths maxnodes fnmax pileupmax minkfreq sizesim seqsim fpenalty gpenalty)
-      starts ends sizes features partSizes partFeatures links keys rows))
-      (λ x. NdApplyHaplotypePromise k squish oneToOne full maxpaths maxnodes fnmax pileupmax minkfreq sizesim seqsim fpenalty gpenalty
-      starts ends sizes features partSizes partFeatures links keys rows report
+  pub nd-answer : (job text : List ℕ) → Two (List ℕ) ℕ (NdAnswerPromise job text)
+  pub nd-apply-haplotype : (settings starts ends : List ℕ) (sizes features partSizes partFeatures : List ℤ) (links keys rows report : List ℕ)
+      → Agree (List ℕ × ℕ) (searches (callLent (settingsOfWords settings) starts ends sizes features partSizes partFeatures links keys rows))
+      (λ x. NdApplyHaplotypePromise settings starts ends sizes features partSizes partFeatures links keys rows report
       (x .links) (x .keys) (x .rows) (x .says .0) (x .says .1))

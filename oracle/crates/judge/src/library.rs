@@ -1,4 +1,4 @@
-//! The library, linked as an archive (`rt staticlib capi`) where the feature `linked` is on.
+//! The library, linked as an archive (`tools/library`) where the feature `linked` is on.
 use crate::answer::Answer;
 use crate::call::Call;
 use crate::generate::Random;
@@ -28,23 +28,21 @@ pub use linked::{answer, smaller_call};
 mod linked {
     use super::*;
     use crate::answer::Target;
+    use crate::job::Settings;
     use crate::{generate, kinds, rust};
     use unchanged::kplib::{metrics, seq_to_kmer};
 
     extern "C" {
         fn nd_apply_haplotype(
-            k: u8, squish: bool, one_to_one: bool, full: bool,
-            maxpaths: u32, maxnodes: u32, fnmax: u32, pileupmax: u32, minkfreq: u32,
-            sizesim: f32, seqsim: f32, fpenalty: f32, gpenalty: f32,
+            settings: *const [u32; 13],
             starts: *const u64, starts_len: usize, ends: *const u64, ends_len: usize,
             sizes: *const i32, sizes_len: usize, features: *const i32, features_len: usize,
             part_sizes: *const i32, part_sizes_len: usize, part_features: *const i32, part_features_len: usize,
-            links: *mut u32, links_len: usize, keys: *mut u64, keys_len: usize,
-            rows: *mut u32, rows_len: usize,
+            links: *mut u32, links_len: usize, keys: *mut u64, keys_len: usize, rows: *mut u32, rows_len: usize,
             report: *mut [u32; 7],
         ) -> u32;
         fn nd_count_chains(starts: *const u64, starts_len: usize, ends: *const u64, ends_len: usize, full: bool, cap: u32, count: *mut u32) -> u32;
-        fn nd_seq_to_kmer(seq: *const u8, seq_len: usize, k: u8, negative: bool, row: *mut i32, row_len: usize) -> u32;
+        fn nd_seq_to_kmer(letters: *const u8, letters_len: usize, k: u8, negative: bool, row: *mut i32, row_len: usize) -> u32;
         fn nd_seqsim(a: *const i32, a_len: usize, b: *const i32, b_len: usize, minkfreq: u32, place: *mut f32) -> u32;
         fn nd_sizesim(a: u64, b: u64, place: *mut f32) -> u32;
     }
@@ -52,9 +50,15 @@ mod linked {
     const MARK: u32 = 0xdead_0001;
     const MARK_KEY: u64 = 0xdead_0002_0000_0003;
 
+    /// The settings as the archive takes them: flags as 0 and 1, floats by their bits.
+    fn words(s: &Settings) -> [u32; 13] {
+        let [sizesim, seqsim, fpenalty, gpenalty] = [s.sizesim, s.seqsim, s.fpenalty, s.gpenalty].map(f32::to_bits);
+        let [squish, one_to_one, full] = [s.squish, s.one_to_one, s.full].map(u32::from);
+        [s.k.into(), squish, one_to_one, full, s.maxpaths, s.maxnodes, s.fnmax, s.pileupmax, s.minkfreq, sizesim, seqsim, fpenalty, gpenalty]
+    }
+
     /// The buffers hold marks before the call, so that what was left alone is seen.
     pub fn answer(call: &Call) -> Result<Said, String> {
-        let s = &call.settings;
         let mut links = vec![MARK; call.queue_room];
         let mut keys = vec![MARK_KEY; call.queue_room + 1];
         let mut rows = vec![MARK; call.answer_room];
@@ -62,14 +66,11 @@ mod linked {
         // SAFETY: every pointer comes with its slice's length, and no two overlap.
         let refusal = unsafe {
             nd_apply_haplotype(
-                s.k, s.squish, s.one_to_one, s.full,
-                s.maxpaths, s.maxnodes, s.fnmax, s.pileupmax, s.minkfreq,
-                s.sizesim, s.seqsim, s.fpenalty, s.gpenalty,
+                &words(&call.settings),
                 call.starts.as_ptr(), call.starts.len(), call.ends.as_ptr(), call.ends.len(),
                 call.sizes.as_ptr(), call.sizes.len(), call.features.as_ptr(), call.features.len(),
                 call.part_sizes.as_ptr(), call.part_sizes.len(), call.part_features.as_ptr(), call.part_features.len(),
-                links.as_mut_ptr(), links.len(), keys.as_mut_ptr(), keys.len(),
-                rows.as_mut_ptr(), rows.len(),
+                links.as_mut_ptr(), links.len(), keys.as_mut_ptr(), keys.len(), rows.as_mut_ptr(), rows.len(),
                 &mut report,
             )
         };
