@@ -5,7 +5,8 @@
 //! - `rust`: the answer by kanpig's Rust, unchanged or ordered.
 //! - `answer`: an answer and its seven lines.
 //! - `program`: what the program must print for given bytes.
-//! - `document`: document 01 written down once more, independent of the Rust, with faults that can be planted in it.
+//! - `rules`: document 01's sentences, each a rule; `mistakes`: the same with one rule misread, planted to be found.
+//! - `document`: document 01 written down once more, independent of the Rust; `met`: what it met on its way.
 //! - `library`: the library of this project, linked.
 //! - `generate`, `exhaust`: the jobs that are compared.
 //! - `kinds`: what a job reached, to be counted.
@@ -19,6 +20,9 @@ pub mod generate;
 pub mod job;
 pub mod kinds;
 pub mod library;
+pub mod met;
+pub mod mistakes;
 pub mod program;
+pub mod rules;
 pub mod rust;
 pub mod shrink;
