@@ -61,11 +61,11 @@ impl Call {
 
     /// The first refusal that applies, or 0.
     pub fn refusal(&self, rules: &Rules) -> u32 {
-        rules.refusals().iter().copied().find(|&number| self.is_refused_by(number, rules)).unwrap_or(0)
+        rules.refusals().iter().copied().find(|&number| self.is_refused_by(rules, number)).unwrap_or(0)
     }
 
     /// Document 01's table. A row may count on those before it.
-    pub fn is_refused_by(&self, number: u32, rules: &Rules) -> bool {
+    pub fn is_refused_by(&self, rules: &Rules, number: u32) -> bool {
         let s = &self.settings;
         let (v, m) = (self.starts.len(), self.part_sizes.len());
         let rows = || self.features.chunks(s.entries()).chain(self.part_features.chunks(s.entries()));

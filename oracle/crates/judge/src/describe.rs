@@ -38,7 +38,7 @@ pub fn job(job: &Job) -> String {
 }
 
 pub fn bytes(bytes: &[u8]) -> String {
-    match job::read(bytes, &DOCUMENT) {
+    match job::read(&DOCUMENT, bytes) {
         Ok(good) => job(&good),
         Err(number) => {
             let hex: String = bytes.iter().take(100).map(|b| format!("{b:02x}")).collect();

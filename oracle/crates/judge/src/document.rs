@@ -229,7 +229,7 @@ pub fn call_of(rules: &Rules, job: &Job) -> Call {
 
 /// The answer to a program's input.
 pub fn program_answer(rules: &Rules, bytes: &[u8], met: &mut Met) -> Answer {
-    match program::admitted(bytes, rules) {
+    match program::admitted(rules, bytes) {
         Err(number) => Answer::refused(number),
         Ok(job) => call_answer(rules, &call_of(rules, &job), met),
     }

@@ -118,6 +118,11 @@ pub fn shape(kind: u8) -> Option<Shape> {
     Some(Shape { body, flags, count })
 }
 
+/// How many bytes a record of this kind takes.
+pub fn record_length(kind: u8) -> usize {
+    1 + shape(kind).expect("a kind of record").body
+}
+
 #[derive(PartialEq)]
 enum Stage {
     Front,
@@ -177,8 +182,7 @@ impl Reader {
             0x01 => self.take_settings(body),
             0x02 => self.take_variant(body),
             0x03 => self.take_part(body),
-            0x04 => self.take_letters(body),
-            _ => {}
+            _ => self.take_letters(body),
         }
     }
 
@@ -234,7 +238,7 @@ impl Reader {
 }
 
 /// The job in the bytes, or the first fault of the form.
-pub fn read(bytes: &[u8], rules: &Rules) -> Result<Job, u32> {
+pub fn read(rules: &Rules, bytes: &[u8]) -> Result<Job, u32> {
     let mut reader = Reader {
         stage: Stage::Front,
         owed: 0,
@@ -248,11 +252,11 @@ pub fn read(bytes: &[u8], rules: &Rules) -> Result<Job, u32> {
         if let Some(&number) = rules.form_faults().iter().find(|&&number| reader.has_fault(number, kind, after)) {
             return Err(number);
         }
-        let (body, next) = after.split_at(shape(kind).map_or(0, |shape| shape.body));
-        reader.take(kind, body);
         if kind == 0x00 {
             break;
         }
+        let (record, next) = left.split_at(record_length(kind));
+        reader.take(kind, &record[1..]);
         left = next;
     }
     Ok(Job {

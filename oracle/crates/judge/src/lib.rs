@@ -8,7 +8,7 @@
 //! - `rules`: document 01's sentences, each a rule; `mistakes`: the same with one rule misread, planted to be found.
 //! - `document`: document 01 written down once more, independent of the Rust; `met`: what it met on its way.
 //! - `library`: the library of this project, linked.
-//! - `generate`, `exhaust`: the jobs that are compared.
+//! - `generate`, `exhaust`: the jobs that are compared; `random`: the numbers they are made from.
 //! - `kinds`: what a job reached, to be counted.
 //! - `shrink`: the smallest job that still shows a difference; `describe`: a job in words.
 pub mod answer;
@@ -23,6 +23,7 @@ pub mod library;
 pub mod met;
 pub mod mistakes;
 pub mod program;
+pub mod random;
 pub mod rules;
 pub mod rust;
 pub mod shrink;

@@ -1,8 +1,8 @@
 //! The library, linked as an archive (`rt staticlib capi`) where the feature `linked` is on.
 use crate::answer::Answer;
 use crate::call::Call;
-use crate::generate::Random;
 use crate::kinds::Counts;
+use crate::random::Random;
 
 pub struct Said {
     pub answer: Answer,
@@ -116,7 +116,7 @@ mod linked {
         let holds = |&number: &u32| match number {
             3 => cap > 4_096,
             6 => table.ends.len() != table.starts.len(),
-            _ => table.is_refused_by(number, &DOCUMENT),
+            _ => table.is_refused_by(&DOCUMENT, number),
         };
         (3..=8).find(holds).unwrap_or(0)
     }

@@ -3,14 +3,15 @@
 //! A rule that no mistake misreads is a failure too.
 use judge::answer::Answer;
 use judge::document::{features, program_answer};
-use judge::generate::{input, Random};
+use judge::generate::input;
 use judge::met::Met;
 use judge::mistakes::{Mistake, MISTAKES};
+use judge::random::Random;
 use judge::rules::{Rules, DOCUMENT};
 use judge::{describe, exhaust, program, rust, shrink};
 use std::process::ExitCode;
 
-fn answer(bytes: &[u8], rules: &Rules) -> Answer {
+fn answer(rules: &Rules, bytes: &[u8]) -> Answer {
     program_answer(rules, bytes, &mut Met::default())
 }
 
@@ -40,8 +41,8 @@ fn smaller_calls(rules: &Rules) -> Option<String> {
 }
 
 /// What anyone outside sees.
-fn shows(bytes: &[u8], rules: &Rules) -> bool {
-    answer(bytes, rules).text() != program::answer(bytes).text()
+fn shows(rules: &Rules, bytes: &[u8]) -> bool {
+    answer(rules, bytes).text() != program::answer(bytes).text()
 }
 
 fn main() -> ExitCode {
@@ -49,8 +50,8 @@ fn main() -> ExitCode {
     let mut inputs: Vec<Vec<u8>> = exhaust::jobs().step_by(97).map(|job| job.bytes()).collect();
     inputs.extend((0..count).map(|i| input(&mut Random::new(i))));
     let said: Vec<String> = inputs.iter().map(|bytes| program::answer(bytes).text()).collect();
-    let differs = |at: usize, rules: &Rules| answer(&inputs[at], rules).text() != said[at];
-    if let Some(at) = (0..inputs.len()).find(|&at| differs(at, &DOCUMENT)) {
+    let differs = |rules: &Rules, at: usize| answer(rules, &inputs[at]).text() != said[at];
+    if let Some(at) = (0..inputs.len()).find(|&at| differs(&DOCUMENT, at)) {
         println!("with nothing planted: {}", describe::bytes(&inputs[at]));
         return ExitCode::FAILURE;
     }
@@ -62,7 +63,7 @@ fn main() -> ExitCode {
     }
     let mut missed = 0;
     for Mistake { words, rules, .. } in MISTAKES {
-        let found: Vec<usize> = (0..inputs.len()).filter(|&at| differs(at, rules)).collect();
+        let found: Vec<usize> = (0..inputs.len()).filter(|&at| differs(rules, at)).collect();
         if let (true, Some(shown)) = (found.is_empty(), smaller_calls(rules)) {
             println!("caught {words}: by a smaller call; no answer of the program can show it");
             println!("    {shown}");
@@ -76,14 +77,14 @@ fn main() -> ExitCode {
         let small = found
             .iter()
             .take(5)
-            .map(|&at| shrink::bytes(inputs[at].clone(), |bytes| shows(bytes, rules)))
+            .map(|&at| shrink::bytes(inputs[at].clone(), |bytes| shows(rules, bytes)))
             .min_by_key(|bytes| bytes.len())
             .unwrap();
         let lines = |answer: Answer| answer.text().trim_end().replace('\n', ", ");
         println!("caught {words}: first at input {}, {} of {}", found[0] + 1, found.len(), inputs.len());
         println!("    {}", describe::bytes(&small));
         println!("    must be  {}", lines(program::answer(&small)));
-        println!("    would be {}", lines(answer(&small, rules)));
+        println!("    would be {}", lines(answer(rules, &small)));
     }
     println!("{} of {} planted mistakes caught", MISTAKES.len() - missed, MISTAKES.len());
     ExitCode::from((missed > 0) as u8)

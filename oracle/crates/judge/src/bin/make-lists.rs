@@ -6,11 +6,12 @@
 use judge::answer::{Answer, Target};
 use judge::call::Call;
 use judge::document::{call_answer, call_of, program_answer};
-use judge::generate::{cost, disturb_job, input, Random, LIBRARY};
-use judge::job::{self, Job, Part, Settings, Variant};
+use judge::generate::{cost, disturb_job, input, LIBRARY};
+use judge::job::{self, record_length, Job, Part, Settings, Variant};
 use judge::kinds::{self, Counts};
 use judge::met::Met;
 use judge::mistakes::MISTAKES;
+use judge::random::Random;
 use judge::rules::{Rules, DOCUMENT};
 use judge::{exhaust, generate, program, rust};
 use std::collections::{BTreeMap, BTreeSet};
@@ -59,10 +60,11 @@ fn example() -> Job {
 
 /// A job of exactly so many bytes.
 fn of_length(length: usize) -> Vec<u8> {
-    let left = length - 42;
+    let [end, settings, variant_record, part_record, letters_record] = [0x00, 0x01, 0x02, 0x03, 0x04].map(record_length);
+    let left = |v: usize, m: usize| length - end - settings - v * variant_record - m * part_record;
     let shapes = (1..=16).flat_map(|v| (0..=8).map(move |m| (v, m)));
-    let (v, m) = shapes.filter(|(v, m)| (left - 26 * v - 10 * m) % 17 == 0).min().expect("some shape fits");
-    let letters = vec![b'G'; 16 * ((left - 26 * v - 10 * m) / 17)];
+    let (v, m) = shapes.filter(|&(v, m)| left(v, m) % letters_record == 0).min().expect("some shape fits");
+    let letters = vec![b'G'; 16 * (left(v, m) / letters_record)];
     let mut job = example();
     job.variants = (0..v as u64).map(|i| variant(i, i, 1, b"")).collect();
     job.variants[0].letters = letters;
@@ -133,7 +135,7 @@ fn shown(bytes: &[u8]) -> BTreeSet<String> {
     let mut met = Met::default();
     assert_eq!(program_answer(&DOCUMENT, bytes, &mut met), judged.answer);
     let mut counts = Counts::new();
-    kinds::of_input(&mut counts, job::read(bytes, &DOCUMENT).as_ref().ok(), &judged, &met);
+    kinds::of_input(&mut counts, job::read(&DOCUMENT, bytes).as_ref().ok(), &judged, &met);
     let text = judged.answer.text();
     let caught = catches(|rules| program_answer(rules, bytes, &mut Met::default()).text() != text);
     counts.into_keys().chain(caught).collect()

@@ -4,10 +4,11 @@
 use judge::answer::Answer;
 use judge::call::Call;
 use judge::document::{call_answer, program_answer};
-use judge::generate::{self, Random};
+use judge::generate;
 use judge::job;
 use judge::kinds::{self, Counts};
 use judge::met::Met;
+use judge::random::Random;
 use judge::rules::DOCUMENT;
 use judge::{describe, exhaust, library, program, rust, shrink};
 use std::io::{self, Read, Write};
@@ -94,7 +95,7 @@ fn compare_input(tally: &mut Tally, bytes: Vec<u8>, o: &Options) {
     let judged = program::judged(&bytes);
     let mut met = Met::default();
     let second = program_answer(&DOCUMENT, &bytes, &mut met);
-    let job = job::read(&bytes, &DOCUMENT).ok();
+    let job = job::read(&DOCUMENT, &bytes).ok();
     kinds::of_input(&mut tally.counts, job.as_ref(), &judged, &met);
     if let Some(job) = job {
         if job.bytes() != bytes && !job.settings.floats().iter().any(|x| x.is_nan()) {
