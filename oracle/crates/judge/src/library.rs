@@ -1,8 +1,8 @@
 //! The library, linked as an archive (`tools/library`) where the feature `linked` is on.
 use crate::answer::Answer;
 use crate::call::Call;
-use crate::generate::Random;
 use crate::kinds::Counts;
+use crate::random::Random;
 
 pub struct Said {
     pub answer: Answer,
@@ -28,9 +28,11 @@ pub use linked::{answer, smaller_call};
 mod linked {
     use super::*;
     use crate::answer::Target;
+    use crate::call::magnitudes;
     use crate::job::Settings;
+    use crate::rules::DOCUMENT;
     use crate::{generate, kinds, rust};
-    use unchanged::kplib::{metrics, seq_to_kmer};
+    use unchanged::kplib::metrics;
 
     extern "C" {
         fn nd_apply_haplotype(
@@ -110,16 +112,13 @@ mod linked {
     }
 
     /// The refusals of the chain count: the cap, then the table's bounds.
-    fn bounds_refusal(starts: &[u64], ends: &[u64], cap: u32) -> u32 {
-        match starts.len() {
-            _ if cap > 4_096 => 3,
-            0 => 4,
-            65.. => 5,
-            v if ends.len() != v => 6,
-            _ if starts.iter().zip(ends).any(|(start, end)| start > end) => 7,
-            _ if starts.windows(2).any(|pair| pair[1] < pair[0]) => 8,
-            _ => 0,
-        }
+    fn bounds_refusal(table: &Call, cap: u32) -> u32 {
+        let holds = |&number: &u32| match number {
+            3 => cap > 4_096,
+            6 => table.ends.len() != table.starts.len(),
+            _ => table.is_refused_by(&DOCUMENT, number),
+        };
+        (3..=8).find(holds).unwrap_or(0)
     }
 
     fn chain_count(r: &mut Random, counts: &mut Counts) -> Result<(), String> {
@@ -136,8 +135,8 @@ mod linked {
             4 => (starts, ends) = ((0..65).collect(), (0..65).collect()),
             _ => {}
         }
-        let must = bounds_refusal(&starts, &ends, cap);
         let table = Call { starts: starts.clone(), ends: ends.clone(), ..call.clone() };
+        let must = bounds_refusal(&table, cap);
         let chains = if must == 0 { rust::chains(&table, cap.into()) as u32 } else { 0 };
         let mut count = u32::MAX;
         // SAFETY: both pointers come with their lengths.
@@ -170,7 +169,7 @@ mod linked {
             _ => 0,
         };
         let counted: Vec<i32> = match must {
-            0 => seq_to_kmer(&letters, k, negative).iter().map(|&x| x as i32).collect(),
+            0 => rust::features(k, &letters, negative),
             _ => vec![77; room],
         };
         kinds::add(counts, format!("counter: refusal {must}"));
@@ -188,7 +187,7 @@ mod linked {
         let b = if r.chance(20) { a.clone() } else { b };
         let b = if r.chance(5) { [b, vec![0]].concat() } else { b };
         let minkfreq = r.pick(&[0u32, 1, 2, 3, 200, 16_777_216, 16_777_217]);
-        let heavy = |row: &[i32]| row.iter().map(|x| u64::from(x.unsigned_abs())).sum::<u64>() > 8_388_608;
+        let heavy = |row: &[i32]| magnitudes(row) > 8_388_608;
         let must = if minkfreq > 16_777_216 {
             3
         } else if a.len() != b.len() {
@@ -198,8 +197,7 @@ mod linked {
         } else {
             0
         };
-        let floats = |row: &[i32]| -> Vec<f32> { row.iter().map(|&x| x as f32).collect() };
-        let like = if must == 0 { metrics::seqsim(&floats(&a), &floats(&b), minkfreq as f32) } else { 0.0 };
+        let like = if must == 0 { metrics::seqsim(&rust::floats(&a), &rust::floats(&b), minkfreq as f32) } else { 0.0 };
         let mut place = f32::NAN;
         // SAFETY: both pointers come with their lengths.
         let said = unsafe { nd_seqsim(a.as_ptr(), a.len(), b.as_ptr(), b.len(), minkfreq, &mut place) };
