@@ -3,7 +3,7 @@ use mathlib.Core.Path.{_≡_, refl, sym, ap, _∙_}
 use Prim.Native.Nat.{ℕ, zero, suc, _+_, _-_, _*_, _/_, _%_, _<_}
 use native.Mathlib.Omega.{arith}
 use mathlib.Core.List.{List, [], _∷_, map}
-use lib.ListN.{length, getD, set}
+use lib.ListN.{length, getD, set, length-map}
 use Rattle.paths.specs.Queue.{Links}
 use Rattle.paths.proofs.TableLaws.{Reading, read-on}
 use Rattle.kplib.specs.SearchSteps.{parentsOf, lastsOf}
@@ -15,10 +15,6 @@ module _ (f : ℕ → ℕ) where
   map-at z (x ∷ l) zero = refl
   map-at z (x ∷ l) (suc i) = map-at z l i
 
-  map-length : (l : List ℕ) → length (map f l) ≡ length l
-  map-length [] = refl
-  map-length (x ∷ l) = ap suc (map-length l)
-
   map-store : (l : List ℕ) (i x : ℕ) → map f (set l i x) ≡ set (map f l) i (f x)
   map-store [] i x = refl
   map-store (y ∷ l) zero x = refl
@@ -26,10 +22,10 @@ module _ (f : ℕ → ℕ) where
 
 module _ (links : List ℕ) where
   pub parents-length : length (parentsOf links) ≡ length links
-  parents-length = map-length (λ l. l / 64) links
+  parents-length = length-map links (λ l. l / 64)
 
   pub lasts-length : length (lastsOf links) ≡ length links
-  lasts-length = map-length (λ l. l % 64) links
+  lasts-length = length-map links (λ l. l % 64)
 
   module _ (i : ℕ) where
     pub parent-at : getD (parentsOf links) i 0 ≡ getD links i 0 / 64

@@ -158,11 +158,11 @@ pub record Comparable (s : Settings) (chainSize : ℤ) (chainRow : List ℤ) (ch
   pub tests : Testable chainSize chainLen listSize listLen partial
 
 -- a summed chain and a summed list of so many parts in one slice, the chain's row in front
-pub record Paired (plan : Plan) (chainSize : ℤ) (chainLen : ℕ) (listSize : ℤ) (listLen : ℕ) (rows : List ℤ) : Type 0 where
+pub record Paired (plan : Plan) (chainSize : ℤ) (chainLen : ℕ) (listSize : ℤ) (listLen : ℕ) (scratch : List ℤ) : Type 0 where
   pub short : plan .width ≤ 4096
-  pub rows-are : length rows ≡ plan .width + plan .width
+  pub scratch-is : length scratch ≡ plan .width + plan .width
   pub most : listLen ≤ plan .m
-  pub comparable : Comparable (plan .s) chainSize (take (plan .width) rows) chainLen listSize (drop (plan .width) rows) listLen (plan .m - listLen)
+  pub comparable : Comparable (plan .s) chainSize (take (plan .width) scratch) chainLen listSize (drop (plan .width) scratch) listLen (plan .m - listLen)
 
 -- whether a list passes the sign and size tests and, were its seqsim 1.0, would score above the best
 unfoldable pub mayWin : Settings → ℤ → ℕ → ℤ → ℕ → ℕ → Float → Bool
