@@ -252,13 +252,5 @@ pub fn apply_haplotype(
             rows,
         );
     }
-    answer_alone(
-        s,
-        starts,
-        sizes,
-        features,
-        part_sizes,
-        part_features,
-        rows,
-    )
+    answer_alone(s, starts, sizes, features, part_sizes, part_features, rows)
 }

@@ -8,18 +8,15 @@ use lib.Dec.{leb, ltb, eqb}
 use borrow.Author.Tests.{leb-true}
 use Rattle.paths.specs.Sums.{sumBy, bit, sameRows}
 use Rattle.paths.specs.Chains.{firstAfter, extends, extensions, isChain, chainsWithin, chainsFrom}
+use Rattle.paths.proofs.BooleanLaws.{and-both}
 use Rattle.paths.proofs.SumLaws.{bit-and, sameRows-eq}
 use Rattle.paths.proofs.OrderLaws.{sum-next, hits, hits-suc, hits-none}
-
-and-left : (a b : Bool) → (a && b) ≡ true → a ≡ true
-and-left true b h = refl
-and-left false b h = h
 
 module _ (follows : List ℕ → ℕ → Bool) where
   -- an extending row is later
   pub extends-firstAfter : (c : List ℕ) (s : ℕ) → extends follows c s ≡ true → firstAfter c ≤ s
   unfolding extends
-  extends-firstAfter c s h = leb-true (firstAfter c) s (and-left (leb (firstAfter c) s) (follows c s) h)
+  extends-firstAfter c s h = leb-true (firstAfter c) s (and-both (leb (firstAfter c) s) (follows c s) h .0)
 
   -- two weights that agree on c's extensions have one sum there
   pub sum-extensions : (w w′ : List ℕ → ℕ) (c : List ℕ) (k : ℕ) → ((s : ℕ) → s < k → extends follows c s ≡ true → w (s ∷ c) ≡ w′ (s ∷ c))
