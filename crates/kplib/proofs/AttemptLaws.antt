@@ -69,7 +69,8 @@ module _ {plan : Plan} {features : List ℤ} {chain : List ℕ} {chainSize : ℤ
   pub may-ok : Testable (toZ w32 (ofZ w32 chainSize)) (length chain) (toZ w32 (ofZ w32 size)) (code / 65536) (plan .m - code / 65536)
   may-ok = rw (chain-as-read tests, list-as-read tests) tests
 
-  pub attempt-lost : (best : Best) {t : Bool} → t ≡ mayWin (plan .s) (toZ w32 (ofZ w32 chainSize)) (length chain) (toZ w32 (ofZ w32 size)) (code / 65536) (plan .m - code / 65536) (best .scored .score)
+  pub attempt-lost : (best : Best) {t : Bool}
+      → t ≡ mayWin (plan .s) (toZ w32 (ofZ w32 chainSize)) (length chain) (toZ w32 (ofZ w32 size)) (code / 65536) (plan .m - code / 65536) (best .scored .score)
       → t ≡ false → Ready (best .summed) (take (plan .width) scratch) (featuresOf (plan .width) features chain)
       → Attempted plan features chain chainSize partFeatures code size (best .scored) best scratch
   unfolding afterCode

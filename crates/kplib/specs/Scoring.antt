@@ -230,7 +230,8 @@ abbrev pub noneTried : Best
 noneTried = record { scored = start; summed = false }
 
 -- what scoring a chain asks: its rows and size, the parts' rows, the lists laid down, and the scratch
-pub record Scorable (plan : Plan) (features : List ℤ) (chain : List ℕ) (chainSize : ℤ) (partFeatures : List ℤ) (codes : List ℕ) (listSizes : List ℤ) (chosen : List ℕ) (scratch : List ℤ) : Type 0 where
+pub record Scorable (plan : Plan) (features : List ℤ) (chain : List ℕ) (chainSize : ℤ) (partFeatures : List ℤ) (codes : List ℕ)
+    (listSizes : List ℤ) (chosen : List ℕ) (scratch : List ℤ) : Type 0 where
   pub planned : Planned plan
   pub chained : Summable (plan .width) features chain
   pub chain-size : natAbs chainSize ≤ 8388608

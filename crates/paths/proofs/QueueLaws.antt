@@ -128,7 +128,8 @@ module _ {follows : List ℕ → ℕ → Bool} {v : ℕ} {D : List ℕ → ℕ} 
       ∙ rw (
         z,
         chain-push par row m e s lp lr le,
-        map-same (λ k. chainAt (set par m e) (set row m s) (entryOf k)) (λ k. chainAt par row (entryOf k)) (λ k. Key D par row m k) (λ k h. chain-frame par row m e s (entryOf k) (h .within)) keys (q .keyed),
+        map-same (λ k. chainAt (set par m e) (set row m s) (entryOf k)) (λ k. chainAt par row (entryOf k)) (λ k. Key D par row m k)
+            (λ k h. chain-frame par row m e s (entryOf k) (h .within)) keys (q .keyed),
       )
 
 module _ (follows : List ℕ → ℕ → Bool) where
@@ -183,7 +184,13 @@ module _ {follows : List ℕ → ℕ → Bool} {v : ℕ} {D : List ℕ → ℕ} 
         most = omega (arith, h .most);
         kept = λ i l. chain-frame par row (n + added) e (s - 1) i (omega arith) ∙ h .kept i l;
         queue = rw (nm, keys-are) (queue-push (h .queue) e (s - 1) lp lr (omega arith) (omega (arith, h .most)) good);
-        chains = rw (keys-are, chains-push (h .queue) e (s - 1) lp lr (omega arith) (omega (arith, h .most)) good, append-snoc, same, ← extensions-yes follows s (chainAt par₀ row₀ e) p x) (h .chains);
+        chains = rw (
+          keys-are,
+          chains-push (h .queue) e (s - 1) lp lr (omega arith) (omega (arith, h .most)) good,
+          append-snoc,
+          same,
+          ← extensions-yes follows s (chainAt par₀ row₀ e) p x,
+        ) (h .chains);
       }
 
   -- nothing is left

@@ -112,15 +112,18 @@ module _ {R : Type 0} {le : R → R → Bool} {start : R} {score : List ℕ → 
       (p .0, p .1, p .2, rw (same, t .rest) (p .3))
 
   module _ {par' row' keys'' : List ℕ} {added : ℕ} (less : k < steps) (p : Queued follows v D par row (take (q - 1) keys') n e par' row' keys'' added) where
-    next-scored : scored D (λ c. extensions follows v c) (steps - k) (queuedChains par row (take q keys)) ≡ chainAt par row e ∷ scored D (λ c. extensions follows v c) (steps - (k + 1)) (queuedChains par' row' keys'')
+    next-scored : scored D (λ c. extensions follows v c) (steps - k) (queuedChains par row (take q keys))
+        ≡ chainAt par row e ∷ scored D (λ c. extensions follows v c) (steps - (k + 1)) (queuedChains par' row' keys'')
     next-scored =
         let z : steps - k ≡ suc (steps - (k + 1)) = omega arith in
-        rw (z, p .chains) (one-scored D (λ c. extensions follows v c) (steps - (k + 1)) (queuedChains par row (take q keys)) (picked .0) (picked .1) (chainAt par row e) (queuedChains par row (take (q - 1) keys')) (picked .2) (picked .3))
+        rw (z, p .chains) (one-scored D (λ c. extensions follows v c) (steps - (k + 1)) (queuedChains par row (take q keys)) (picked .0) (picked .1)
+        (chainAt par row e) (queuedChains par row (take (q - 1) keys')) (picked .2) (picked .3))
 
     next-left : left D (λ c. extensions follows v c) (steps - k) (queuedChains par row (take q keys)) ≡ left D (λ c. extensions follows v c) (steps - (k + 1)) (queuedChains par' row' keys'')
     next-left =
         let z : steps - k ≡ suc (steps - (k + 1)) = omega arith in
-        rw (z, p .chains) (one-left D (λ c. extensions follows v c) (steps - (k + 1)) (queuedChains par row (take q keys)) (picked .0) (picked .1) (chainAt par row e) (queuedChains par row (take (q - 1) keys')) (picked .2) (picked .3))
+        rw (z, p .chains) (one-left D (λ c. extensions follows v c) (steps - (k + 1)) (queuedChains par row (take q keys)) (picked .0) (picked .1)
+        (chainAt par row e) (queuedChains par row (take (q - 1) keys')) (picked .2) (picked .3))
 
     -- one step: the chain taken is scored, its result replaces the best unless it is lower, and its extensions are queued
     pub step-on : Running le start score follows v D steps par' row' keys'' (n + added) (k + 1) (cond (le b (score (chainAt par row e))) (score (chainAt par row e)) b)
@@ -134,5 +137,6 @@ module _ {R : Type 0} {le : R → R → Bool} {start : R} {score : List ℕ → 
           below = omega arith;
           counted = omega (arith, h .counted, ap length next-scored);
           lefts = sym next-left ∙ h .lefts;
-          bests = sym (best-step le b (score (chainAt par row e)) (map score (scored D (λ c. extensions follows v c) (steps - (k + 1)) (queuedChains par' row' keys'')))) ∙ (rw next-scored at (h .bests));
+          bests = sym (best-step le b (score (chainAt par row e)) (map score (scored D (λ c. extensions follows v c) (steps - (k + 1)) (queuedChains par' row' keys''))))
+              ∙ (rw next-scored at (h .bests));
         }
