@@ -9,7 +9,7 @@ use borrow.Author.Tests.{lt-ltb, le-ltb, le-leb, lt-leb, eq-eqb, ne-eqb, leb-tru
 use lib.Dec.{leb, ltb, eqb}
 use lib.ListN.{length, getD}
 use Rattle.paths.specs.Chains.{firstAfter, extends, isChain}
-use Rattle.paths.proofs.BestLaws.{clash}
+use Rattle.paths.proofs.BooleanLaws.{clash}
 use Rattle.params.proofs.CheckLaws.{and-yes}
 use Rattle.kplib.specs.Graph.{nodeOf, rowOf, edge, mayFollowIn, extendsIn, isChainIn}
 use Rattle.kplib.proofs.GraphLaws.{and-false}

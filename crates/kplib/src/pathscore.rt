@@ -255,19 +255,19 @@ fn may_win(
     !(score_value(s, 1.0, size, partial, g) <= best)
 }
 
-// A list's score against a chain. The front of `rows` is the chain's row, its rest the list's.
+// A list's score against a chain. The front of `scratch` is the chain's row, its rest the list's.
 fn score_rows(
     plan: Plan,
     chain_size: i32,
     chain_len: usize,
     list_size: i32,
     list_len: usize,
-    rows: &[i32],
+    scratch: &[i32],
 ) -> Verdict
-    requires { ⌜ Paired plan «chain_size» «chain_len» «list_size» «list_len» (now rows) ⌝ }
+    requires { ⌜ Paired plan «chain_size» «chain_len» «list_size» «list_len» (now scratch) ⌝ }
     ensures { λ r.
-        let chain = total «chain_size» (take (plan .width) (now (rows .entry))) «chain_len» in
-        let list = total «list_size» (drop (plan .width) (now (rows .entry))) «list_len» in
+        let chain = total «chain_size» (take (plan .width) (now (scratch .entry))) «chain_len» in
+        let list = total «list_size» (drop (plan .width) (now (scratch .entry))) «list_len» in
         ⌜ r ≡ listScore (plan .s) chain list (plan .m - «list_len») ⌝ }
 {
     let w = plan.width;
@@ -275,10 +275,10 @@ fn score_rows(
     list_score(
         plan.s,
         chain_size,
-        &rows[..w],
+        &scratch[..w],
         chain_len,
         list_size,
-        &rows[w..],
+        &scratch[w..],
         list_len,
         partial,
     )
