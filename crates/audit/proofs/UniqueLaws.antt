@@ -4,8 +4,9 @@ use mathlib.Core.Bool.{Bool, false}
 use mathlib.Core.List.{List}
 use Prim.Native.Nat.{ℕ}
 use Rattle.metrics.specs.Letters.{countsOf, rowAfter}
-use Rattle.job.specs.Job.{jobBytes}
-use Rattle.job.specs.Writing.{jobFrom, outAfter}
+use Rattle.form.specs.Job.{jobBytes}
+use Rattle.writer.specs.Writing.{jobFrom, outAfter}
+use Rattle.text.specs.Written.{Written}
 use Rattle.audit.specs.Unique.{Agree, Unique}
 
 one : {A : Type 0} {z : A} (x y : A) → x ≡ z → y ≡ z → x ≡ y
@@ -19,6 +20,10 @@ through : {A B : Type 0} {b : B} (f : B → A) (x y : A) (u v : B) → (u ≡ b)
 through f x y u v p q =
     let e = p .0 ∙ sym (q .0) in
     ((p .1 ∙ ap f e) ∙ sym (q .1), e)
+
+-- text stored from a place on
+stored : {old xs : List ℕ} {at : ℕ} (x y : List ℕ) (u v : ℕ) → Written old at xs x u → Written old at xs y v → (x ≡ y) × (u ≡ v)
+stored x y u v p q = (p .is ∙ sym (q .is), p .next ∙ sym (q .next))
 
 -- the queue's slices, each under the condition
 abbrev Kept : Bool → List ℕ → List ℕ → Type 0
@@ -53,9 +58,24 @@ unique = record {
   count-fault = λ starts ends cap. one;
   count-chains = λ starts ends full cap. one;
   apply-haplotype = λ s starts ends sizes features partSizes partFeatures links keys rows. agree;
+  u8-at = λ s at. one;
+  u32-at = λ s at. one;
+  u64-at = λ s at. one;
+  i32-of = λ x. one;
+  u32-of = λ z. one;
+  float-of = λ n. one;
+  put-u8 = λ out at x. one;
+  put-u32 = λ out at x. one;
+  put-u64 = λ out at x. one;
+  body-len = λ k. one;
+  count-of = λ k b. one;
+  read-settings = λ b. one;
+  write-settings = λ out at s. one;
   scan = λ bytes. one;
   read-job = λ bytes t. two;
   write-job = λ s t out. through (λ r. outAfter r (jobBytes (jobFrom s t)) out);
+  put-refused = λ out at n. stored;
+  put-answer = λ out at rows a. stored;
   answer = λ input out. two;
   nd-seq-to-kmer = λ letters k negative row. two;
   nd-seqsim = λ a b minkfreq place. two;

@@ -16,11 +16,15 @@ use Rattle.kplib.specs.Answer.{searches}
 use Rattle.kplib.specs.declared.vargraph.ChainCount.{ChainCount}
 use Rattle.kplib.specs.declared.traverse.Answer.{Answer}
 use Rattle.kplib.specs.Promises.{callLent, CountChainsPromise, ApplyHaplotypePromise}
-use Rattle.job.specs.declared.form.Scan.{Scan}
-use Rattle.job.specs.declared.reader.Reading.{Reading}
-use Rattle.job.specs.declared.writer.Writing.{Writing}
-use Rattle.job.specs.Reading.{Lent}
-use Rattle.job.specs.Promises.{ScanPromise, ReadJobPromise, WriteJobPromise}
+use Rattle.form.specs.declared.records.Scan.{Scan}
+use Rattle.reader.specs.declared.Reading.{Reading}
+use Rattle.writer.specs.declared.Writing.{Writing}
+use Rattle.form.specs.Lent.{Lent}
+use Rattle.fields.specs.Promises.{U8AtPromise, U32AtPromise, U64AtPromise, I32OfPromise, U32OfPromise, FloatOfPromise, PutU8Promise, PutU32Promise, PutU64Promise}
+use Rattle.form.specs.Promises.{ScanPromise, BodyLenPromise, CountOfPromise, ReadSettingsPromise, WriteSettingsPromise}
+use Rattle.reader.specs.Promises.{ReadJobPromise}
+use Rattle.writer.specs.Promises.{WriteJobPromise}
+use Rattle.text.specs.Promises.{PutRefusedPromise, PutAnswerPromise}
 use Rattle.desk.specs.Promises.{AnswerPromise}
 use Rattle.capi.specs.Report.{settingsOf}
 use Rattle.capi.specs.Promises.{NdSeqToKmerPromise, NdSeqsimPromise, NdSizesimPromise, NdCountChainsPromise, NdApplyHaplotypePromise}
@@ -68,10 +72,25 @@ pub record Unique : Type 0 where
   pub apply-haplotype : (s : Settings) (starts ends : List ℕ) (sizes features partSizes partFeatures : List ℤ) (links keys rows : List ℕ)
       → Agree Answer (searches (callLent s starts ends sizes features partSizes partFeatures links keys rows))
       (λ x. ApplyHaplotypePromise s starts ends sizes features partSizes partFeatures links keys rows (x .links) (x .keys) (x .rows) (x .says))
+  pub u8-at : (s : List ℕ) (at : ℕ) → One ℕ (U8AtPromise s at)
+  pub u32-at : (s : List ℕ) (at : ℕ) → One ℕ (U32AtPromise s at)
+  pub u64-at : (s : List ℕ) (at : ℕ) → One ℕ (U64AtPromise s at)
+  pub i32-of : (x : ℕ) → One ℤ (I32OfPromise x)
+  pub u32-of : (z : ℤ) → One ℕ (U32OfPromise z)
+  pub float-of : (n : ℕ) → One Float (FloatOfPromise n)
+  pub put-u8 : (out : List ℕ) (at x : ℕ) → One (List ℕ) (PutU8Promise out at x)
+  pub put-u32 : (out : List ℕ) (at x : ℕ) → One (List ℕ) (PutU32Promise out at x)
+  pub put-u64 : (out : List ℕ) (at x : ℕ) → One (List ℕ) (PutU64Promise out at x)
+  pub body-len : (k : ℕ) → One ℕ (BodyLenPromise k)
+  pub count-of : (k : ℕ) (b : List ℕ) → One ℕ (CountOfPromise k b)
+  pub read-settings : (b : List ℕ) → One Settings (ReadSettingsPromise b)
+  pub write-settings : (out : List ℕ) (at : ℕ) (s : Settings) → One (List ℕ) (WriteSettingsPromise out at s)
   pub scan : (bytes : List ℕ) → One Scan (ScanPromise bytes)
   pub read-job : (bytes : List ℕ) (t : Lent) → Two Lent Reading (ReadsInto bytes t)
   pub write-job : (s : Settings) (t : Lent) (out : List ℕ)
       → Two (List ℕ) Writing (WriteJobPromise s (t .starts) (t .ends) (t .sizes) (t .negatives) (t .counts) (t .partSizes) (t .partNegatives) (t .partCounts) (t .letters) out)
+  pub put-refused : (out : List ℕ) (at n : ℕ) → Two (List ℕ) ℕ (PutRefusedPromise out at n)
+  pub put-answer : (out : List ℕ) (at : ℕ) (rows : List ℕ) (a : Answer) → Two (List ℕ) ℕ (PutAnswerPromise out at rows a)
   pub answer : (input out : List ℕ) → Two (List ℕ) ℕ (AnswerPromise input out)
   pub nd-seq-to-kmer : (letters : List ℕ) (k : ℕ) (negative : Bool) (row : List ℤ) → Two (List ℤ) ℕ (NdSeqToKmerPromise letters k negative row)
   pub nd-seqsim : (a b : List ℤ) (minkfreq : ℕ) (place : Float) → Two Float ℕ (NdSeqsimPromise a b minkfreq place)

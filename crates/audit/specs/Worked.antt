@@ -11,8 +11,8 @@ use Rattle.params.specs.Numbers.{Table, Parts, Call, tableOf, partsOf, callOf, 
 use Rattle.kplib.specs.Score.{chainScore}
 use Rattle.kplib.specs.Search.{scoredIn}
 use Rattle.kplib.specs.Answer.{answerOf, rowsOf}
-use Rattle.job.specs.Job.{Job, jobBytes}
-use Rattle.desk.specs.Text.{bytesOf}
+use Rattle.form.specs.Job.{Job, jobBytes}
+use Rattle.text.specs.Text.{bytesOf}
 use Rattle.desk.specs.Desk.{deskText}
 use Rattle.params.specs.declared.Settings.{Settings}
 use Rattle.kplib.specs.declared.pathscore.Target.the-variants.{Whole}

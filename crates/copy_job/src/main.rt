@@ -1,8 +1,8 @@
 // Reads one job and writes it anew with the proved writer; writes nothing where the job is refused. What tools/sheet makes is held to it.
-use job::reader::Reading;
-use job::reader::read_job;
-use job::writer::Writing;
-use job::writer::write_job;
+use reader::Reading;
+use reader::read_job;
+use writer::Writing;
+use writer::write_job;
 ghost use Prim.Native.Nat.{_≤_};
 
 fn at_most(n: usize, most: usize) -> usize

@@ -9,8 +9,11 @@ use Rattle.params.specs.declared.Settings.{Settings}
 use Rattle.kplib.specs.declared.traverse.Answer.{Answer}
 use Rattle.params.specs.Numbers.{Table, Parts, Call, callOf, badK, firstFault}
 use Rattle.kplib.specs.Answer.{answerOf, rowsOf, placed, queueRoom}
-use Rattle.desk.specs.Desk.{answerText}
-use Rattle.desk.specs.Memory.{searchText}
+use Rattle.text.specs.Text.{answerText}
+use Rattle.text.specs.Written.{Written}
+use Rattle.text.proofs.TextLaws.{answer-short}
+use Rattle.desk.specs.Memory.{searchText, Printed}
+use Rattle.desk.proofs.DeskLaws.{printed-as}
 
 pub refused-k-zero : (c : Call) → c .settings .k ≡ 0 → answerOf c .refusal ≡ 1
 unfolding answerOf firstFault badK
@@ -25,7 +28,7 @@ placed-few old rows new e l =
     let c = length-drop (length rows) old in
     omega arith
 
--- what the search answered in the program's room: how many rows it has, and its text
+-- what the search answered in the program's room, as text
 module _ (s : Settings) (t : Table) (p : Parts) (links keys old : List ℕ) where
   abbrev call : Call
   call = callOf s t p (queueRoom links keys) (length old)
@@ -39,20 +42,21 @@ module _ (s : Settings) (t : Table) (p : Parts) (links keys old : List ℕ) wher
     unfolding answerOf rowsOf
     rows-are = ap (λ (x : Answer). x .rows) is
 
-    pub answer-few : length new ≡ 16 → a .rows ≤ 16
-    answer-few l =
-        let e = rows-are in
-        let f = placed-few old (rowsOf call) new stands (l ∙ sym row-room) in
-        omega arith
-
     rows-taken : take (a .rows) new ≡ rowsOf call
     unfolding placed
     rows-taken = rw stands (take-at (rowsOf call) (drop (length (rowsOf call)) old) (a .rows) (sym rows-are))
 
-    pub answer-text : answerText a (take (a .rows) new) ≡ searchText s t p
+    answer-text : answerText a (take (a .rows) new) ≡ searchText s t p
     unfolding searchText
     answer-text =
         let held = callOf s t p 1025 16 in
         let g : a ≡ answerOf held = rw (queue-is, row-room) at is in
         let h : take (a .rows) new ≡ rowsOf held = rw (queue-is, row-room) at rows-taken in
         ap (λ (x : Answer). answerText x (take (a .rows) new)) g ∙ ap (answerText (answerOf held)) h
+
+    pub answer-printed : length new ≡ 16 → {out out' : List ℕ} {r : ℕ} → Written out 0 (answerText a (take (a .rows) new)) out' r → Printed out (searchText s t p) out' r
+    answer-printed l w =
+        let e : length (take (a .rows) new) ≡ length (rowsOf call) = ap length rows-taken in
+        let f = placed-few old (rowsOf call) new stands (l ∙ sym row-room) in
+        let g = answer-short a (take (a .rows) new) in
+        printed-as (record { written = w; short = omega arith }) answer-text

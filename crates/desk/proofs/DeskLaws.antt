@@ -1,40 +1,35 @@
--- The text of an answer, and which text is given where.
+-- Which text is given where, and that all of it stands at the front of the buffer.
 use Prim.Native.Nat.{ℕ, _+_, _≤_, _<_}
 use native.Mathlib.Omega.{arith}
 use native.Mathlib.Nat.{zero-add}
-use mathlib.Core.Path.{_≡_, refl, sym, ap, _∙_}
-use mathlib.Core.Bool.{true}
+use mathlib.Core.Path.{_≡_, ap, subst, _∙_}
 use mathlib.Core.List.{List, _++_}
 use lib.ListN.{length, drop}
 use lib.Seq.{sets-eq}
-use borrow.Author.Tests.{lt-ltb, le-ltb, eq-eqb, ne-eqb}
-use Rattle.kplib.specs.declared.traverse.Answer.{Answer}
-use Rattle.job.specs.declared.form.Scan.{Scan}
-use Rattle.job.specs.declared.form.Scan.the-variants.{Good, Refused}
-use Rattle.job.specs.declared.form.Counts.{Counts}
-use Rattle.job.specs.Job.{Job, Read, Faulty, Held, readJob}
-use Rattle.job.specs.Reading.{placed, jobCounts, scanOf}
-use Rattle.desk.specs.Text.{sevenLines, refusedText}
-use Rattle.desk.specs.Desk.{answerText, tooLarge, readText, deskText}
-use Rattle.desk.specs.Memory.{Holds}
-use Rattle.desk.specs.Pieces.{Put}
+use borrow.Author.Tests.{lt-ltb, le-ltb}
+use Rattle.form.specs.Job.{readJob}
+use Rattle.metrics.specs.Placed.{placed}
+use Rattle.text.specs.Text.{refusedText}
+use Rattle.text.specs.Written.{Written}
+use Rattle.text.proofs.TextLaws.{refused-short}
+use Rattle.desk.specs.Desk.{readText, deskText}
+use Rattle.desk.specs.Memory.{Printed}
 
-pub text-refused : (a : Answer) (rows : List ℕ) → (a .refusal ≡ 0 → ⊥) → refusedText (a .refusal) ≡ answerText a rows
-unfolding answerText
-text-refused a rows h = simp (ne-eqb (a .refusal) 0 h)
+-- the line of a refusal, and the same text under another name
+pub printed-refused : {t u : List ℕ} {r : ℕ} (n : ℕ) → Written t 0 (refusedText n) u r → Printed t (refusedText n) u r
+printed-refused n w = record { written = w; short = let h = refused-short n in omega arith }
 
-pub text-accepted : (a : Answer) (rows : List ℕ) → a .refusal ≡ 0 → sevenLines rows a ≡ answerText a rows
-unfolding answerText
-text-accepted a rows h = simp (eq-eqb (a .refusal) 0 h)
+pub printed-as : {t u : List ℕ} {r : ℕ} {xs ys : List ℕ} → Printed t xs u r → xs ≡ ys → Printed t ys u r
+printed-as {t} {u} {r} {xs} {ys} p e = subst (λ (l : List ℕ). Printed t l u r) e p
 
--- what is put at the front of a buffer with room is placed there
-pub put-placed : {most : ℕ} {t u : List ℕ} {r : ℕ} {xs : List ℕ} → Put most t u 0 r xs → most ≤ length t → (r ≡ length xs) × (u ≡ placed t xs)
-put-placed {most} {t} {u} {r} {xs} p h =
-    let n : r ≡ length xs = p .next ∙ zero-add (length xs) in
+-- what is printed into a buffer with room for it is placed at its front
+pub printed-placed : {t u : List ℕ} {r : ℕ} {xs : List ℕ} → Printed t xs u r → 269 ≤ length t → (r ≡ length xs) × (u ≡ placed t xs)
+printed-placed {t} {u} {r} {xs} p h =
+    let w = p .written .next in
     let s = p .short in
     let room : 0 + length xs ≤ length t = omega arith in
     let e : 0 + length xs ≡ length xs = zero-add (length xs) in
-    (n, p .is ∙ sets-eq xs t 0 room ∙ ap (λ (k : ℕ). xs ++ drop k t) e)
+    (omega arith, p .written .is ∙ sets-eq xs t 0 room ∙ ap (λ (k : ℕ). xs ++ drop k t) e)
 
 module _ (input : List ℕ) where
   pub desk-long : 32768 < length input → refusedText 26 ≡ deskText input
@@ -44,58 +39,3 @@ module _ (input : List ℕ) where
   pub desk-read : length input ≤ 32768 → readText (readJob input) ≡ deskText input
   unfolding deskText
   desk-read h = simp (le-ltb _ _ h)
-
-  -- the first pass refuses exactly the faulty inputs
-  pub scan-faulty : (read : Read) (found : Scan) → found ≡ scanOf read → (n : ℕ) → found ≡ Refused n → refusedText n ≡ readText read
-  unfolding scanOf readText
-  scan-faulty (Faulty m) found e n f = let q : Refused n ≡ Refused m = sym f ∙ e in let z : n ≡ m = cc in ap refusedText z
-  scan-faulty (Held job) found e n f = let q : Refused n ≡ Good (jobCounts job) = sym f ∙ e in let z : _≡_ {A = ℕ} 0 1 = cc in let w : ⊥ = omega arith in absurd w
-
-  -- what the first pass counts, and the job that it counted
-  pub record Found (c : Counts) : Type 0 where
-    pub job : Job
-    pub held : readJob input ≡ Held job
-    pub counts : c ≡ jobCounts job
-
-  scan-held : (read : Read) → readJob input ≡ read → (found : Scan) → found ≡ scanOf read → (c : Counts) → found ≡ Good c → Found c
-  unfolding scanOf
-  scan-held (Faulty m) r found e c f = let q : Good c ≡ Refused m = sym f ∙ e in let z : _≡_ {A = ℕ} 0 1 = cc in let w : ⊥ = omega arith in absurd w
-  scan-held (Held job) r found e c f = let q : Good c ≡ Good (jobCounts job) = sym f ∙ e in let z : c ≡ jobCounts job = cc in record { job = job; held = r; counts = z }
-
-  pub found-job : (found : Scan) → found ≡ scanOf (readJob input) → (c : Counts) → found ≡ Good c → Found c
-  found-job found e c f = scan-held (readJob input) refl found e c f
-
-  module _ (c : Counts) (f : Found c) where
-    variants-are : c .variants ≡ length (f .job .variants)
-    unfolding jobCounts
-    variants-are = ap (λ (x : Counts). x .variants) (f .counts)
-
-    parts-are : c .parts ≡ length (f .job .parts)
-    unfolding jobCounts
-    parts-are = ap (λ (x : Counts). x .parts) (f .counts)
-
-    large-read : tooLarge (f .job) ≡ true → refusedText 26 ≡ readText (readJob input)
-    unfolding readText
-    large-read h = rw (f .held, h) refl
-
-    pub many-variants : 16 < c .variants → refusedText 26 ≡ readText (readJob input)
-    unfolding tooLarge
-    many-variants h =
-        let e = variants-are in
-        let g : 16 < length (f .job .variants) = omega arith in
-        large-read (simp (lt-ltb _ _ g))
-
-    pub many-parts : c .variants ≤ 16 → 8 < c .parts → refusedText 26 ≡ readText (readJob input)
-    unfolding tooLarge
-    many-parts v h =
-        let d = variants-are in
-        let e = parts-are in
-        let w : length (f .job .variants) ≤ 16 = omega arith in
-        let g : 8 < length (f .job .parts) = omega arith in
-        large-read (simp (le-ltb _ _ w, lt-ltb _ _ g))
-
-    pub found-holds : length input ≤ 32768 → c .variants ≤ 16 → c .parts ≤ 8 → Holds input
-    found-holds l v p =
-        let d = variants-are in
-        let e = parts-are in
-        record { job = f .job; held = f .held; short = l; variants = omega arith; parts = omega arith }

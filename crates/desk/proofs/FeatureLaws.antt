@@ -10,14 +10,14 @@ use lib.IntN.{ℤ}
 use lib.ListN.{length, getD, take, drop, length-append, length-take, length-drop, drop-of-length-le}
 use lib.Seq.{drop-cons, drop-drop, take-at, length-take-le}
 use borrow.Rule.Slice.PartMut.{putMid, post-is}
-use Rattle.metrics.specs.declared.kmer.Counted.{Counted as CountAnswer}
+use Rattle.metrics.specs.declared.kmer.Counted.{Counted}
 use Rattle.metrics.specs.declared.kmer.Counted.the-variants.{Done}
 use Rattle.metrics.specs.Letters.{windowsOf, timesIn, signed, countsOf, counterAnswer, rowAfter}
 use Rattle.metrics.proofs.Windows.{table-length}
 use Rattle.metrics.proofs.Totals.{counter-done}
-use Rattle.job.proofs.RowLaws.{sum-next}
-use Rattle.job.specs.Writing.{sum}
-use Rattle.desk.specs.Rows.{rowsFrom, rowStored, RowFits, RowsFit, Counted}
+use Rattle.form.proofs.GatherLaws.{sum-next}
+use Rattle.form.specs.Lent.{sum}
+use Rattle.desk.specs.Rows.{rowsFrom, rowStored, RowFits, RowsFit, RowsCounted}
 
 row-length : (k : ℕ) (negative : Bool) (s : List ℕ) → length (countsOf k negative s) ≡ 4 ^ k
 unfolding countsOf
@@ -28,7 +28,7 @@ accepted : (k : ℕ) (s : List ℕ) (out : List ℤ) → 1 ≤ k → k ≤ 4 →
 accepted k s out low high long few = counter-done k s out low (omega arith) long (omega arith)
 
 pub row-counted : (k at end from to : ℕ) (negative : Bool) (letters : List ℕ) (table : List ℤ) → RowFits k at end from to letters table →
-    (answer : CountAnswer) → answer ≡ counterAnswer k (take (end - at) (drop at letters)) (take (to - from) (drop from table)) →
+    (answer : Counted) → answer ≡ counterAnswer k (take (end - at) (drop at letters)) (take (to - from) (drop from table)) →
     (row : List ℤ) → row ≡ rowAfter answer (countsOf k negative (take (end - at) (drop at letters))) (take (to - from) (drop from table)) →
     putMid from (to - from) table row ≡ rowStored from to table (countsOf k negative (take (end - at) (drop at letters)))
 unfolding rowStored
@@ -122,7 +122,7 @@ module _ (k width : ℕ) (negatives : List Bool) (counts letters : List ℕ) (fi
         }
 
   pub rows-done : (table : List ℤ) (row at from : ℕ) → Running k width negatives counts letters first old table row at from → length counts ≤ row →
-      Counted k width negatives counts letters first at old table
+      RowsCounted k width negatives counts letters first at old table
   rows-done table row at from now end =
       let a = now .within in
       let r : row ≡ length counts = omega arith in
@@ -130,8 +130,9 @@ module _ (k width : ℕ) (negatives : List Bool) (counts letters : List ℕ) (fi
       let no-counts : drop row counts ≡ [] = drop-of-length-le counts {i = row} end in
       let no-flags : drop row negatives ≡ [] = drop-of-length-le negatives {i = row} (omega arith) in
       let f : from ≡ length counts * width = now .from-is ∙ ap (λ (n : ℕ). n * width) r in
-      let w : take from table ++ [] ≡ rowsFrom k negatives counts (drop first letters) =
-      ap (λ (l : List ℤ). take from table ++ l) (sym (ap (λ (l : List Bool). rowsFrom k l (drop row counts) (drop at letters)) no-flags ∙ rows-none k (drop row counts) (drop at letters))) ∙ now .whole in
+      let none : rowsFrom k (drop row negatives) (drop row counts) (drop at letters) ≡ [] =
+      ap (λ (l : List Bool). rowsFrom k l (drop row counts) (drop at letters)) no-flags ∙ rows-none k (drop row counts) (drop at letters) in
+      let w : take from table ++ [] ≡ rowsFrom k negatives counts (drop first letters) = ap (λ (l : List ℤ). take from table ++ l) (sym none) ∙ now .whole in
       let s : at + 0 ≡ first + sum counts = ap (λ (n : ℕ). at + n) (sym (ap sum no-counts ∙ sum-none)) ∙ now .letters-left in
       record {
         front = rw (← f) (sym (append-nil (take from table)) ∙ w);

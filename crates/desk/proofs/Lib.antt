@@ -1,5 +1,6 @@
-pub mod PieceLaws
-pub mod FeatureLaws
 pub mod DeskLaws
+pub mod FeatureLaws
+pub mod FaultLaws
 pub mod AnswerLaws
 pub mod MemoryLaws
+pub mod ReadLaws

@@ -2,15 +2,14 @@
 use Prim.Native.Nat.{ℕ}
 use mathlib.Core.Bool.{Bool, _||_, cond}
 use mathlib.Core.List.{List, [], _∷_, _++_, map}
-use lib.Dec.{ltb, eqb}
+use lib.Dec.{ltb}
 use lib.IntN.{ℤ}
 use lib.ListN.{length}
 use Rattle.metrics.specs.Letters.{countsOf}
-use Rattle.kplib.specs.declared.traverse.Answer.{Answer}
 use Rattle.params.specs.Numbers.{Table, Parts, Call, tableOf, partsOf, callOf}
 use Rattle.kplib.specs.Answer.{answerOf, rowsOf}
-use Rattle.job.specs.Job.{Variant, Part, Job, Read, Faulty, Held, readJob}
-use Rattle.desk.specs.Text.{sevenLines, refusedText}
+use Rattle.form.specs.Job.{Variant, Part, Job, Read, Faulty, Held, readJob}
+use Rattle.text.specs.Text.{refusedText, answerText}
 
 -- the feature rows of the variants one behind the other, and of the parts
 unfoldable pub variantFeatures : ℕ → List Variant → List ℤ
@@ -30,10 +29,6 @@ tableOfJob job = tableOf
 
 unfoldable pub partsOfJob : Job → Parts
 partsOfJob job = partsOf (map (λ (x : Part). x .size) (job .parts)) (partFeatures (job .settings .k) (job .parts))
-
--- `refused N`, or the seven lines
-unfoldable pub answerText : Answer → List ℕ → List ℕ
-answerText a rows = cond (eqb (a .refusal) 0) (sevenLines rows a) (refusedText (a .refusal))
 
 -- over 16 variants, 8 parts, k over 4 or maxpaths over 63
 unfoldable pub tooLarge : Job → Bool

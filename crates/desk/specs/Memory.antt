@@ -3,17 +3,23 @@ use Prim.Native.Nat.{ℕ, _+_, _≤_}
 use mathlib.Core.Path.{_≡_}
 use mathlib.Core.Bool.{cond}
 use mathlib.Core.List.{List}
-use lib.Dec.{ltb}
+use lib.Dec.{ltb, eqb}
 use lib.ListN.{length, take, drop}
 use Rattle.params.specs.declared.Settings.{Settings}
 use Rattle.params.specs.Numbers.{Table, Parts, tableOf, partsOf, callOf}
 use Rattle.kplib.specs.Answer.{answerOf, rowsOf}
-use Rattle.job.specs.Job.{Job, Held, readJob}
-use Rattle.job.specs.Reading.{Lent, lent}
-use Rattle.job.specs.Writing.{sum}
-use Rattle.desk.specs.Text.{refusedText}
+use Rattle.reader.specs.declared.Reading.{Reading}
+use Rattle.reader.specs.declared.Reading.the-variants.{Refused as Declined, Job as Given}
+use Rattle.form.specs.Lent.{Lent, lent}
+use Rattle.form.specs.Lent.{sum}
+use Rattle.text.specs.Text.{refusedText, answerText}
+use Rattle.text.specs.Written.{Written}
 use Rattle.desk.specs.Rows.{rowsFrom}
-use Rattle.desk.specs.Desk.{answerText}
+
+-- a text stored at the front of a slice, and of at most 269 bytes: 16 rows, six more lines
+pub record Printed (old text new : List ℕ) (r : ℕ) : Type 0 where
+  pub written : Written old 0 text new r
+  pub short : length text ≤ 269
 
 -- the table and the parts that nine slices give once their letters are counted
 abbrev pub tableFrom : ℕ → Lent → Table
@@ -25,16 +31,17 @@ partsFrom k t = partsOf (t .partSizes) (rowsFrom k (t .partNegatives) (t .partCo
 unfoldable pub searchText : Settings → Table → Parts → List ℕ
 searchText s t p = answerText (answerOf (callOf s t p 1025 16)) (rowsOf (callOf s t p 1025 16))
 
-unfoldable pub memoryText : Settings → Lent → List ℕ
-memoryText s t = searchText s (tableFrom (s .k) t) (partsFrom (s .k) t)
+-- 26 for k over 4 or maxpaths over 63, 1 for k 0, and else 0
+unfoldable pub limitFault : Settings → ℕ
+limitFault s = cond (ltb 4 (s .k)) 26 (cond (ltb 63 (s .maxpaths)) 26 (cond (ltb (s .k) 1) 1 0))
+
+unfoldable pub heldText : Settings → Lent → List ℕ
+heldText s t = cond (eqb (limitFault s) 0) (searchText s (tableFrom (s .k) t) (partsFrom (s .k) t)) (refusedText (limitFault s))
 
 -- slices that fit the program's tables
-pub record Fits (k : ℕ) (t : Lent) : Type 0 where
-  pub k-low : 1 ≤ k
-  pub k-high : k ≤ 4
+pub record Fits (t : Lent) : Type 0 where
   pub variants : length (t .counts) ≤ 16
   pub parts : length (t .partCounts) ≤ 8
-  pub starts : length (t .starts) ≤ 16
   pub alike : length (t .negatives) ≡ length (t .counts)
   pub part-alike : length (t .partNegatives) ≡ length (t .partCounts)
   pub letters-end : sum (t .counts) + sum (t .partCounts) ≤ length (t .letters)
@@ -45,7 +52,8 @@ abbrev pub cut : ℕ → ℕ → Lent → Lent
 cut v m t = lent (take v (t .starts)) (take v (t .ends)) (take v (t .sizes)) (take v (t .negatives)) (take v (t .counts))
     (take m (t .partSizes)) (take m (t .partNegatives)) (take m (t .partCounts)) (t .letters)
 
-pub record Loaded (s : Settings) (v m : ℕ) (t : Lent) : Type 0 where
+-- that they stand there, and fit
+pub record Front (v m : ℕ) (t : Lent) : Type 0 where
   pub starts : v ≤ length (t .starts)
   pub ends : v ≤ length (t .ends)
   pub sizes : v ≤ length (t .sizes)
@@ -54,18 +62,17 @@ pub record Loaded (s : Settings) (v m : ℕ) (t : Lent) : Type 0 where
   pub part-sizes : m ≤ length (t .partSizes)
   pub part-negatives : m ≤ length (t .partNegatives)
   pub part-counts : m ≤ length (t .partCounts)
-  pub fits : 1 ≤ s .k → s .k ≤ 4 → Fits (s .k) (cut v m t)
+  pub fits : Fits (cut v m t)
 
--- 26 for k over 4 or maxpaths over 63, 1 for k 0, and else what the search answers
-unfoldable pub loadedText : Settings → ℕ → ℕ → Lent → List ℕ
-loadedText s v m t =
-    cond (ltb 4 (s .k)) (refusedText 26) (cond (ltb 63 (s .maxpaths)) (refusedText 26)
-    (cond (ltb (s .k) 1) (refusedText 1) (memoryText s (cut v m t))))
+-- the reader's 30, too little room, is the program's 26
+unfoldable pub toldAs : ℕ → ℕ
+toldAs n = cond (eqb n 30) 26 n
 
--- an input whose job fits
-pub record Holds (input : List ℕ) : Type 0 where
-  pub job : Job
-  pub held : readJob input ≡ Held job
-  pub short : length input ≤ 32768
-  pub variants : length (job .variants) ≤ 16
-  pub parts : length (job .parts) ≤ 8
+-- what the reader said, and the slices that it filled
+abbrev pub Loaded : Reading → Lent → Type 0
+Loaded (Declined n) t = Unit {0}
+Loaded (Given s c) t = Front (c .variants) (c .parts) t
+
+unfoldable pub readingText : Reading → Lent → List ℕ
+readingText (Declined n) t = refusedText (toldAs n)
+readingText (Given s c) t = heldText s (cut (c .variants) (c .parts) t)

@@ -4,7 +4,7 @@ use Prim.Native.Nat.{ℕ}
 use mathlib.Core.Path.{_≡_}
 use mathlib.Core.List.{List}
 use lib.ListN.{length}
-use Rattle.job.specs.Reading.{placed}
+use Rattle.metrics.specs.Placed.{placed}
 use Rattle.desk.specs.Desk.{deskText}
 
 abbrev pub AnswerPromise : List ℕ → List ℕ → List ℕ → ℕ → Type 0

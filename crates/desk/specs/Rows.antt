@@ -6,7 +6,7 @@ use mathlib.Core.List.{List, [], _∷_, _++_}
 use lib.IntN.{ℤ}
 use lib.ListN.{length, take, drop}
 use Rattle.metrics.specs.Letters.{countsOf}
-use Rattle.job.specs.Writing.{sum}
+use Rattle.form.specs.Lent.{sum}
 
 -- rows counted from letters that stand one sequence behind the other
 unfoldable pub rowsFrom : ℕ → List Bool → List ℕ → List ℕ → List ℤ
@@ -36,7 +36,7 @@ pub record RowsFit (k width : ℕ) (negatives : List Bool) (counts letters : Lis
   pub few : length letters ≤ 32768
   pub table-end : length counts * width ≤ length table
 
-pub record Counted (k width : ℕ) (negatives : List Bool) (counts letters : List ℕ) (first r : ℕ) (old new : List ℤ) : Type 0 where
+pub record RowsCounted (k width : ℕ) (negatives : List Bool) (counts letters : List ℕ) (first r : ℕ) (old new : List ℤ) : Type 0 where
   pub front : take (length counts * width) new ≡ rowsFrom k negatives counts (drop first letters)
   pub next : r ≡ first + sum counts
   pub kept : length new ≡ length old

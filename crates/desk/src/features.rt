@@ -4,7 +4,7 @@ ghost use mathlib.Core.Path.{_≡_};
 ghost use Prim.Native.Nat.{_-_};
 ghost use lib.ListN.{take, drop};
 ghost use Rattle.metrics.specs.Letters.{countsOf};
-ghost use Rattle.desk.specs.Rows.{RowFits, RowsFit, Counted, rowStored};
+ghost use Rattle.desk.specs.Rows.{RowFits, RowsFit, RowsCounted, rowStored};
 
 // One row, of the letters from `at` to `end`, into the entries from `from` to `to`.
 fn count_row(
@@ -34,7 +34,7 @@ pub(crate) fn count_rows(
     table: &mut [i32],
 ) -> usize
     requires { ⌜ RowsFit k width (now negatives) (now counts) (now letters) first (now table) ⌝ }
-    ensures { λ r. ⌜ Counted k width (now (negatives .entry)) (now (counts .entry)) (now (letters .entry)) first r (now (table .entry)) (now (table .exit)) ⌝ }
+    ensures { λ r. ⌜ RowsCounted k width (now (negatives .entry)) (now (counts .entry)) (now (letters .entry)) first r (now (table .entry)) (now (table .exit)) ⌝ }
 {
     let mut row = 0usize;
     let mut at = first;

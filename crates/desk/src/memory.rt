@@ -5,36 +5,24 @@ use crate::room::letter_room;
 use crate::room::part_table;
 use crate::room::queue_room;
 use crate::room::variant_table;
-use crate::text::put_answer;
-use crate::text::put_refused;
-use job::reader::Reading;
-use job::reader::read_job;
-use kplib::traverse::Answer;
 use kplib::traverse::apply_haplotype;
 use metrics::kmer::entries;
 use metrics::refusals::BAD_K;
+use metrics::refusals::LITTLE_ROOM;
 use metrics::refusals::TOO_LARGE;
 use params::Settings;
+use reader::Reading;
+use reader::read_job;
+use text::put_answer;
+use text::put_refused;
+ghost use mathlib.Core.Path.{_≡_};
 ghost use Prim.Native.Nat.{_≤_};
-ghost use lib.ListN.{length, take};
+ghost use lib.ListN.{length};
 ghost use Rattle.params.specs.Numbers.{tableOf, partsOf};
-ghost use Rattle.job.specs.Job.{readJob};
-ghost use Rattle.job.specs.Reading.{lent};
-ghost use Rattle.desk.specs.Desk.{answerText, readText};
-ghost use Rattle.desk.specs.Memory.{searchText, memoryText, loadedText, Fits, Loaded, Holds};
-ghost use Rattle.desk.specs.Pieces.{Put};
-
-// `refused N`, or the seven lines with the rows that stand at the front of `rows`.
-fn print(a: Answer, rows: &[u32], out: &mut [u8]) -> usize
-    requires { ⌜ (a .rows ≤ length (now rows)) × ((length (now rows) ≤ 16) × (281 ≤ length (now out))) ⌝ }
-    ensures { λ r. ⌜ Put 281 (now (out .entry)) (now (out .exit)) 0 r (answerText a (take (a .rows) (now (rows .entry)))) ⌝ }
-{
-    if a.refusal != 0 {
-        return put_refused(out, a.refusal);
-    }
-    let n = a.rows as usize;
-    put_answer(out, &rows[..n], a)
-}
+ghost use Rattle.form.specs.Job.{readJob};
+ghost use Rattle.form.specs.Lent.{lent};
+ghost use Rattle.desk.specs.Desk.{readText};
+ghost use Rattle.desk.specs.Memory.{searchText, limitFault, heldText, toldAs, readingText, Fits, Loaded, Printed};
 
 fn search(
     s: Settings,
@@ -46,10 +34,9 @@ fn search(
     part_features: &[i32],
     out: &mut [u8],
 ) -> usize
-    requires { ⌜ (length (now starts) ≤ 16) × (281 ≤ length (now out)) ⌝ }
-    ensures { λ r. ⌜ Put 281 (now (out .entry)) (now (out .exit)) 0 r (searchText s
+    ensures { λ r. ⌜ Printed (now (out .entry)) (searchText s
         (tableOf (now (starts .entry)) (now (ends .entry)) (now (sizes .entry)) (now (features .entry)))
-        (partsOf (now («part_sizes» .entry)) (now («part_features» .entry)))) ⌝ }
+        (partsOf (now («part_sizes» .entry)) (now («part_features» .entry)))) (now (out .exit)) r ⌝ }
 {
     let mut links = queue_room();
     let mut keys = key_room();
@@ -66,11 +53,27 @@ fn search(
         &mut keys,
         &mut rows,
     );
-    print(a, &rows, out)
+    put_answer(out, 0, &rows, a)
 }
 
-// Counts the features of all sequences, and searches.
-fn count_and_search(
+// The program's own limits. k 0 has no features to count: 1 is the first row of the table of refusals.
+fn limit_fault(s: Settings) -> u32
+    ensures { λ r. ⌜ r ≡ limitFault s ⌝ }
+{
+    if 4 < s.k {
+        return TOO_LARGE;
+    }
+    if 63 < s.maxpaths {
+        return TOO_LARGE;
+    }
+    if s.k < 1 {
+        return BAD_K;
+    }
+    0
+}
+
+// Counts the features of all sequences of a job within the limits, and searches.
+fn answer_held(
     s: Settings,
     starts: &[u64],
     ends: &[u64],
@@ -83,12 +86,16 @@ fn count_and_search(
     letters: &[u8],
     out: &mut [u8],
 ) -> usize
-    requires { ⌜ Fits (s .k) (lent (now starts) (now ends) (now sizes) (now negatives) (now counts) (now «part_sizes») (now «part_negatives»)
-        (now «part_counts») (now letters)) × (281 ≤ length (now out)) ⌝ }
-    ensures { λ r. ⌜ Put 281 (now (out .entry)) (now (out .exit)) 0 r (memoryText s
+    requires { ⌜ Fits (lent (now starts) (now ends) (now sizes) (now negatives) (now counts) (now «part_sizes») (now «part_negatives»)
+        (now «part_counts») (now letters)) ⌝ }
+    ensures { λ r. ⌜ Printed (now (out .entry)) (heldText s
         (lent (now (starts .entry)) (now (ends .entry)) (now (sizes .entry)) (now (negatives .entry)) (now (counts .entry))
-        (now («part_sizes» .entry)) (now («part_negatives» .entry)) (now («part_counts» .entry)) (now (letters .entry)))) ⌝ }
+        (now («part_sizes» .entry)) (now («part_negatives» .entry)) (now («part_counts» .entry)) (now (letters .entry)))) (now (out .exit)) r ⌝ }
 {
+    let fault = limit_fault(s);
+    if fault != 0 {
+        return put_refused(out, 0, fault);
+    }
     let width = entries(s.k);
     let mut features = variant_table();
     let mut part_features = part_table();
@@ -116,11 +123,16 @@ fn count_and_search(
     )
 }
 
-// A job of v variants and m parts that stands at the fronts of the arrays. k 0 has no features to count: 1 is the first row of the table of refusals.
-fn answer_loaded(
-    s: Settings,
-    v: usize,
-    m: usize,
+// The number that is printed for one of the reader's: too little room is too large a job.
+fn told_as(n: u32) -> u32
+    ensures { λ r. ⌜ r ≡ toldAs n ⌝ }
+{
+    if n == LITTLE_ROOM { TOO_LARGE } else { n }
+}
+
+// What the reader said, and the arrays that it filled: the job stands at their fronts.
+fn answer_reading(
+    read: Reading,
     starts: &[u64],
     ends: &[u64],
     sizes: &[i32],
@@ -132,40 +144,34 @@ fn answer_loaded(
     letters: &[u8],
     out: &mut [u8],
 ) -> usize
-    requires { ⌜ Loaded s v m (lent (now starts) (now ends) (now sizes) (now negatives) (now counts) (now «part_sizes») (now «part_negatives»)
-        (now «part_counts») (now letters)) × (281 ≤ length (now out)) ⌝ }
-    ensures { λ r. ⌜ Put 281 (now (out .entry)) (now (out .exit)) 0 r (loadedText s v m
+    requires { ⌜ Loaded read (lent (now starts) (now ends) (now sizes) (now negatives) (now counts) (now «part_sizes») (now «part_negatives»)
+        (now «part_counts») (now letters)) ⌝ }
+    ensures { λ r. ⌜ Printed (now (out .entry)) (readingText read
         (lent (now (starts .entry)) (now (ends .entry)) (now (sizes .entry)) (now (negatives .entry)) (now (counts .entry))
-        (now («part_sizes» .entry)) (now («part_negatives» .entry)) (now («part_counts» .entry)) (now (letters .entry)))) ⌝ }
+        (now («part_sizes» .entry)) (now («part_negatives» .entry)) (now («part_counts» .entry)) (now (letters .entry)))) (now (out .exit)) r ⌝ }
 {
-    if 4 < s.k {
-        return put_refused(out, TOO_LARGE);
+    match read {
+        Reading::Refused(n) => put_refused(out, 0, told_as(n)),
+        Reading::Job(s, c) => answer_held(
+            s,
+            &starts[..c.variants],
+            &ends[..c.variants],
+            &sizes[..c.variants],
+            &negatives[..c.variants],
+            &counts[..c.variants],
+            &part_sizes[..c.parts],
+            &part_negatives[..c.parts],
+            &part_counts[..c.parts],
+            letters,
+            out,
+        ),
     }
-    if 63 < s.maxpaths {
-        return put_refused(out, TOO_LARGE);
-    }
-    if s.k < 1 {
-        return put_refused(out, BAD_K);
-    }
-    count_and_search(
-        s,
-        &starts[..v],
-        &ends[..v],
-        &sizes[..v],
-        &negatives[..v],
-        &counts[..v],
-        &part_sizes[..m],
-        &part_negatives[..m],
-        &part_counts[..m],
-        letters,
-        out,
-    )
 }
 
-// Reads a job that fits, and answers it.
-pub(crate) fn answer_held(input: &[u8], out: &mut [u8]) -> usize
-    requires { ⌜ Holds (now input) × (281 ≤ length (now out)) ⌝ }
-    ensures { λ r. ⌜ Put 281 (now (out .entry)) (now (out .exit)) 0 r (readText (readJob (now (input .entry)))) ⌝ }
+// Reads a job, and answers it.
+pub(crate) fn answer_read(input: &[u8], out: &mut [u8]) -> usize
+    requires { ⌜ length (now input) ≤ 32768 ⌝ }
+    ensures { λ r. ⌜ Printed (now (out .entry)) (readText (readJob (now (input .entry)))) (now (out .exit)) r ⌝ }
 {
     let mut starts = [0u64; 16];
     let mut ends = [0u64; 16];
@@ -188,22 +194,17 @@ pub(crate) fn answer_held(input: &[u8], out: &mut [u8]) -> usize
         &mut part_counts,
         &mut letters,
     );
-    match read {
-        Reading::Refused(n) => put_refused(out, n),
-        Reading::Job(s, c) => answer_loaded(
-            s,
-            c.variants,
-            c.parts,
-            &starts,
-            &ends,
-            &sizes,
-            &negatives,
-            &counts,
-            &part_sizes,
-            &part_negatives,
-            &part_counts,
-            &letters,
-            out,
-        ),
-    }
+    answer_reading(
+        read,
+        &starts,
+        &ends,
+        &sizes,
+        &negatives,
+        &counts,
+        &part_sizes,
+        &part_negatives,
+        &part_counts,
+        &letters,
+        out,
+    )
 }

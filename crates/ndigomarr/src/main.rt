@@ -2,7 +2,7 @@
 fn main() {
     let mut job = [0u8; 32769];
     let got = io::read_full(0, &mut job);
-    let mut out = [0u8; 512];
+    let mut out = [0u8; 8192];
     let n = desk::answer(&job[..got], &mut out);
     io::write_all(1, &out[..n]);
 }

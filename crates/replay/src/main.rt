@@ -24,14 +24,14 @@ fn read_bytes(into: &mut [u8], length: usize) {
     io::read_full(0, &mut into[0..n]);
 }
 
-fn write_text(text: [u8; 512], length: usize) -> bool {
-    let n = at_most(length, 512);
+fn write_text(text: [u8; 8192], length: usize) -> bool {
+    let n = at_most(length, 8192);
     io::write_all(1, &text[0..n])
 }
 
 fn print_answer(job: &[u8], length: usize) -> bool {
     let n = at_most(length, job.len());
-    let mut out = [0u8; 512];
+    let mut out = [0u8; 8192];
     let written = desk::answer(&job[0..n], &mut out);
     write_text(out, written)
 }

@@ -1,10 +1,11 @@
 // Reads the stored list from standard input (oracle/crates/judge/src/bin/make-lists.rs, `Stored`). What is read is not known to be
 // anything, so every length is held to its slice.
-use job::reader::Reading;
-use job::reader::read_job;
+use fields::i32_of;
 use metrics::kmer::entries;
 use metrics::kmer::seq_to_kmer;
 use params::Settings;
+use reader::Reading;
+use reader::read_job;
 ghost use Prim.Native.Nat.{_≤_, _<_};
 
 fn wide(b: u8) -> u32
@@ -24,14 +25,6 @@ fn long() -> u64 {
     let low = word();
     let high = word();
     low as u64 + 4294967296 * (high as u64)
-}
-
-fn signed(x: u32) -> i32 {
-    if x < 2147483648 {
-        return x as i32;
-    }
-    let y = (4294967295 - x) as i32;
-    -1 - y
 }
 
 pub(crate) fn at_most(n: u32, most: usize) -> usize
@@ -66,7 +59,7 @@ pub(crate) fn read_i32s(into: &mut [i32], count: u32) {
     let n = at_most(count, into.len());
     let mut i = 0usize;
     while i < n {
-        into[i] = signed(word());
+        into[i] = i32_of(word());
         i += 1;
     }
 }
@@ -112,7 +105,7 @@ fn change(table: &mut [i32], place: usize, value: i32) {
 fn read_change(features: &mut [i32], part_features: &mut [i32]) {
     let table = word();
     let place = word() as usize;
-    let value = signed(word());
+    let value = i32_of(word());
     if table == 0 {
         change(features, place, value);
     } else {

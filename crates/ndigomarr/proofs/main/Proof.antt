@@ -29,12 +29,12 @@ answer-requires : tie.Need-answer-requires
 answer-requires c κs = search needs
 
 array-share-prefix-out : tie.Need-array-share-prefix-out
-array-share-prefix-out c = within _ _ (replicate 512 0) _ (c .answer .ensures .0) (c .answer .ensures .1)
+array-share-prefix-out c = within _ _ (replicate 8192 0) _ (c .answer .ensures .0) (c .answer .ensures .1)
 
 slice-aggregate-write-all : tie.Need-slice-aggregate-write-all
 slice-aggregate-write-all c =
     let a = c .before .answer in
-    sym (length-take-le (a .result) (a .last .1 .0) (within _ _ (replicate 512 0) _ (a .ensures .0) (a .ensures .1)))
+    sym (length-take-le (a .result) (a .last .1 .0) (within _ _ (replicate 8192 0) _ (a .ensures .0) (a .ensures .1)))
 
 write-all-requires : tie.Need-write-all-requires
 write-all-requires c κs = search needs

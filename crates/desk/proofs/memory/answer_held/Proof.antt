@@ -1,122 +1,131 @@
--- A job that fits is never refused for want of room, and the arrays then hold it.
+-- Settings past the limits are refused; else each table has room for its rows; the rows counted are those that the text names.
 use native.Mathlib.Omega.{arith}
 use denote.Ref.{now}
-use Prim.Native.Nat.{ℕ}
-use mathlib.Core.List.{List}
-use Rattle.desk.proofs.PieceLaws.{put-as}
-use Rattle.desk.proofs.MemoryLaws.{emptyWith, empty-room, never-refused, loaded, loaded-text}
+use mathlib.Core.Path.{sym}
+use Prim.Native.Nat.{_*_, _≤_}
+use lib.ListN.{length}
+use lib.Seq.{length-take-le}
+use Rattle.form.specs.Lent.{Lent, lent}
+use Rattle.desk.proofs.DeskLaws.{printed-refused, printed-as}
+use Rattle.desk.proofs.MemoryLaws.{variants-end, parts-end, variants-fit, parts-fit, within-limits, limit-text, counted-text}
 use borrow.Author.Needs.{needs}
 use Rattle.desk.proofs.memory.answer_held.Statement.{statement}
 use Rattle.desk.proofs.memory.answer_held.Tie as tie
 
--- the places: the room for letters, the job read into the arrays, what reading answered, and the arrays lent once more
-abbrev start : tie.After-letter-room → tie.Start
-start c = c .before .before .before
+abbrev slices : tie.Start → Lent
+slices s =
+    lent (now (s .args .starts)) (now (s .args .ends)) (now (s .args .sizes)) (now (s .args .negatives)) (now (s .args .counts))
+    (now (s .args .part-sizes)) (now (s .args .part-negatives)) (now (s .args .part-counts)) (now (s .args .letters))
 
-abbrev room : tie.After-read-job → tie.After-letter-room
-room c = c .before .before .before .before .before .before .before .before .before .before
+-- the places: settings past the limits, once the width is known, once the variants' rows are counted, and once the parts' rows are
+abbrev start : tie.After-limit-fault → tie.Start
+start c = c .before .before .before .before .before .before .before .before .before
 
-abbrev letters : tie.After-read-job → List ℕ
-letters c = room c .letter-room .result
+abbrev passed : tie.After-entries → tie.Else1
+passed c = c .before
 
-abbrev refused : tie.After-read → tie.After-read-job
-refused c = c .before .before .before .before .before .before .before .before .before .before .before
+abbrev begin : tie.After-entries → tie.Start
+begin c = start (passed c .before)
 
-abbrev given : tie.After-read2 → tie.After-read-job
-given c = c .before .before .before .before .before .before .before .before .before .before .before
+abbrev wide : tie.After-count-rows → tie.After-entries
+wide c = c .before .before .before .before
 
-abbrev told : tie.After-answer-loaded-arg → tie.After-read2
-told c = c .before .before .before .before .before .before .before .before .before .before .before
+abbrev counted : tie.After-part-features2 → tie.After-count-rows
+counted c = c .before .before .before .before
 
-abbrev found : tie.After-slice-known2 → tie.After-read
-found c = c .before .before .before .before .before
+abbrev done : tie.After-search → tie.After-part-features2
+done c = c .before .before .before .before
 
-letter-room-requires : tie.Need-letter-room-requires
-letter-room-requires c κs = search needs
+small : (c : tie.After-entries) → (1 ≤ begin c .args .s .k) × (begin c .args .s .k ≤ 4)
+small c = let p = passed c in within-limits _ _ (p .before .limit-fault .ensures) (p .if1 .left)
 
-slice-aggregate-read-job : tie.Need-slice-aggregate-read-job
-slice-aggregate-read-job c = search needs
+-- the rows end within the tables
+variants-room : (c : tie.After-entries) → length (now (begin c .args .counts)) * c .entries .result ≤ 4096
+variants-room c = let k = small c in variants-end _ _ (slices (begin c)) (begin c .pre) (k .0) (k .1) (c .entries .ensures)
 
-slice-aggregate-read-job-2 : tie.Need-slice-aggregate-read-job-2
-slice-aggregate-read-job-2 c = search needs
+parts-room : (c : tie.After-entries) → length (now (begin c .args .part-counts)) * c .entries .result ≤ 2048
+parts-room c = let k = small c in parts-end _ _ (slices (begin c)) (begin c .pre) (k .0) (k .1) (c .entries .ensures)
 
-slice-aggregate-read-job-3 : tie.Need-slice-aggregate-read-job-3
-slice-aggregate-read-job-3 c = search needs
-
-slice-aggregate-read-job-4 : tie.Need-slice-aggregate-read-job-4
-slice-aggregate-read-job-4 c = search needs
-
-slice-aggregate-read-job-5 : tie.Need-slice-aggregate-read-job-5
-slice-aggregate-read-job-5 c = search needs
-
-slice-aggregate-read-job-6 : tie.Need-slice-aggregate-read-job-6
-slice-aggregate-read-job-6 c = search needs
-
-slice-aggregate-read-job-7 : tie.Need-slice-aggregate-read-job-7
-slice-aggregate-read-job-7 c = search needs
-
-slice-aggregate-read-job-8 : tie.Need-slice-aggregate-read-job-8
-slice-aggregate-read-job-8 c = search needs
-
-slice-aggregate-read-job-9 : tie.Need-slice-aggregate-read-job-9
-slice-aggregate-read-job-9 c = search needs
-
-read-job-requires : tie.Need-read-job-requires
-read-job-requires c κs = search needs
-
-enum-known-read : tie.Need-enum-known-read
-enum-known-read c = search needs
+limit-fault-requires : tie.Need-limit-fault-requires
+limit-fault-requires c κs = search needs
 
 put-refused-requires : tie.Need-put-refused-requires
 put-refused-requires c κs = search needs
-
-enum-known-read-2 : tie.Need-enum-known-read-2
-enum-known-read-2 c = search needs
-
-slice-aggregate-answer-loaded : tie.Need-slice-aggregate-answer-loaded
-slice-aggregate-answer-loaded c = search needs
-
-slice-aggregate-answer-loaded-2 : tie.Need-slice-aggregate-answer-loaded-2
-slice-aggregate-answer-loaded-2 c = search needs
-
-slice-aggregate-answer-loaded-3 : tie.Need-slice-aggregate-answer-loaded-3
-slice-aggregate-answer-loaded-3 c = search needs
-
-slice-aggregate-answer-loaded-4 : tie.Need-slice-aggregate-answer-loaded-4
-slice-aggregate-answer-loaded-4 c = search needs
-
-slice-aggregate-answer-loaded-5 : tie.Need-slice-aggregate-answer-loaded-5
-slice-aggregate-answer-loaded-5 c = search needs
-
-slice-aggregate-answer-loaded-6 : tie.Need-slice-aggregate-answer-loaded-6
-slice-aggregate-answer-loaded-6 c = search needs
-
-slice-aggregate-answer-loaded-7 : tie.Need-slice-aggregate-answer-loaded-7
-slice-aggregate-answer-loaded-7 c = search needs
-
-slice-aggregate-answer-loaded-8 : tie.Need-slice-aggregate-answer-loaded-8
-slice-aggregate-answer-loaded-8 c = search needs
-
-slice-aggregate-answer-loaded-9 : tie.Need-slice-aggregate-answer-loaded-9
-slice-aggregate-answer-loaded-9 c = search needs
-
-answer-loaded-requires : tie.Need-answer-loaded-requires
-answer-loaded-requires c κs =
-    let g = told c in
-    let r = given g in
-    let s = start (room r) in
-    let empty = empty-room (letters r) (room r .letter-room .ensures) in
-    (loaded (now (s .args .input)) (s .pre .0) (emptyWith (letters r)) empty _ (r .read-job .ensures .0) _ _ (g .read2 .given .1) _ (r .read-job .ensures .1), omega arith)
 
 same-length : tie.Need-same-length
 same-length c = search needs
 
 returns : tie.Need-returns
 returns c =
-    let r = refused (found c) in
-    let s = start (room r) in
-    let empty = empty-room (letters r) (room r .letter-room .ensures) in
-    absurd (never-refused (now (s .args .input)) (s .pre .0) (emptyWith (letters r)) empty _ (r .read-job .ensures .0) _ (found c .read .given .1))
+    let p = c .before .before in let t = p .before .before in
+    printed-as (printed-refused _ (p .put-refused .ensures)) (limit-text _ _ (t .before .limit-fault .ensures) _ (t .if1 .taken))
+
+entries-requires : tie.Need-entries-requires
+entries-requires c κs = search needs
+
+variant-table-requires : tie.Need-variant-table-requires
+variant-table-requires c κs = search needs
+
+part-table-requires : tie.Need-part-table-requires
+part-table-requires c κs = search needs
+
+slice-aggregate-count-rows : tie.Need-slice-aggregate-count-rows
+slice-aggregate-count-rows c = search needs
+
+count-rows-requires : tie.Need-count-rows-requires
+count-rows-requires c κs =
+    let e = c .before .before .before in
+    variants-fit _ _ (slices (begin e)) (begin e .pre) (small e .0) (small e .1) (e .entries .ensures) _ (c .before .before .variant-table .ensures)
+
+slice-aggregate-count-rows-2 : tie.Need-slice-aggregate-count-rows-2
+slice-aggregate-count-rows-2 c = search needs
+
+count-rows-requires-2 : tie.Need-count-rows-requires-2
+count-rows-requires-2 c κs =
+    let r = c .before .before in
+    let e = wide r in
+    parts-fit _ _ (slices (begin e)) (begin e .pre) (small e .0) (small e .1) (e .entries .ensures) _ (r .before .before .part-table .ensures) _ (r .count-rows .ensures .next)
+
+mul-v : tie.Need-mul-v
+mul-v c = let h = variants-room (wide (counted c)) in omega arith
+
+mul-m : tie.Need-mul-m
+mul-m c = let h = parts-room (wide (counted c)) in omega arith
+
+array-share-prefix-features : tie.Need-array-share-prefix-features
+array-share-prefix-features c =
+    let r = counted c in
+    let h = variants-room (wide r) in
+    let k = r .count-rows .ensures .kept in
+    let l = r .before .before .before .variant-table .ensures in
+    omega arith
+
+slice-aggregate-search : tie.Need-slice-aggregate-search
+slice-aggregate-search c =
+    let r = counted (c .before) in
+    let h = variants-room (wide r) in
+    let k = r .count-rows .ensures .kept in
+    let l = r .before .before .before .variant-table .ensures in
+    sym (length-take-le _ _ (omega arith))
+
+array-share-prefix-part-features : tie.Need-array-share-prefix-part-features
+array-share-prefix-part-features c =
+    let r = counted (c .before) in
+    let h = parts-room (wide r) in
+    let k = c .before .before .count-rows2 .ensures .kept in
+    let l = r .before .before .part-table .ensures in
+    omega arith
+
+slice-aggregate-search-2 : tie.Need-slice-aggregate-search-2
+slice-aggregate-search-2 c =
+    let r = counted (c .before .before) in
+    let h = parts-room (wide r) in
+    let k = c .before .before .before .count-rows2 .ensures .kept in
+    let l = r .before .before .part-table .ensures in
+    sym (length-take-le _ _ (omega arith))
+
+search-requires : tie.Need-search-requires
+search-requires c κs = search needs
 
 same-length-2 : tie.Need-same-length-2
 same-length-2 c = search needs
@@ -124,19 +133,16 @@ same-length-2 c = search needs
 returns-2 : tie.Need-returns-2
 returns-2 c =
     let w = c .before .before in
-    let g = told (w .before) in
-    let r = given g in
-    let s = start (room r) in
-    let empty = empty-room (letters r) (room r .letter-room .ensures) in
-    put-as 281 (w .answer-loaded .ensures)
-    (loaded-text (now (s .args .input)) (s .pre .0) (emptyWith (letters r)) empty _ (r .read-job .ensures .0) _ _ (g .read2 .given .1) _ (r .read-job .ensures .1)) (omega arith)
+    let q = done w .before in
+    let r = counted (done w) in
+    let e = wide r in let s = begin e in let l = passed e in
+    printed-as (w .search .ensures)
+    (counted-text (s .args .s) _ (l .before .limit-fault .ensures) (slices s) (e .entries .result) (r .count-rows .result) (q .count-rows2 .result) _ _ _ _ (l .if1 .left)
+    (r .count-rows .ensures) (q .count-rows2 .ensures))
 
 pub answer-held-spec : {M : Type 1} → statement M
 answer-held-spec =
     tie.close
-    (tie.spec letter-room-requires slice-aggregate-read-job slice-aggregate-read-job-2 slice-aggregate-read-job-3 slice-aggregate-read-job-4
-    slice-aggregate-read-job-5 slice-aggregate-read-job-6 slice-aggregate-read-job-7 slice-aggregate-read-job-8 slice-aggregate-read-job-9
-    read-job-requires enum-known-read put-refused-requires enum-known-read-2 slice-aggregate-answer-loaded slice-aggregate-answer-loaded-2
-    slice-aggregate-answer-loaded-3 slice-aggregate-answer-loaded-4 slice-aggregate-answer-loaded-5 slice-aggregate-answer-loaded-6
-    slice-aggregate-answer-loaded-7 slice-aggregate-answer-loaded-8 slice-aggregate-answer-loaded-9 answer-loaded-requires same-length returns
-    same-length-2 returns-2)
+    (tie.spec limit-fault-requires put-refused-requires same-length returns entries-requires variant-table-requires part-table-requires
+    slice-aggregate-count-rows count-rows-requires slice-aggregate-count-rows-2 count-rows-requires-2 mul-v mul-m array-share-prefix-features
+    slice-aggregate-search array-share-prefix-part-features slice-aggregate-search-2 search-requires same-length-2 returns-2)

@@ -4,8 +4,7 @@ use denote.Ref.{now}
 use mathlib.Core.Path.{_≡_, refl}
 use lib.ListN.{length, replicate}
 use Rattle.params.specs.Numbers.{Table, Parts, tableOf, partsOf}
-use Rattle.desk.proofs.PieceLaws.{put-as}
-use Rattle.desk.proofs.AnswerLaws.{answer-few, answer-text}
+use Rattle.desk.proofs.AnswerLaws.{answer-printed}
 use borrow.Author.Needs.{needs}
 use Rattle.desk.proofs.memory.search.Statement.{statement}
 use Rattle.desk.proofs.memory.search.Tie as tie
@@ -23,8 +22,8 @@ start c = c .before .before .before .before
 abbrev rooms : tie.After-apply-haplotype → tie.After-key-room
 rooms c = c .before .before .before .before
 
-abbrev found : tie.After-print-arg → tie.After-apply-haplotype
-found c = c .before .before .before .before .before
+abbrev found : tie.After-put-answer → tie.After-apply-haplotype
+found c = c .before .before .before .before .before .before
 
 queue-room-requires : tie.Need-queue-room-requires
 queue-room-requires c κs = search needs
@@ -44,17 +43,11 @@ slice-aggregate-apply-haplotype-3 c = search needs
 apply-haplotype-requires : tie.Need-apply-haplotype-requires
 apply-haplotype-requires c κs = search needs
 
-slice-aggregate-print : tie.Need-slice-aggregate-print
-slice-aggregate-print c = search needs
+slice-aggregate-put-answer : tie.Need-slice-aggregate-put-answer
+slice-aggregate-put-answer c = search needs
 
-print-requires : tie.Need-print-requires
-print-requires c κs =
-    let a = found c .apply-haplotype in
-    let k = rooms (found c) in let q = k .before in let s = start q in
-    let l : length (a .last .1 .1 .1 .1 .1 .1 .1 .1 .1 .0) ≡ 16 = omega arith in
-    let few = answer-few (s .args .s) (table s) (parts s) (q .queue-room .result) (k .key-room .result) (replicate 16 0) (q .queue-room .ensures)
-    (k .key-room .ensures) refl (a .result) (a .ensures .0) (a .last .1 .1 .1 .1 .1 .1 .1 .1 .1 .0) (a .ensures .1 .0) l in
-    (omega arith, (omega arith, omega arith))
+put-answer-requires : tie.Need-put-answer-requires
+put-answer-requires c κs = search needs
 
 same-length : tie.Need-same-length
 same-length c = search needs
@@ -62,14 +55,15 @@ same-length c = search needs
 returns : tie.Need-returns
 returns c =
     let w = c .before .before in
-    let a = found (w .before) .apply-haplotype in
-    let k = rooms (found (w .before)) in let q = k .before in let s = start q in
-    put-as 281 (w .print .ensures) (answer-text (s .args .s) (table s) (parts s) (q .queue-room .result) (k .key-room .result) (replicate 16 0) (q .queue-room .ensures)
-    (k .key-room .ensures) refl (a .result) (a .ensures .0) (a .last .1 .1 .1 .1 .1 .1 .1 .1 .1 .0) (a .ensures .1 .0)) (omega arith)
+    let a = found w .apply-haplotype in
+    let k = rooms (found w) in let q = k .before in let s = start q in
+    let l : length (a .last .1 .1 .1 .1 .1 .1 .1 .1 .1 .0) ≡ 16 = omega arith in
+    answer-printed (s .args .s) (table s) (parts s) (q .queue-room .result) (k .key-room .result) (replicate 16 0) (q .queue-room .ensures)
+    (k .key-room .ensures) refl (a .result) (a .ensures .0) (a .last .1 .1 .1 .1 .1 .1 .1 .1 .1 .0) (a .ensures .1 .0) l (w .put-answer .ensures)
 
 pub search-spec : {M : Type 1} → statement M
 search-spec =
     tie.close
     (tie.spec queue-room-requires key-room-requires slice-aggregate-apply-haplotype slice-aggregate-apply-haplotype-2
-    slice-aggregate-apply-haplotype-3 apply-haplotype-requires slice-aggregate-print print-requires same-length
+    slice-aggregate-apply-haplotype-3 apply-haplotype-requires slice-aggregate-put-answer put-answer-requires same-length
     returns)

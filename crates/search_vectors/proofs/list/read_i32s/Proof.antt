@@ -21,8 +21,8 @@ loop-holds c = (omega arith, omega arith)
 word-requires : tie.Need-word-requires Inv-loop μ-loop
 word-requires c κs = tt
 
-signed-requires : tie.Need-signed-requires Inv-loop μ-loop
-signed-requires c κs = tt
+i32-of-requires : tie.Need-i32-of-requires Inv-loop μ-loop
+i32-of-requires c κs = tt
 
 mul-t9 : tie.Need-mul-t9 Inv-loop μ-loop
 mul-t9 c = omega arith
@@ -54,7 +54,7 @@ read-i32s-spec =
     at-most-requires
     loop-holds
     word-requires
-    signed-requires
+    i32-of-requires
     mul-t9
     slice-set-from-into
     add-i

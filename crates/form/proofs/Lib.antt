@@ -1,0 +1,7 @@
+-- Laws that several proofs cite.
+pub mod FormLaws
+pub mod GatherLaws
+pub mod CountLaws
+pub mod OrderLaws
+pub mod LetterLaws
+pub mod SettingsLaws

@@ -1,0 +1,6 @@
+pub mod Form
+pub mod Settings40
+pub mod Job
+pub mod Lent
+pub mod Steps
+pub mod Promises

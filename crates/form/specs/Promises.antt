@@ -1,0 +1,27 @@
+-- The promise of each public function, said once: the function's `ensures` and `Unique` (crates/audit) cite it by name.
+-- Its arguments are the function's own, in their order, a lent slice by what it holds at entry; then what each `&mut` holds at exit; then the result r.
+use Prim.Native.Nat.{ℕ}
+use mathlib.Core.Path.{_≡_}
+use mathlib.Core.List.{List}
+use lib.Seq.{sets}
+use Rattle.params.specs.declared.Settings.{Settings}
+use Rattle.form.specs.Form.{bodyLen, countOf}
+use Rattle.form.specs.Settings40.{settingsIn, settingsBytes}
+use Rattle.form.specs.Job.{readJob}
+use Rattle.form.specs.Lent.{scanOf}
+use Rattle.form.specs.declared.records.Scan.{Scan}
+
+abbrev pub BodyLenPromise : ℕ → ℕ → Type 0
+BodyLenPromise k r = r ≡ bodyLen k
+
+abbrev pub CountOfPromise : ℕ → List ℕ → ℕ → Type 0
+CountOfPromise k b r = r ≡ countOf k b
+
+abbrev pub ScanPromise : List ℕ → Scan → Type 0
+ScanPromise bytes r = r ≡ scanOf (readJob bytes)
+
+abbrev pub ReadSettingsPromise : List ℕ → Settings → Type 0
+ReadSettingsPromise b r = r ≡ settingsIn b
+
+abbrev pub WriteSettingsPromise : List ℕ → ℕ → Settings → List ℕ → Type 0
+WriteSettingsPromise out at s out' = out' ≡ sets out at (settingsBytes s)

@@ -1,0 +1,96 @@
+-- Storing what a form's records add, one after the other: what is stored plus what the rest will add is the whole. Assumes nothing.
+use Prim.Native.Nat.{ℕ, suc, _+_, _-_, _≤_, _<_}
+use native.Mathlib.Omega.{arith}
+use native.Mathlib.Nat.{add-zero, add-suc, suc-add}
+use mathlib.Core.Path.{_≡_, refl, sym, ap, _∙_}
+use mathlib.Core.List.{List, [], _∷_, _++_}
+use mathlib.Core.Bool.{Bool}
+use lib.IntN.{ℤ}
+use lib.Dec.{eqb}
+use lib.ListN.{length, getD, take, drop, set}
+use lib.Seq.{sets}
+use borrow.Author.Tests.{lt-ltb, le-ltb, eq-eqb, ne-eqb}
+use Rattle.fields.specs.Fields.{le4, le8, signedOf}
+use Rattle.form.specs.Form.{bodyLen, countOf}
+use Rattle.form.specs.Job.{lettersAfter, variantOf, partOf, variantHere, partHere, gather}
+use Rattle.reader.specs.Steps.{Rows, rows, putRow, PartRows, partRows, putPart, stores, Stored}
+use Rattle.form.proofs.GatherLaws.{gather-here, gather-done, long-letters}
+
+-- ---- storing
+module _ {T A : Type 0} (put : T → ℕ → A → T) where
+  pub stores-append : (t : T) (v : ℕ) (xs ys : List A) → stores put t v (xs ++ ys) ≡ stores put (stores put t v xs) (v + length xs) ys
+  unfolding stores
+  stores-append t v [] ys = rw (add-zero v)
+  stores-append t v (x ∷ xs) ys = stores-append (put t v x) (suc v) xs ys ∙ ap (λ (n : ℕ). stores put (stores put (put t v x) (suc v) xs) n ys) (suc-add v (length xs) ∙ sym (add-suc v (length xs)))
+
+  pub keeps : (g : T → ℕ) → ((t : T) (v : ℕ) (x : A) → g (put t v x) ≡ g t) → (t : T) (v : ℕ) (xs : List A) → g (stores put t v xs) ≡ g t
+  unfolding stores
+  keeps g h t v [] = refl
+  keeps g h t v (x ∷ xs) = keeps g h (put t v x) (suc v) xs ∙ h t v x
+
+  pub stays : (g : T → ℕ) → ((t : T) (v : ℕ) (x : A) → g (put t v x) ≡ g t) → {u : T} (t : T) (v : ℕ) (xs : List A) → u ≡ stores put t v xs → g u ≡ g t
+  stays g h t v xs e = ap g e ∙ keeps g h t v xs
+
+  module _ (here : ℕ → List ℕ → List A) (s : List ℕ) (at : ℕ) where
+    pub put-done : (t : T) (v : ℕ) → length s ≤ at → stores put t v (gather here (drop at s) 0) ≡ t
+    unfolding stores
+    put-done t v h = rw (gather-done here s at h)
+
+    pub put-more : (inside : at < length s) (t u : T) (v r n : ℕ) → n ≡ bodyLen (getD s at 0)
+        → u ≡ stores put t v (here (getD s at 0) (take (length s - (at + 1)) (drop (at + 1) s)))
+        → r ≡ v + length (here (getD s at 0) (take (length s - (at + 1)) (drop (at + 1) s)))
+        → stores put u r (gather here (drop (at + 1 + n) s) 0) ≡ stores put t v (gather here (drop at s) 0)
+    put-more inside t u v r n m f g = rw (f, g, gather-here here s at inside n m, stores-append)
+
+pub stores-sets : {A : Type 0} (l : List A) (i : ℕ) (xs : List A) → stores set l i xs ≡ sets l i xs
+unfolding stores
+stores-sets l i [] = refl
+stores-sets l i (x ∷ xs) = stores-sets (set l i x) (suc i) xs
+
+-- ---- a variant's row, and a part's
+pub variant-put : (t : Rows) (v : ℕ) (b : List ℕ) {f l c : List ℕ} {n : List Bool} {s : List ℤ} {p q x w : ℕ} {z : ℤ}
+    → f ≡ set (t .starts) v p → p ≡ le8 b 0 → l ≡ set (t .ends) v q → q ≡ le8 b 8 → s ≡ set (t .sizes) v z → z ≡ signedOf x → x ≡ le4 b 16
+    → n ≡ set (t .negatives) v (eqb (getD b 20 0) 1) → c ≡ set (t .counts) v w → w ≡ le4 b 21 → rows f l s n c ≡ putRow t v (variantOf b)
+unfolding variantOf lettersAfter countOf
+variant-put t v b hf hp hl hq hs hz hx hn hc hw = rw (hf, hp, hl, hq, hs, hz, hx, hn, hc, hw, long-letters)
+
+pub part-put : (t : PartRows) (v : ℕ) (b : List ℕ) {c : List ℕ} {n : List Bool} {s : List ℤ} {x w : ℕ} {z : ℤ}
+    → s ≡ set (t .sizes) v z → z ≡ signedOf x → x ≡ le4 b 0
+    → n ≡ set (t .negatives) v (eqb (getD b 4 0) 1) → c ≡ set (t .counts) v w → w ≡ le4 b 5 → partRows s n c ≡ putPart t v (partOf b)
+unfolding partOf lettersAfter countOf
+part-put t v b hs hz hx hn hc hw = rw (hs, hz, hx, hn, hc, hw, long-letters)
+
+-- a record that adds nothing, and one that adds one
+module _ {T A : Type 0} (put : T → ℕ → A → T) (t : T) (v : ℕ) where
+  pub adds-none : {xs : List A} → xs ≡ [] → Stored put t t v v xs
+  unfolding stores
+  adds-none e = rw e (record { is = refl; next = sym (add-zero v); one = omega arith })
+
+  pub adds-one : {xs : List A} {u : T} (x : A) → xs ≡ x ∷ [] → u ≡ put t v x → Stored put t u v (v + 1) xs
+  unfolding stores
+  adds-one x e w = rw e (record { is = w; next = refl; one = omega arith })
+
+module _ (k : ℕ) (b : List ℕ) where
+  pub no-variant : (k ≡ 2 → ⊥) → variantHere k b ≡ []
+  unfolding variantHere
+  no-variant h = rw (ne-eqb k 2 h)
+
+  pub cut-variant : k ≡ 2 → length b < 25 → variantHere k b ≡ []
+  unfolding variantHere
+  cut-variant h g = rw (eq-eqb k 2 h, lt-ltb (length b) 25 g)
+
+  pub one-variant : k ≡ 2 → 25 ≤ length b → variantHere k b ≡ variantOf b ∷ []
+  unfolding variantHere
+  one-variant h g = rw (eq-eqb k 2 h, le-ltb (length b) 25 g)
+
+  pub no-part : (k ≡ 3 → ⊥) → partHere k b ≡ []
+  unfolding partHere
+  no-part h = rw (ne-eqb k 3 h)
+
+  pub cut-part : k ≡ 3 → length b < 9 → partHere k b ≡ []
+  unfolding partHere
+  cut-part h g = rw (eq-eqb k 3 h, lt-ltb (length b) 9 g)
+
+  pub one-part : k ≡ 3 → 9 ≤ length b → partHere k b ≡ partOf b ∷ []
+  unfolding partHere
+  one-part h g = rw (eq-eqb k 3 h, le-ltb (length b) 9 g)

@@ -1,0 +1,107 @@
+-- Letters stored record by record: what is stored plus what the rest of the walk will give is the whole. Assumes nothing.
+use Prim.Native.Nat.{ℕ, zero, suc, _+_, _-_, _≤_, _<_, _/_, zero-le}
+use native.Mathlib.Omega.{arith}
+use native.Mathlib.Numerals.{add-one}
+use mathlib.Core.Path.{_≡_, refl, sym, ap, subst, _∙_}
+use mathlib.Core.List.{List, [], _∷_, _++_}
+use lib.ListN.{length, getD, take, drop, set, length-drop, drop-of-length-le}
+use lib.Seq.{drop-cons, drop-nil, take-all, drop-drop}
+use borrow.Author.Tests.{le-leb, lt-leb, eq-eqb, ne-eqb}
+use Rattle.form.specs.Form.{bodyLen, countOf}
+use Rattle.form.specs.Job.{lettersIn}
+use Rattle.form.specs.Steps.{lettersGiven, lettersOwed, lettersWalk}
+use Rattle.form.proofs.GatherLaws.{long-letters}
+use Rattle.reader.specs.Steps.{stores}
+use Rattle.reader.proofs.FillLaws.{stores-append}
+
+-- ---- what a record gives, and what is owed behind it
+module _ (k left : ℕ) where
+  pub gives-none : (k ≡ 4 → ⊥) → (0 ≡ lettersGiven k left) × ((0 ≤ 16) × (0 ≤ bodyLen k))
+  unfolding lettersGiven
+  gives-none h = (sym (rw (ne-eqb k 4 h)), (zero-le, zero-le))
+
+  module _ (h : k ≡ 4) where
+    pub gives-all : left ≤ 16 → (left ≡ lettersGiven k left) × ((left ≤ 16) × (left ≤ bodyLen k))
+    unfolding lettersGiven bodyLen
+    gives-all g = (sym (rw (eq-eqb k 4 h, le-leb left 16 g)), (g, subst (λ (j : ℕ). left ≤ bodyLen j) (sym h) g))
+
+    pub gives-sixteen : 16 < left → (16 ≡ lettersGiven k left) × ((16 ≤ 16) × (16 ≤ bodyLen k))
+    unfolding lettersGiven bodyLen
+    gives-sixteen g =
+        let s : 16 ≤ 16 = omega arith in
+        (sym (rw (eq-eqb k 4 h, lt-leb left 16 g)), (s, subst (λ (j : ℕ). 16 ≤ bodyLen j) (sym h) s))
+
+  module _ (b : List ℕ) where
+    pub owes-count : (k ≡ 4 → ⊥) → countOf k b ≡ lettersOwed k b left
+    unfolding lettersOwed
+    owes-count h = sym (rw (ne-eqb k 4 h))
+
+    pub owes-none : k ≡ 4 → left ≤ 16 → 0 ≡ lettersOwed k b left
+    unfolding lettersOwed
+    owes-none h g = sym (rw (eq-eqb k 4 h, le-leb left 16 g))
+
+    pub owes-rest : k ≡ 4 → 16 < left → left - 16 ≡ lettersOwed k b left
+    unfolding lettersOwed
+    owes-rest h g = sym (rw (eq-eqb k 4 h, lt-leb left 16 g))
+
+-- ---- the letters of one record, one by one
+module _ (b : List ℕ) (n at : ℕ) (out : List ℕ) where
+  pub copy-start : stores set out (at + 0) (lettersIn (4 ∷ b) 0 (n - 0)) ≡ stores set out at (lettersIn (4 ∷ b) 0 n)
+  copy-start =
+      let h : at + 0 ≡ at = omega arith in
+      let g : n - 0 ≡ n = omega arith in
+      rw (h, g)
+
+  pub copy-more : (i x : ℕ) (u : List ℕ) → i < n → n ≤ 16 → x ≡ getD b i 0 → u ≡ set out (at + i) x
+      → stores set u (at + (i + 1)) (lettersIn (4 ∷ b) (i + 1) (n - (i + 1))) ≡ stores set out (at + i) (lettersIn (4 ∷ b) i (n - i))
+  unfolding lettersIn stores
+  copy-more i x u h m e w =
+      let g : n - i ≡ suc (n - suc i) = omega arith in
+      let f : at + suc i ≡ suc (at + i) = omega arith in
+      let p : 1 + i + i / 16 ≡ suc i = omega arith in
+      rw (add-one i, g, f, w, e, p)
+
+  pub copy-done : (i : ℕ) → n ≤ i → stores set out (at + i) (lettersIn (4 ∷ b) i (n - i)) ≡ out
+  unfolding lettersIn stores
+  copy-done i h = let g : n - i ≡ 0 = omega arith in rw g
+
+pub laid-letters : (out : List ℕ) (at : ℕ) (b : List ℕ) (n m : ℕ) (u : List ℕ) → n ≡ m
+    → u ≡ stores set out at (lettersIn (4 ∷ b) 0 n) → u ≡ stores set out at (lettersIn (4 ∷ b) 0 m)
+laid-letters out at b n m u e h = h ∙ ap (λ (j : ℕ). stores set out at (lettersIn (4 ∷ b) 0 j)) e
+
+-- ---- the walk
+walk-skip : (s : List ℕ) (n left : ℕ) → lettersWalk s n left ≡ lettersWalk (drop n s) 0 left
+unfolding lettersWalk
+walk-skip [] n left = simp drop-nil
+walk-skip (k ∷ b) zero left = refl
+walk-skip (k ∷ b) (suc n) left = walk-skip b n left
+
+module _ (s : List ℕ) (at : ℕ) where
+  pub walk-done : (t : List ℕ) (l left : ℕ) → length s ≤ at → stores set t l (lettersWalk (drop at s) 0 left) ≡ t
+  unfolding stores lettersWalk
+  walk-done t l left h = rw (drop-of-length-le s {i = at} h)
+
+  module _ (inside : at < length s) where
+    -- the part of the slice that the code takes
+    abbrev kind : ℕ
+    kind = getD s at 0
+
+    abbrev body : List ℕ
+    body = take (length s - (at + 1)) (drop (at + 1) s)
+
+    rest-is : body ≡ drop (suc at) s
+    rest-is = take-all (length s - (at + 1)) (drop (at + 1) s) (simp length-drop (omega arith)) ∙ rw add-one
+
+    walk-here : (left n : ℕ) → n ≡ bodyLen kind
+        → lettersWalk (drop at s) 0 left ≡ lettersIn (4 ∷ body) 0 (lettersGiven kind left) ++ lettersWalk (drop (at + 1 + n) s) 0 (lettersOwed kind body left)
+    unfolding lettersWalk
+    walk-here left n m =
+        let h : suc at + bodyLen kind ≡ at + 1 + bodyLen kind = omega arith in
+        rw (drop-cons s at 0 inside, rest-is, m) (ap (λ (l : List ℕ). lettersIn (4 ∷ drop (suc at) s) 0 (lettersGiven kind left) ++ l)
+        (walk-skip (drop (suc at) s) (bodyLen kind) (lettersOwed kind (drop (suc at) s) left)
+        ∙ ap (λ (l : List ℕ). lettersWalk l 0 (lettersOwed kind (drop (suc at) s) left)) (drop-drop (bodyLen kind) (suc at) s ∙ ap (λ (j : ℕ). drop j s) h)))
+
+    pub walk-more : (t u : List ℕ) (l r left owed n : ℕ) → n ≡ bodyLen kind → owed ≡ lettersOwed kind body left → r ≡ l + lettersGiven kind left
+        → u ≡ stores set t l (lettersIn (4 ∷ body) 0 (lettersGiven kind left))
+        → stores set u r (lettersWalk (drop (at + 1 + n) s) 0 owed) ≡ stores set t l (lettersWalk (drop at s) 0 left)
+    walk-more t u l r left owed n m o g f = rw (f, g, o, walk-here left n m, stores-append, long-letters)

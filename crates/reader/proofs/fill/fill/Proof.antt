@@ -1,0 +1,181 @@
+-- What is stored and what the rest will add is the whole, of variants, parts and letters alike; a record adds at most one row, and no more
+-- letters than its body has bytes, so all three stay below the position.
+use native.Mathlib.Omega.{arith}
+use denote.Ref.{now}
+use Prim.Native.Nat.{ℕ, _≤_, _-_, zero-le}
+use borrow.Author.Needs.{needs}
+use mathlib.Core.Path.{_≡_, refl, sym, _∙_}
+use mathlib.Core.List.{List}
+use lib.ListN.{length, drop, getD, set, length-set}
+use Rattle.reader.proofs.FillLaws.{put-more, put-done, stays}
+use Rattle.reader.proofs.WalkLaws.{walk-more, walk-done}
+use Rattle.form.proofs.GatherLaws.{short-body}
+use Rattle.reader.specs.Steps.{Rows, rows, putRow, PartRows, partRows, putPart, stores}
+use Rattle.form.specs.Job.{Variant, Part, variantHere, partHere, gather}
+use Rattle.form.specs.Steps.{lettersWalk}
+use Rattle.reader.proofs.fill.fill.Statement.{statement}
+use Rattle.reader.proofs.fill.fill.Tie as tie
+
+abbrev Inv-loop : tie.InvT-loop
+Inv-loop s starts₀ ends₀ sizes₀ negatives₀ counts₀ psizes₀ pnegatives₀ pcounts₀ letters₀ at₀ v₀ p₀ l₀ left₀
+    starts ends sizes negatives counts psizes pnegatives pcounts letters at v p l left =
+    (stores putRow (rows starts ends sizes negatives counts) v (gather variantHere (drop at s) 0) ≡ stores putRow (rows starts₀ ends₀ sizes₀ negatives₀ counts₀) 0
+    (gather variantHere s 0)) × ((stores putPart (partRows psizes pnegatives pcounts) p (gather partHere (drop at s) 0) ≡ stores putPart (partRows psizes₀ pnegatives₀ pcounts₀) 0
+    (gather partHere s 0)) × ((stores set letters l (lettersWalk (drop at s) 0 left) ≡ stores set letters₀ 0 (lettersWalk s 0 0)) × ((v ≤ at) × ((p ≤ at) × (l ≤ at)))))
+
+abbrev μ-loop : tie.MeasureT-loop
+μ-loop s starts₀ ends₀ sizes₀ negatives₀ counts₀ psizes₀ pnegatives₀ pcounts₀ letters₀ at₀ v₀ p₀ l₀ left₀
+    starts ends sizes negatives counts psizes pnegatives pcounts letters at v p l left = length s - at
+
+-- the places that the proof speaks of
+abbrev start : tie.At-loop Inv-loop μ-loop → tie.Start Inv-loop μ-loop
+start c = c .before .before .before .before .before .before .before .before .before
+
+abbrev inside : tie.After-fill-variant Inv-loop μ-loop → tie.In-loop Inv-loop μ-loop
+inside c = c .before .before .before .before .before .before .before .before
+
+abbrev asked-parts : tie.After-fill-part-arg3 Inv-loop μ-loop → tie.After-fill-variant Inv-loop μ-loop
+asked-parts c = c .before .before .before .before .before .before .before .before .before .before .before .before
+
+abbrev variants : tie.After-fill-part Inv-loop μ-loop → tie.After-fill-variant Inv-loop μ-loop
+variants c = asked-parts (c .before)
+
+abbrev asked-letters : tie.After-fill-letters-arg Inv-loop μ-loop → tie.After-fill-part Inv-loop μ-loop
+asked-letters c = c .before .before .before .before .before .before
+
+abbrev parts : tie.After-fill-letters Inv-loop μ-loop → tie.After-fill-part Inv-loop μ-loop
+parts c = asked-letters (c .before)
+
+abbrev letters : tie.After-letters-owed Inv-loop μ-loop → tie.After-fill-letters Inv-loop μ-loop
+letters c = c .before .before .before
+
+abbrev filled : tie.After-letters-owed Inv-loop μ-loop → tie.After-fill-variant Inv-loop μ-loop
+filled c = variants (parts (letters c))
+
+abbrev held : tie.At-loop Inv-loop μ-loop → Rows
+held l = rows (l .loop .starts) (l .loop .ends) (l .loop .sizes) (l .loop .negatives) (l .loop .counts)
+
+abbrev held-parts : tie.At-loop Inv-loop μ-loop → PartRows
+held-parts l = partRows (l .loop .part-sizes) (l .loop .part-negatives) (l .loop .part-counts)
+
+loop-holds : tie.Need-loop-holds Inv-loop μ-loop
+loop-holds c = (refl, (refl, (refl, (zero-le, (zero-le, zero-le)))))
+
+shared-slice-read-k : tie.Need-shared-slice-read-k Inv-loop μ-loop
+shared-slice-read-k c = omega arith
+
+add-b : tie.Need-add-b Inv-loop μ-loop
+add-b c = omega arith
+
+sub-b : tie.Need-sub-b Inv-loop μ-loop
+sub-b c = omega arith
+
+part-b-start : tie.Need-part-b-start Inv-loop μ-loop
+part-b-start c = omega arith
+
+part-b-end : tie.Need-part-b-end Inv-loop μ-loop
+part-b-end c = omega arith
+
+fill-variant-requires : tie.Need-fill-variant-requires Inv-loop μ-loop
+fill-variant-requires c κs = omega arith
+
+fill-part-requires : tie.Need-fill-part-requires Inv-loop μ-loop
+fill-part-requires c κs =
+    let i = inside (asked-parts c) in let l = i .before in
+    omega (arith, l .loop .inv .1 .1 .1 .1 .0, i .loop-test .taken, start l .good .0)
+
+fill-letters-requires : tie.Need-fill-letters-requires Inv-loop μ-loop
+fill-letters-requires c κs =
+    let i = inside (variants (asked-letters c)) in let l = i .before in
+    omega (arith, l .loop .inv .1 .1 .1 .1 .1, i .loop-test .taken, start l .good .0)
+
+letters-owed-requires : tie.Need-letters-owed-requires Inv-loop μ-loop
+letters-owed-requires c κs = search needs
+
+add-at : tie.Need-add-at Inv-loop μ-loop
+add-at c = let i = inside (filled c) in omega (arith, i .loop-test .taken, start (i .before) .good .0)
+
+body-len-requires : tie.Need-body-len-requires Inv-loop μ-loop
+body-len-requires c κs = search needs
+
+add-at-2 : tie.Need-add-at-2 Inv-loop μ-loop
+add-at-2 c =
+    let i = inside (filled (c .before)) in let l = i .before in let s = start l in
+    omega (arith, short-body (getD (now (s .args .s)) (l .loop .at) 0), c .body-len .ensures, i .loop-test .taken, s .good .0)
+
+loop-less : tie.Need-loop-less Inv-loop μ-loop
+loop-less c = omega (arith, inside (filled (c .before)) .loop-test .taken)
+
+loop-again : tie.Need-loop-again Inv-loop μ-loop
+loop-again c =
+    let o = c .before in let t = letters o in let q = parts t in let f = variants q in let i = inside f in let l = i .before in
+    let s = now (start l .args .s) in let n = c .body-len .ensures in let below = l .loop .inv .1 .1 .1 in (
+      put-more putRow variantHere s (l .loop .at) (i .loop-test .taken) (held l) _ _ _ _ n (f .fill-variant .ensures .is) (f .fill-variant .ensures .next) ∙ l .loop .inv .0,
+      (
+        put-more putPart partHere s (l .loop .at) (i .loop-test .taken) (held-parts l) _ _ _ _ n (q .fill-part .ensures .is) (q .fill-part .ensures .next) ∙ l .loop .inv .1 .0,
+        (
+          walk-more s (l .loop .at) (i .loop-test .taken) (l .loop .letters) _ _ _ (l .loop .left) _ _ n (o .letters-owed .ensures) (t .fill-letters .ensures .1 .0) (t .fill-letters .ensures .0)
+              ∙ l .loop .inv .1 .1 .0,
+          (
+            omega (arith, f .fill-variant .ensures .one, below .0),
+            (omega (arith, q .fill-part .ensures .one, below .1 .0), omega (arith, t .fill-letters .ensures .1 .1, n, below .1 .1)),
+          ),
+        ),
+      ),
+    )
+
+-- what the slices hold once the walk is over
+module _ (c : tie.After-loop Inv-loop μ-loop) where
+  abbrev ended : tie.At-loop Inv-loop μ-loop
+  ended = c .before
+
+  abbrev first : tie.Start Inv-loop μ-loop
+  first = start ended
+
+  rows-done : held ended ≡ stores putRow (rows (now (first .args .starts)) (now (first .args .ends)) (now (first .args .sizes)) (now (first .args .negatives)) (now (first .args .counts))) 0
+      (gather variantHere (now (first .args .s)) 0)
+  rows-done = sym (put-done putRow variantHere _ (ended .loop .at) (held ended) (ended .loop .v) (c .loop-test .left)) ∙ ended .loop .inv .0
+
+  parts-done : held-parts ended ≡ stores putPart (partRows (now (first .args .part-sizes)) (now (first .args .part-negatives)) (now (first .args .part-counts))) 0
+      (gather partHere (now (first .args .s)) 0)
+  parts-done = sym (put-done putPart partHere _ (ended .loop .at) (held-parts ended) (ended .loop .p) (c .loop-test .left)) ∙ ended .loop .inv .1 .0
+
+  letters-done : ended .loop .letters ≡ stores set (now (first .args .letters)) 0 (lettersWalk (now (first .args .s)) 0 0)
+  letters-done = sym (walk-done _ (ended .loop .at) (ended .loop .letters) (ended .loop .l) (ended .loop .left) (c .loop-test .left)) ∙ ended .loop .inv .1 .1 .0
+
+same-length : tie.Need-same-length Inv-loop μ-loop
+same-length c = stays putRow (λ (t : Rows). length (t .starts)) (λ (t : Rows) (v : ℕ) (x : Variant). length-set (t .starts) v (x .start)) _ _ _ (rows-done c)
+
+same-length-2 : tie.Need-same-length-2 Inv-loop μ-loop
+same-length-2 c = stays putRow (λ (t : Rows). length (t .ends)) (λ (t : Rows) (v : ℕ) (x : Variant). length-set (t .ends) v (x .end)) _ _ _ (rows-done c)
+
+same-length-3 : tie.Need-same-length-3 Inv-loop μ-loop
+same-length-3 c = stays putRow (λ (t : Rows). length (t .sizes)) (λ (t : Rows) (v : ℕ) (x : Variant). length-set (t .sizes) v (x .size)) _ _ _ (rows-done c)
+
+same-length-4 : tie.Need-same-length-4 Inv-loop μ-loop
+same-length-4 c = stays putRow (λ (t : Rows). length (t .negatives)) (λ (t : Rows) (v : ℕ) (x : Variant). length-set (t .negatives) v (x .negative)) _ _ _ (rows-done c)
+
+same-length-5 : tie.Need-same-length-5 Inv-loop μ-loop
+same-length-5 c = stays putRow (λ (t : Rows). length (t .counts)) (λ (t : Rows) (v : ℕ) (x : Variant). length-set (t .counts) v (length (x .letters))) _ _ _ (rows-done c)
+
+same-length-6 : tie.Need-same-length-6 Inv-loop μ-loop
+same-length-6 c = stays putPart (λ (t : PartRows). length (t .sizes)) (λ (t : PartRows) (v : ℕ) (x : Part). length-set (t .sizes) v (x .size)) _ _ _ (parts-done c)
+
+same-length-7 : tie.Need-same-length-7 Inv-loop μ-loop
+same-length-7 c = stays putPart (λ (t : PartRows). length (t .negatives)) (λ (t : PartRows) (v : ℕ) (x : Part). length-set (t .negatives) v (x .negative)) _ _ _ (parts-done c)
+
+same-length-8 : tie.Need-same-length-8 Inv-loop μ-loop
+same-length-8 c = stays putPart (λ (t : PartRows). length (t .counts)) (λ (t : PartRows) (v : ℕ) (x : Part). length-set (t .counts) v (length (x .letters))) _ _ _ (parts-done c)
+
+same-length-9 : tie.Need-same-length-9 Inv-loop μ-loop
+same-length-9 c = stays set (λ (t : List ℕ). length t) (λ (t : List ℕ) (v x : ℕ). length-set t v x) _ _ _ (letters-done c)
+
+returns : tie.Need-returns Inv-loop μ-loop
+returns c = (rows-done c, (parts-done c, letters-done c))
+
+pub fill-spec : {M : Type 1} → statement M
+fill-spec =
+    tie.close
+    (tie.spec Inv-loop μ-loop loop-holds shared-slice-read-k add-b sub-b part-b-start part-b-end fill-variant-requires fill-part-requires
+    fill-letters-requires letters-owed-requires add-at body-len-requires add-at-2 loop-less loop-again same-length same-length-2 same-length-3
+    same-length-4 same-length-5 same-length-6 same-length-7 same-length-8 same-length-9 returns)

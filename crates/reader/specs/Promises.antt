@@ -1,0 +1,19 @@
+-- The promise of each public function, said once: the function's `ensures` and `Unique` (crates/audit) cite it by name.
+-- Its arguments are the function's own, in their order, a lent slice by what it holds at entry; then what each `&mut` holds at exit; then the result r.
+use Prim.Native.Nat.{ℕ}
+use mathlib.Core.Path.{_≡_}
+use mathlib.Core.Bool.{Bool}
+use mathlib.Core.List.{List}
+use lib.IntN.{ℤ}
+use Rattle.form.specs.Job.{readJob}
+use Rattle.form.specs.Lent.{lent}
+use Rattle.reader.specs.Reading.{readingOf, lentAfter}
+use Rattle.reader.specs.declared.Reading.{Reading}
+
+abbrev pub ReadJobPromise : List ℕ → List ℕ → List ℕ → List ℤ → List Bool → List ℕ → List ℤ → List Bool → List ℕ → List ℕ
+    → List ℕ → List ℕ → List ℤ → List Bool → List ℕ → List ℤ → List Bool → List ℕ → List ℕ → Reading → Type 0
+ReadJobPromise bytes starts ends sizes negatives letterCounts partSizes partNegatives partLetterCounts letters
+    starts' ends' sizes' negatives' letterCounts' partSizes' partNegatives' partLetterCounts' letters' r =
+    let t = lent starts ends sizes negatives letterCounts partSizes partNegatives partLetterCounts letters in
+    let u = lent starts' ends' sizes' negatives' letterCounts' partSizes' partNegatives' partLetterCounts' letters' in
+    (r ≡ readingOf (readJob bytes) t) × (u ≡ lentAfter (readJob bytes) t)

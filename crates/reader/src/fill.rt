@@ -1,0 +1,225 @@
+// Lays a form's variants, parts and letters out in lent slices.
+use fields::i32_of;
+use fields::put_u8;
+use fields::u8_at;
+use fields::u32_at;
+use fields::u64_at;
+use form::records::LETTERS;
+use form::records::LETTERS_EACH;
+use form::records::PART;
+use form::records::PART_BODY;
+use form::records::PART_COUNT;
+use form::records::PART_FLAG;
+use form::records::VARIANT;
+use form::records::VARIANT_BODY;
+use form::records::VARIANT_COUNT;
+use form::records::VARIANT_FLAG;
+use form::records::body_len;
+use form::records::count_of;
+ghost use mathlib.Core.Path.{_≡_};
+ghost use Prim.Native.Nat.{_≤_, _<_, _+_, _^_};
+ghost use mathlib.Core.List.{_∷_};
+ghost use lib.ListN.{length, set};
+ghost use Rattle.form.specs.Job.{variantOf, variantHere, partOf, partHere, lettersIn, gather};
+ghost use Rattle.form.specs.Form.{lettersKind, variantLen, partLen, lettersLen, bodyLen};
+ghost use Rattle.form.specs.Steps.{lettersGiven, lettersOwed, lettersWalk};
+ghost use Rattle.reader.specs.Steps.{rows, putRow, partRows, putPart, stores, Stored};
+
+fn set_u64(dst: &mut [u64], i: usize, x: u64)
+    ensures { λ _. ⌜ now (dst .exit) ≡ set (now (dst .entry)) i x ⌝ }
+{
+    if i < dst.len() {
+        dst[i] = x;
+    }
+}
+
+fn set_i32(dst: &mut [i32], i: usize, x: i32)
+    ensures { λ _. ⌜ now (dst .exit) ≡ set (now (dst .entry)) i x ⌝ }
+{
+    if i < dst.len() {
+        dst[i] = x;
+    }
+}
+
+fn set_u32(dst: &mut [u32], i: usize, x: u32)
+    ensures { λ _. ⌜ now (dst .exit) ≡ set (now (dst .entry)) i x ⌝ }
+{
+    if i < dst.len() {
+        dst[i] = x;
+    }
+}
+
+fn set_bool(dst: &mut [bool], i: usize, x: bool)
+    ensures { λ _. ⌜ now (dst .exit) ≡ set (now (dst .entry)) i x ⌝ }
+{
+    if i < dst.len() {
+        dst[i] = x;
+    }
+}
+
+// Row v of each slice, where it has one.
+fn put_variant(
+    b: &[u8],
+    v: usize,
+    starts: &mut [u64],
+    ends: &mut [u64],
+    sizes: &mut [i32],
+    negatives: &mut [bool],
+    counts: &mut [u32],
+)
+    requires { ⌜ variantLen ≤ length (now b) ⌝ }
+    ensures { λ _. ⌜ rows (now (starts .exit)) (now (ends .exit)) (now (sizes .exit)) (now (negatives .exit)) (now (counts .exit))
+        ≡ putRow (rows (now (starts .entry)) (now (ends .entry)) (now (sizes .entry)) (now (negatives .entry)) (now (counts .entry)))
+        v (variantOf (now (b .entry))) ⌝ }
+{
+    set_u64(starts, v, u64_at(b, 0));
+    set_u64(ends, v, u64_at(b, 8));
+    set_i32(sizes, v, i32_of(u32_at(b, 16)));
+    set_bool(negatives, v, b[VARIANT_FLAG] == 1);
+    set_u32(counts, v, u32_at(b, VARIANT_COUNT));
+}
+
+// What one record adds, from row v on. Returns the next row.
+fn fill_variant(
+    k: u8,
+    b: &[u8],
+    v: usize,
+    starts: &mut [u64],
+    ends: &mut [u64],
+    sizes: &mut [i32],
+    negatives: &mut [bool],
+    counts: &mut [u32],
+) -> usize
+    requires { ⌜ v < 2 ^ 63 ⌝ }
+    ensures { λ r. ⌜ Stored putRow (rows (now (starts .entry)) (now (ends .entry)) (now (sizes .entry)) (now (negatives .entry)) (now (counts .entry)))
+        (rows (now (starts .exit)) (now (ends .exit)) (now (sizes .exit)) (now (negatives .exit)) (now (counts .exit)))
+        v r (variantHere k (now (b .entry))) ⌝ }
+{
+    if k != VARIANT {
+        return v;
+    }
+    if b.len() < VARIANT_BODY {
+        return v;
+    }
+    put_variant(b, v, starts, ends, sizes, negatives, counts);
+    v + 1
+}
+
+fn put_part(b: &[u8], v: usize, sizes: &mut [i32], negatives: &mut [bool], counts: &mut [u32])
+    requires { ⌜ partLen ≤ length (now b) ⌝ }
+    ensures { λ _. ⌜ partRows (now (sizes .exit)) (now (negatives .exit)) (now (counts .exit))
+        ≡ putPart (partRows (now (sizes .entry)) (now (negatives .entry)) (now (counts .entry))) v (partOf (now (b .entry))) ⌝ }
+{
+    set_i32(sizes, v, i32_of(u32_at(b, 0)));
+    set_bool(negatives, v, b[PART_FLAG] == 1);
+    set_u32(counts, v, u32_at(b, PART_COUNT));
+}
+
+fn fill_part(
+    k: u8,
+    b: &[u8],
+    v: usize,
+    sizes: &mut [i32],
+    negatives: &mut [bool],
+    counts: &mut [u32],
+) -> usize
+    requires { ⌜ v < 2 ^ 63 ⌝ }
+    ensures { λ r. ⌜ Stored putPart (partRows (now (sizes .entry)) (now (negatives .entry)) (now (counts .entry)))
+        (partRows (now (sizes .exit)) (now (negatives .exit)) (now (counts .exit))) v r (partHere k (now (b .entry))) ⌝ }
+{
+    if k != PART {
+        return v;
+    }
+    if b.len() < PART_BODY {
+        return v;
+    }
+    put_part(b, v, sizes, negatives, counts);
+    v + 1
+}
+
+// How many letters the record gives, of those that are owed.
+fn letters_given(k: u8, left: u32) -> u32
+    ensures { λ r. ⌜ (r ≡ lettersGiven k left) × ((r ≤ lettersLen) × (r ≤ bodyLen k)) ⌝ }
+{
+    if k != LETTERS {
+        return 0;
+    }
+    if left <= LETTERS_EACH {
+        left
+    } else {
+        LETTERS_EACH
+    }
+}
+
+// How many letters are owed behind the record.
+fn letters_owed(k: u8, b: &[u8], left: u32) -> u32
+    ensures { λ r. ⌜ r ≡ lettersOwed k (now (b .entry)) left ⌝ }
+{
+    if k != LETTERS {
+        return count_of(k, b);
+    }
+    if left <= LETTERS_EACH {
+        0
+    } else {
+        left - LETTERS_EACH
+    }
+}
+
+// The first n letters of a letters record's body, from position `at` on.
+fn copy_letters(out: &mut [u8], at: usize, b: &[u8], n: usize)
+    requires { ⌜ (at < 2 ^ 63) × (n ≤ lettersLen) ⌝ }
+    ensures { λ _. ⌜ now (out .exit) ≡ stores set (now (out .entry)) at (lettersIn (lettersKind ∷ now (b .entry)) 0 n) ⌝ }
+{
+    let mut i = 0usize;
+    while i < n {
+        put_u8(out, at + i, u8_at(b, i));
+        i += 1;
+    }
+}
+
+// The letters that one record gives, from position `at` on. Returns the position behind them.
+fn fill_letters(k: u8, b: &[u8], at: usize, left: u32, out: &mut [u8]) -> usize
+    requires { ⌜ at < 2 ^ 63 ⌝ }
+    ensures is { λ _. ⌜ now (out .exit) ≡ stores set (now (out .entry)) at (lettersIn (lettersKind ∷ now (b .entry)) 0 (lettersGiven k left)) ⌝ }
+    ensures next { λ r. ⌜ (r ≡ at + lettersGiven k left) × (r ≤ at + bodyLen k) ⌝ }
+{
+    let n = letters_given(k, left) as usize;
+    copy_letters(out, at, b, n);
+    at + n
+}
+
+// Lays the variants, the parts and the letters at the fronts of the slices, in one walk over the records.
+pub(crate) fn fill(
+    s: &[u8],
+    starts: &mut [u64],
+    ends: &mut [u64],
+    sizes: &mut [i32],
+    negatives: &mut [bool],
+    counts: &mut [u32],
+    part_sizes: &mut [i32],
+    part_negatives: &mut [bool],
+    part_counts: &mut [u32],
+    letters: &mut [u8],
+)
+    ensures variants { λ _. ⌜ rows (now (starts .exit)) (now (ends .exit)) (now (sizes .exit)) (now (negatives .exit)) (now (counts .exit))
+        ≡ stores putRow (rows (now (starts .entry)) (now (ends .entry)) (now (sizes .entry)) (now (negatives .entry)) (now (counts .entry)))
+        0 (gather variantHere (now (s .entry)) 0) ⌝ }
+    ensures parts { λ _. ⌜ partRows (now («part_sizes» .exit)) (now («part_negatives» .exit)) (now («part_counts» .exit))
+        ≡ stores putPart (partRows (now («part_sizes» .entry)) (now («part_negatives» .entry)) (now («part_counts» .entry))) 0 (gather partHere (now (s .entry)) 0) ⌝ }
+    ensures sequence { λ _. ⌜ now (letters .exit) ≡ stores set (now (letters .entry)) 0 (lettersWalk (now (s .entry)) 0 0) ⌝ }
+{
+    let mut at = 0usize;
+    let mut v = 0usize;
+    let mut p = 0usize;
+    let mut l = 0usize;
+    let mut left = 0u32;
+    while at < s.len() {
+        let k = s[at];
+        let b = &s[at + 1..];
+        v = fill_variant(k, b, v, starts, ends, sizes, negatives, counts);
+        p = fill_part(k, b, p, part_sizes, part_negatives, part_counts);
+        l = fill_letters(k, b, l, left, letters);
+        left = letters_owed(k, b, left);
+        at = at + 1 + body_len(k);
+    }
+}

@@ -1,0 +1,15 @@
+-- The promise of each public function, said once: the function's `ensures` and `Unique` (crates/audit) cite it by name.
+-- Its arguments are the function's own, in their order, a lent slice by what it holds at entry; then what the `&mut` holds at exit; then the result r.
+use Prim.Native.Nat.{ℕ}
+use mathlib.Core.List.{List}
+use lib.ListN.{take}
+use Rattle.kplib.specs.declared.traverse.Answer.{Answer}
+use Rattle.text.specs.Text.{refusedText, answerText}
+use Rattle.text.specs.Written.{Written}
+
+abbrev pub PutRefusedPromise : List ℕ → ℕ → ℕ → List ℕ → ℕ → Type 0
+PutRefusedPromise out at n out' r = Written out at (refusedText n) out' r
+
+-- the rows are the first of those lent, as many as the answer counts, or all where fewer are lent
+abbrev pub PutAnswerPromise : List ℕ → ℕ → List ℕ → Answer → List ℕ → ℕ → Type 0
+PutAnswerPromise out at rows a out' r = Written out at (answerText a (take (a .rows) rows)) out' r

@@ -1,0 +1,29 @@
+// The text that the program prints, stored in a lent slice from a place on. What does not fit is not written. Each returns the place behind.
+mod lines;
+mod pieces;
+
+use crate::lines::put_number_line;
+use crate::lines::put_seven;
+use kplib::traverse::Answer;
+ghost use Rattle.text.specs.Promises.{PutRefusedPromise, PutAnswerPromise};
+
+// `refused N`.
+pub fn put_refused(out: &mut [u8], at: usize, n: u32) -> usize
+    ensures { λ r. ⌜ PutRefusedPromise (now (out .entry)) at n (now (out .exit)) r ⌝ }
+{
+    put_number_line(out, at, b"refused ", n)
+}
+
+// `refused N`, or the seven lines of an answer whose rows stand at the front of `rows`.
+pub fn put_answer(out: &mut [u8], at: usize, rows: &[u32], a: Answer) -> usize
+    ensures { λ r. ⌜ PutAnswerPromise (now (out .entry)) at (now (rows .entry)) a (now (out .exit)) r ⌝ }
+{
+    if a.refusal != 0 {
+        return put_refused(out, at, a.refusal);
+    }
+    let n = a.rows as usize;
+    if rows.len() < n {
+        return put_seven(out, at, rows, a);
+    }
+    put_seven(out, at, &rows[..n], a)
+}

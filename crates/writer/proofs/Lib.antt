@@ -1,0 +1,9 @@
+-- Laws that several proofs cite.
+pub mod AgreeLaws
+pub mod WriteLaws
+pub mod RowLaws
+pub mod HeadLaws
+pub mod JobLaws
+pub mod BackLaws
+pub mod SlicesBack
+pub mod RoundTrip

@@ -1,0 +1,157 @@
+-- Rows written one behind the other: a row's record and letters, then the rest, are the bytes of the rows from there on. Assumes nothing.
+use Prim.Native.Nat.{ℕ, suc, _+_, _-_, _*_, _≤_, _<_}
+use native.Mathlib.Omega.{arith}
+use native.Mathlib.Numerals.{add-one}
+use mathlib.Core.Path.{_≡_, refl, sym, ap, subst, _∙_}
+use mathlib.Core.Bool.{Bool, false}
+use mathlib.Core.List.{List, [], _∷_, _++_}
+use lib.IntN.{ℤ, pos}
+use lib.ListN.{length, getD, drop, length-append}
+use lib.Seq.{sets, slice, length-slice}
+use Rattle.fields.specs.Fields.{bytes2, bytes4, bytes8}
+use Rattle.form.specs.Job.{recordsFor, sequenceBytes, partBody, variantBody, variantBytes, partBytes, variantsBytes, partsBytes}
+use Rattle.form.specs.Lent.{sum}
+use Rattle.writer.specs.Writing.{variantsFrom, partsFrom}
+use Rattle.writer.specs.Steps.{Put, VariantsFit, PartsFit}
+use Rattle.fields.proofs.FieldLaws.{sets-append, join}
+use Rattle.form.proofs.GatherLaws.{sum-next}
+use Rattle.writer.proofs.WriteLaws.{long-records}
+
+pub long-sequence : (letters : List ℕ) (p c : ℕ) → p + c ≤ length letters → length (sequenceBytes (slice p (p + c) letters)) ≡ 17 * recordsFor c
+unfolding sequenceBytes
+long-sequence letters p c h =
+    let e : p + c - p ≡ c = omega arith in
+    long-records (recordsFor (length (slice p (p + c) letters))) (slice p (p + c) letters) ∙ ap (λ (n : ℕ). 17 * recordsFor n) (length-slice p (p + c) letters h ∙ e)
+
+-- a record and its letters are stored, and the rest will be
+module _ (out m u : List ℕ) (a b h : ℕ) (xs ys rest : List ℕ) (long : length xs ≡ h) (head : m ≡ sets out a xs) (tail : Put m u (a + h) b ys) where
+  stored : u ≡ sets out a (xs ++ ys)
+  stored = join out m u a (a + h) xs ys (ap (λ (n : ℕ). a + n) long) head (tail .is)
+
+  behind : b ≡ a + length (xs ++ ys)
+  behind = let e = length-append xs ys in omega (arith, e, long, tail .next)
+
+  item-more : sets u b rest ≡ sets out a ((xs ++ ys) ++ rest)
+  item-more = rw (stored, behind) (sym (sets-append out a (xs ++ ys) rest))
+
+  item-long : b + length rest ≡ a + length ((xs ++ ys) ++ rest)
+  item-long = let e = length-append (xs ++ ys) rest in omega (arith, e, behind)
+
+-- what holds before a row is written
+pub record Turn (counts letters : List ℕ) (room a p r whole h : ℕ) : Type 0 where
+  pub letters-there : p + getD counts r 0 ≤ length letters
+  pub room-there : a + h + 17 * recordsFor (getD counts r 0) ≤ room
+  pub room-again : a + h + 17 * recordsFor (p + getD counts r 0 - p) ≤ room
+  pub sums-are : p + getD counts r 0 + sum (drop (r + 1) counts) ≡ whole
+
+module _ (starts ends : List ℕ) (sizes : List ℤ) (negatives : List Bool) (counts letters : List ℕ) where
+  abbrev pub variantsAt : ℕ → ℕ → List ℕ
+  variantsAt r p = variantsBytes (variantsFrom starts ends sizes negatives counts letters r p (length starts - r))
+
+  pub variants-whole : variantsAt 0 0 ≡ variantsBytes (variantsFrom starts ends sizes negatives counts letters 0 0 (length starts))
+  variants-whole = let e : length starts - 0 ≡ length starts = omega arith in rw e
+
+  pub variants-none : (r p : ℕ) → length starts ≤ r → variantsAt r p ≡ []
+  unfolding variantsBytes variantsFrom
+  variants-none r p h = let e : length starts - r ≡ 0 = omega arith in rw e
+
+  abbrev headAt : ℕ → List ℕ
+  headAt r = 2 ∷ variantBody (getD starts r 0) (getD ends r 0) (getD sizes r (pos 0)) (getD negatives r false) (getD counts r 0)
+
+  long-head : (r : ℕ) → length (headAt r) ≡ 26
+  unfolding variantBody partBody bytes8 bytes4 bytes2
+  long-head r = refl
+
+  module _ (r p : ℕ) (inside : r < length starts) (fits : p + getD counts r 0 ≤ length letters) where
+    step : variantsAt r p ≡ (headAt r ++ sequenceBytes (slice p (p + getD counts r 0) letters)) ++ variantsAt (r + 1) (p + getD counts r 0)
+    unfolding variantsBytes variantsFrom variantBytes
+    step =
+        let n : length starts - r ≡ suc (length starts - suc r) = omega arith in
+        let e : p + getD counts r 0 - p ≡ getD counts r 0 = omega arith in
+        let l : length (slice p (p + getD counts r 0) letters) ≡ getD counts r 0 = length-slice p (p + getD counts r 0) letters fits ∙ e in
+        rw (add-one r, n, l)
+
+    pub variants-more : (out m u : List ℕ) (a b : ℕ) (z : ℤ) → z ≡ getD sizes r (pos 0)
+        → m ≡ sets out a (2 ∷ variantBody (getD starts r 0) (getD ends r 0) z (getD negatives r false) (getD counts r 0))
+        → Put m u (a + 26) b (sequenceBytes (slice p (p + getD counts r 0) letters))
+        → (sets u b (variantsAt (r + 1) (p + getD counts r 0)) ≡ sets out a (variantsAt r p))
+        × (b + length (variantsAt (r + 1) (p + getD counts r 0)) ≡ a + length (variantsAt r p))
+    variants-more out m u a b z e f g =
+        let f′ : m ≡ sets out a (headAt r) = f ∙ ap (λ (y : ℤ). sets out a (2 ∷ variantBody (getD starts r 0) (getD ends r 0) y (getD negatives r false) (getD counts r 0))) e in (
+          item-more out m u a b 26 (headAt r) _ (variantsAt (r + 1) (p + getD counts r 0)) (long-head r) f′ g ∙ ap (sets out a) (sym step),
+          item-long out m u a b 26 (headAt r) _ (variantsAt (r + 1) (p + getD counts r 0)) (long-head r) f′ g ∙ ap (λ (l : List ℕ). a + length l) (sym step),
+        )
+
+  pub variants-turn : (at room a p r : ℕ) → VariantsFit starts ends sizes negatives counts letters at room → r < length starts
+      → a + length (variantsAt r p) ≡ at + length (variantsAt 0 0) → p + sum (drop r counts) ≡ sum counts
+      → Turn counts letters room a p r (sum counts) 26
+  variants-turn at room a p r fit h long sums =
+      let c : ℕ = getD counts r 0 in
+      let g : r < length counts = omega (arith, fit .counts-are, h) in
+      let s = sum-next counts r g in
+      let l : p + c ≤ length letters = omega (arith, s, sums, fit .letters-are) in
+      let x = ap length (step r p h l) in
+      let y = length-append (headAt r ++ sequenceBytes (slice p (p + c) letters)) (variantsAt (r + 1) (p + c)) in
+      let z = length-append (headAt r) (sequenceBytes (slice p (p + c) letters)) in
+      let w = long-sequence letters p c l in
+      let v = long-head r in
+      let q = ap length variants-whole in
+      let e : p + c - p ≡ c = omega arith in
+      let k : a + 26 + 17 * recordsFor c ≤ room = omega (arith, x, y, z, w, v, q, long, fit .fits) in
+      record { letters-there = l; room-there = k; room-again = subst (λ (n : ℕ). a + 26 + 17 * recordsFor n ≤ room) (sym e) k; sums-are = omega (arith, s, sums) }
+
+module _ (sizes : List ℤ) (negatives : List Bool) (counts letters : List ℕ) where
+  abbrev pub partsAt : ℕ → ℕ → List ℕ
+  partsAt r p = partsBytes (partsFrom sizes negatives counts letters r p (length sizes - r))
+
+  pub parts-whole : (from : ℕ) → partsAt 0 from ≡ partsBytes (partsFrom sizes negatives counts letters 0 from (length sizes))
+  parts-whole from = let e : length sizes - 0 ≡ length sizes = omega arith in rw e
+
+  pub parts-none : (r p : ℕ) → length sizes ≤ r → partsAt r p ≡ []
+  unfolding partsBytes partsFrom
+  parts-none r p h = let e : length sizes - r ≡ 0 = omega arith in rw e
+
+  abbrev partAt : ℕ → List ℕ
+  partAt r = 3 ∷ partBody (getD sizes r (pos 0)) (getD negatives r false) (getD counts r 0)
+
+  long-part : (r : ℕ) → length (partAt r) ≡ 10
+  unfolding partBody bytes4 bytes2
+  long-part r = refl
+
+  module _ (r p : ℕ) (inside : r < length sizes) (fits : p + getD counts r 0 ≤ length letters) where
+    part-step : partsAt r p ≡ (partAt r ++ sequenceBytes (slice p (p + getD counts r 0) letters)) ++ partsAt (r + 1) (p + getD counts r 0)
+    unfolding partsBytes partsFrom partBytes
+    part-step =
+        let n : length sizes - r ≡ suc (length sizes - suc r) = omega arith in
+        let e : p + getD counts r 0 - p ≡ getD counts r 0 = omega arith in
+        let l : length (slice p (p + getD counts r 0) letters) ≡ getD counts r 0 = length-slice p (p + getD counts r 0) letters fits ∙ e in
+        rw (add-one r, n, l)
+
+    pub parts-more : (out m u : List ℕ) (a b : ℕ) (z : ℤ) → z ≡ getD sizes r (pos 0)
+        → m ≡ sets out a (3 ∷ partBody z (getD negatives r false) (getD counts r 0))
+        → Put m u (a + 10) b (sequenceBytes (slice p (p + getD counts r 0) letters))
+        → (sets u b (partsAt (r + 1) (p + getD counts r 0)) ≡ sets out a (partsAt r p))
+        × (b + length (partsAt (r + 1) (p + getD counts r 0)) ≡ a + length (partsAt r p))
+    parts-more out m u a b z e f g =
+        let f′ : m ≡ sets out a (partAt r) = f ∙ ap (λ (y : ℤ). sets out a (3 ∷ partBody y (getD negatives r false) (getD counts r 0))) e in (
+          item-more out m u a b 10 (partAt r) _ (partsAt (r + 1) (p + getD counts r 0)) (long-part r) f′ g ∙ ap (sets out a) (sym part-step),
+          item-long out m u a b 10 (partAt r) _ (partsAt (r + 1) (p + getD counts r 0)) (long-part r) f′ g ∙ ap (λ (l : List ℕ). a + length l) (sym part-step),
+        )
+
+  pub parts-turn : (from at room a p r : ℕ) → PartsFit sizes negatives counts letters from at room → r < length sizes
+      → a + length (partsAt r p) ≡ at + length (partsAt 0 from) → p + sum (drop r counts) ≡ from + sum counts
+      → Turn counts letters room a p r (from + sum counts) 10
+  parts-turn from at room a p r fit h long sums =
+      let c : ℕ = getD counts r 0 in
+      let g : r < length counts = omega (arith, fit .counts-are, h) in
+      let s = sum-next counts r g in
+      let l : p + c ≤ length letters = omega (arith, s, sums, fit .letters-are) in
+      let x = ap length (part-step r p h l) in
+      let y = length-append (partAt r ++ sequenceBytes (slice p (p + c) letters)) (partsAt (r + 1) (p + c)) in
+      let z = length-append (partAt r) (sequenceBytes (slice p (p + c) letters)) in
+      let w = long-sequence letters p c l in
+      let v = long-part r in
+      let q = ap length (parts-whole from) in
+      let e : p + c - p ≡ c = omega arith in
+      let k : a + 10 + 17 * recordsFor c ≤ room = omega (arith, x, y, z, w, v, q, long, fit .fits) in
+      record { letters-there = l; room-there = k; room-again = subst (λ (n : ℕ). a + 10 + 17 * recordsFor n ≤ room) (sym e) k; sums-are = omega (arith, s, sums) }

@@ -1,0 +1,53 @@
+-- Private: what single rows take and store. No public promise cites this file.
+use Prim.Native.Nat.{ℕ, suc, _+_, _-_, _*_, _≤_}
+use mathlib.Core.Path.{_≡_}
+use mathlib.Core.List.{List, [], _∷_}
+use mathlib.Core.Bool.{Bool, true, cond}
+use lib.IntN.{ℤ}
+use lib.ListN.{length}
+use lib.Seq.{sets}
+use lib.Dec.{leb, eqb}
+use Rattle.params.specs.declared.Settings.{Settings}
+use Rattle.form.specs.Form.{lettersKind, lettersLen, bodyLen}
+use Rattle.form.specs.Job.{recordsFor, variantsBytes, partsBytes, jobBytes}
+use Rattle.form.specs.Lent.{Lent, sum}
+use Rattle.writer.specs.Writing.{variantsFrom, partsFrom, agree, jobFrom}
+use Rattle.writer.specs.declared.Left.{Left}
+use Rattle.writer.specs.declared.Left.the-variants.{Short, Enough}
+
+-- what one sequence takes: of the letters (kind 4), or of a form's bytes behind its own record
+unfoldable pub costOf : ℕ → ℕ → ℕ
+costOf kind n = cond (eqb kind lettersKind) n (1 + bodyLen kind + suc lettersLen * recordsFor n)
+
+unfoldable pub total : ℕ → List ℕ → ℕ
+total kind [] = 0
+total kind (n ∷ ns) = costOf kind n + total kind ns
+
+-- what is left of some room
+unfoldable pub leftOf : ℕ → ℕ → Left
+leftOf cost have = cond (leb cost have) (Enough (have - cost)) Short
+
+-- rows that agree, with letters and room enough
+pub record VariantsFit (starts ends : List ℕ) (sizes : List ℤ) (negatives : List Bool) (counts letters : List ℕ) (at room : ℕ) : Type 0 where
+  pub ends-are : length ends ≡ length starts
+  pub sizes-are : length sizes ≡ length starts
+  pub negatives-are : length negatives ≡ length starts
+  pub counts-are : length counts ≡ length starts
+  pub letters-are : sum counts ≤ length letters
+  pub fits : at + length (variantsBytes (variantsFrom starts ends sizes negatives counts letters 0 0 (length starts))) ≤ room
+
+pub record PartsFit (sizes : List ℤ) (negatives : List Bool) (counts letters : List ℕ) (from at room : ℕ) : Type 0 where
+  pub negatives-are : length negatives ≡ length sizes
+  pub counts-are : length counts ≡ length sizes
+  pub letters-are : from + sum counts ≤ length letters
+  pub fits : at + length (partsBytes (partsFrom sizes negatives counts letters 0 from (length sizes))) ≤ room
+
+-- xs stand in u from position at on, and r is behind them
+pub record Put (t u : List ℕ) (at r : ℕ) (xs : List ℕ) : Type 0 where
+  pub is : u ≡ sets t at xs
+  pub next : r ≡ at + length xs
+
+-- slices that agree, and room for the job that they hold
+pub record JobFits (s : Settings) (t : Lent) (room : ℕ) : Type 0 where
+  pub agrees : agree t ≡ true
+  pub fits : length (jobBytes (jobFrom s t)) ≤ room

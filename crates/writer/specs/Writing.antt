@@ -1,0 +1,70 @@
+-- Document 01, "Job form": the job that nine lent slices hold, and what writing it answers.
+use Prim.Native.Nat.{ℕ, zero, suc, _+_}
+use mathlib.Core.List.{List, [], _∷_}
+use mathlib.Core.Bool.{Bool, false, not, _&&_, _||_, cond}
+use lib.IntN.{ℤ, pos}
+use lib.ListN.{length, getD}
+use lib.Seq.{slice}
+use lib.Dec.{eqb, ltb}
+use Rattle.params.specs.declared.Settings.{Settings}
+use Rattle.form.specs.Job.{Variant, Part, Job, jobBytes}
+use Rattle.metrics.specs.Placed.{placed}
+use Rattle.form.specs.Lent.{Lent, sum}
+use Rattle.writer.specs.declared.Writing.{Writing}
+use Rattle.writer.specs.declared.Writing.the-variants.{Refused, Wrote}
+
+-- n variants from row r on, whose letters begin at a position; and n parts
+unfoldable pub variantsFrom : List ℕ → List ℕ → List ℤ → List Bool → List ℕ → List ℕ → ℕ → ℕ → ℕ → List Variant
+variantsFrom starts ends sizes negatives counts letters r at zero = []
+variantsFrom starts ends sizes negatives counts letters r at (suc n) = record {
+  start = getD starts r 0;
+  end = getD ends r 0;
+  size = getD sizes r (pos 0);
+  negative = getD negatives r false;
+  letters = slice at (at + getD counts r 0) letters;
+} ∷ variantsFrom starts ends sizes negatives counts letters (suc r) (at + getD counts r 0) n
+
+unfoldable pub partsFrom : List ℤ → List Bool → List ℕ → List ℕ → ℕ → ℕ → ℕ → List Part
+partsFrom sizes negatives counts letters r at zero = []
+partsFrom sizes negatives counts letters r at (suc n) = record {
+  size = getD sizes r (pos 0);
+  negative = getD negatives r false;
+  letters = slice at (at + getD counts r 0) letters;
+} ∷ partsFrom sizes negatives counts letters (suc r) (at + getD counts r 0) n
+
+-- V is the number of starts, m the number of part sizes
+unfoldable pub jobFrom : Settings → Lent → Job
+jobFrom s t = record {
+  settings = s;
+  variants = variantsFrom (t .starts) (t .ends) (t .sizes) (t .negatives) (t .counts) (t .letters) 0 0 (length (t .starts));
+  parts = partsFrom (t .partSizes) (t .partNegatives) (t .partCounts) (t .letters) 0 (sum (t .counts)) (length (t .partSizes));
+}
+
+unfoldable pub fourAgree : ℕ → ℕ → ℕ → ℕ → ℕ → Bool
+fourAgree n a b c d = eqb a n && (eqb b n && (eqb c n && eqb d n))
+
+unfoldable pub twoAgree : ℕ → ℕ → ℕ → Bool
+twoAgree n a b = eqb a n && eqb b n
+
+-- rows that agree with V and m, and as many letters as the counts say
+abbrev pub agree : Lent → Bool
+agree t =
+    fourAgree (length (t .starts)) (length (t .ends)) (length (t .sizes)) (length (t .negatives)) (length (t .counts))
+    && (twoAgree (length (t .partSizes)) (length (t .partNegatives)) (length (t .partCounts))
+    && eqb (sum (t .counts) + sum (t .partCounts)) (length (t .letters)))
+
+unfoldable pub anyOver : List ℕ → Bool
+anyOver [] = false
+anyOver (n ∷ ns) = ltb 131072 n || anyOver ns
+
+-- refused by 6, 13 and then 30; else the number of bytes written
+unfoldable pub writingOf : Settings → Lent → ℕ → Writing
+writingOf s t room =
+    cond (not (agree t)) (Refused 6)
+    (cond (anyOver (t .counts) || anyOver (t .partCounts)) (Refused 13)
+    (cond (ltb room (length (jobBytes (jobFrom s t)))) (Refused 30) (Wrote (length (jobBytes (jobFrom s t))))))
+
+-- what the lent room holds after the answer: the bytes at the front, or what it held
+unfoldable pub outAfter : Writing → List ℕ → List ℕ → List ℕ
+outAfter (Refused n) bytes old = old
+outAfter (Wrote n) bytes old = placed old bytes

@@ -1,0 +1,386 @@
+// Writes a job into a lent slice.
+use fields::put_u8;
+use fields::put_u32;
+use fields::put_u64;
+use fields::u32_of;
+use form::records::END;
+use form::records::LEAST_JOB;
+use form::records::LETTERS;
+use form::records::LETTERS_BODY;
+use form::records::LETTERS_RECORD;
+use form::records::MOST_LETTERS;
+use form::records::PART;
+use form::records::PART_RECORD;
+use form::records::SETTINGS;
+use form::records::SETTINGS_RECORD;
+use form::records::VARIANT;
+use form::records::VARIANT_RECORD;
+use form::records::body_len;
+use form::settings::write_settings;
+use metrics::refusals::BAD_LENGTHS;
+use metrics::refusals::LITTLE_ROOM;
+use metrics::refusals::TOO_MANY_LETTERS;
+use params::Settings;
+ghost use mathlib.Core.Path.{_≡_};
+ghost use mathlib.Core.List.{_∷_};
+ghost use Prim.Native.Nat.{_≤_, _<_, _+_, _^_};
+ghost use Prim.Native.Nat.{suc, _*_, _-_};
+ghost use lib.Dec.{eqb};
+ghost use lib.ListN.{length, take, getD};
+ghost use lib.Seq.{sets, slice};
+ghost use Rattle.form.specs.Form.{settingsLen, variantKind, partKind, lettersKind, variantLen, partLen, lettersLen};
+ghost use Rattle.form.specs.Job.{padded, recordsFor, sequenceBytes, partBody, variantBody, variantsBytes, partsBytes, jobBytes};
+ghost use Rattle.form.specs.Lent.{lent, sum};
+ghost use Rattle.writer.specs.Writing.{anyOver, fourAgree, twoAgree, variantsFrom, partsFrom, jobFrom};
+ghost use Rattle.writer.specs.Steps.{costOf, total, leftOf, VariantsFit, PartsFit, Put, JobFits};
+ghost use Rattle.writer.specs.Promises.{WriteJobPromise};
+
+pub enum Writing {
+    Refused(u32),
+    Wrote(usize),
+}
+
+// What is left of some room, where there is enough.
+enum Left {
+    Short,
+    Enough(usize),
+}
+
+// How far the writing has come: the next byte, and the next letter.
+struct Reached {
+    at: usize,
+    letter: usize,
+}
+
+fn rows_agree(n: usize, a: usize, b: usize, c: usize, d: usize) -> bool
+    ensures { λ r. ⌜ r ≡ fourAgree n a b c d ⌝ }
+{
+    if a != n {
+        return false;
+    }
+    if b != n {
+        return false;
+    }
+    if c != n {
+        return false;
+    }
+    d == n
+}
+
+fn parts_agree(n: usize, a: usize, b: usize) -> bool
+    ensures { λ r. ⌜ r ≡ twoAgree n a b ⌝ }
+{
+    if a != n {
+        return false;
+    }
+    b == n
+}
+
+fn cost(kind: u8, count: u32) -> usize
+    ensures { λ r. ⌜ (r ≡ costOf kind count) × (r < 2 ^ 40) ⌝ }
+{
+    let n = count as usize;
+    if kind == LETTERS {
+        return n;
+    }
+    1 + body_len(kind) + LETTERS_RECORD * ((n + 15) / LETTERS_BODY)
+}
+
+// Takes the sequences' costs away one by one: their sum may be past 64 bits.
+fn left_after(kind: u8, counts: &[u32], have: usize) -> Left
+    ensures { λ r. ⌜ r ≡ leftOf (total kind (now (counts .entry))) have ⌝ }
+{
+    let mut left = have;
+    let mut i = 0usize;
+    while i < counts.len() {
+        let c = cost(kind, counts[i]);
+        if left < c {
+            return Left::Short;
+        }
+        left = left - c;
+        i += 1;
+    }
+    Left::Enough(left)
+}
+
+fn letters_agree(counts: &[u32], parts: &[u32], have: usize) -> bool
+    ensures { λ r. ⌜ r ≡ eqb (sum (now (counts .entry)) + sum (now (parts .entry))) have ⌝ }
+{
+    let first = left_after(LETTERS, counts, have);
+    match first {
+        Left::Short => false,
+        Left::Enough(n) => {
+            let second = left_after(LETTERS, parts, n);
+            match second {
+                Left::Short => false,
+                Left::Enough(m) => m == 0,
+            }
+        }
+    }
+}
+
+// What is left of the room behind the settings, the variants, the parts and the end.
+fn spare(counts: &[u32], parts: &[u32], room: usize) -> Left
+    ensures { λ r. ⌜ r ≡ leftOf (suc (suc settingsLen) + (total variantKind (now (counts .entry)) + total partKind (now (parts .entry)))) room ⌝ }
+{
+    if room < LEAST_JOB {
+        return Left::Short;
+    }
+    let first = left_after(VARIANT, counts, room - LEAST_JOB);
+    match first {
+        Left::Short => Left::Short,
+        Left::Enough(n) => left_after(PART, parts, n),
+    }
+}
+
+fn any_over(counts: &[u32]) -> bool
+    ensures { λ r. ⌜ r ≡ anyOver (now (counts .entry)) ⌝ }
+{
+    let mut i = 0usize;
+    while i < counts.len() {
+        if MOST_LETTERS < counts[i] {
+            return true;
+        }
+        i += 1;
+    }
+    false
+}
+
+fn letter_or_zero(letters: &[u8], i: usize, end: usize) -> u8
+    requires { ⌜ end ≤ length (now letters) ⌝ }
+    ensures { λ r. ⌜ r ≡ getD (take end (now (letters .entry))) i 0 ⌝ }
+{
+    if i < end { letters[i] } else { 0 }
+}
+
+// One letters record: the next sixteen, with zeros from `end` on.
+fn write_letters(out: &mut [u8], at: usize, letters: &[u8], from: usize, end: usize)
+    requires { ⌜ (end ≤ length (now letters)) × ((from < end) × (at + suc lettersLen ≤ length (now out))) ⌝ }
+    ensures { λ _. ⌜ now (out .exit) ≡ sets (now (out .entry)) at (lettersKind ∷ padded (slice from end (now (letters .entry)))) ⌝ }
+{
+    put_u8(out, at, LETTERS);
+    write_padded(out, at + 1, letters, from, end);
+}
+
+fn write_padded(out: &mut [u8], at: usize, letters: &[u8], from: usize, end: usize)
+    requires { ⌜ (end ≤ length (now letters)) × ((from < end) × (at + lettersLen ≤ length (now out))) ⌝ }
+    ensures { λ _. ⌜ now (out .exit) ≡ sets (now (out .entry)) at (padded (slice from end (now (letters .entry)))) ⌝ }
+{
+    let mut j = 0usize;
+    while j < LETTERS_BODY {
+        out[at + j] = letter_or_zero(letters, from + j, end);
+        j += 1;
+    }
+}
+
+// The letters from `from` up to `end`, in just enough records. Returns the position behind them.
+fn write_sequence(out: &mut [u8], at: usize, letters: &[u8], from: usize, end: usize) -> usize
+    requires { ⌜ (end ≤ length (now letters)) × (at + suc lettersLen * recordsFor (end - from) ≤ length (now out)) ⌝ }
+    ensures { λ r. ⌜ Put (now (out .entry)) (now (out .exit)) at r (sequenceBytes (slice from end (now (letters .entry)))) ⌝ }
+{
+    let mut p = from;
+    let mut a = at;
+    while p < end {
+        write_letters(out, a, letters, p, end);
+        a += LETTERS_RECORD;
+        p += LETTERS_BODY;
+    }
+    a
+}
+
+fn write_body(out: &mut [u8], at: usize, size: i32, negative: bool, count: u32)
+    requires { ⌜ at + partLen ≤ length (now out) ⌝ }
+    ensures { λ _. ⌜ now (out .exit) ≡ sets (now (out .entry)) at (partBody size negative count) ⌝ }
+{
+    put_u32(out, at, u32_of(size));
+    put_u8(out, at + 4, negative as u8);
+    put_u32(out, at + 5, count);
+}
+
+// A variant's record, without its letters.
+fn write_variant(
+    out: &mut [u8],
+    at: usize,
+    first: u64,
+    last: u64,
+    size: i32,
+    negative: bool,
+    count: u32,
+)
+    requires { ⌜ at + suc variantLen ≤ length (now out) ⌝ }
+    ensures { λ _. ⌜ now (out .exit) ≡ sets (now (out .entry)) at (variantKind ∷ variantBody first last size negative count) ⌝ }
+{
+    put_u8(out, at, VARIANT);
+    put_u64(out, at + 1, first);
+    put_u64(out, at + 9, last);
+    write_body(out, at + 17, size, negative, count);
+}
+
+fn write_part(out: &mut [u8], at: usize, size: i32, negative: bool, count: u32)
+    requires { ⌜ at + suc partLen ≤ length (now out) ⌝ }
+    ensures { λ _. ⌜ now (out .exit) ≡ sets (now (out .entry)) at (partKind ∷ partBody size negative count) ⌝ }
+{
+    put_u8(out, at, PART);
+    write_body(out, at + 1, size, negative, count);
+}
+
+fn write_variants(
+    out: &mut [u8],
+    at: usize,
+    starts: &[u64],
+    ends: &[u64],
+    sizes: &[i32],
+    negatives: &[bool],
+    counts: &[u32],
+    letters: &[u8],
+) -> Reached
+    requires { ⌜ VariantsFit (now starts) (now ends) (now sizes) (now negatives) (now counts) (now letters) at (length (now out)) ⌝ }
+    ensures rows { λ r. ⌜ Put (now (out .entry)) (now (out .exit)) at (r .at) (variantsBytes (variantsFrom (now (starts .entry)) (now (ends .entry)) (now (sizes .entry))
+        (now (negatives .entry)) (now (counts .entry)) (now (letters .entry)) 0 0 (length (now (starts .entry))))) ⌝ }
+    ensures letter { λ r. ⌜ r .letter ≡ sum (now (counts .entry)) ⌝ }
+{
+    let mut a = at;
+    let mut p = 0usize;
+    let mut r = 0usize;
+    while r < starts.len() {
+        let count = counts[r];
+        let end = p + count as usize;
+        write_variant(out, a, starts[r], ends[r], sizes[r], negatives[r], count);
+        a = write_sequence(out, a + VARIANT_RECORD, letters, p, end);
+        p = end;
+        r += 1;
+    }
+    Reached { at: a, letter: p }
+}
+
+fn write_parts(
+    out: &mut [u8],
+    at: usize,
+    sizes: &[i32],
+    negatives: &[bool],
+    counts: &[u32],
+    letters: &[u8],
+    from: usize,
+) -> usize
+    requires { ⌜ PartsFit (now sizes) (now negatives) (now counts) (now letters) from at (length (now out)) ⌝ }
+    ensures { λ r. ⌜ Put (now (out .entry)) (now (out .exit)) at r (partsBytes (partsFrom (now (sizes .entry)) (now (negatives .entry))
+        (now (counts .entry)) (now (letters .entry)) 0 from (length (now (sizes .entry))))) ⌝ }
+{
+    let mut a = at;
+    let mut p = from;
+    let mut r = 0usize;
+    while r < sizes.len() {
+        let count = counts[r];
+        let end = p + count as usize;
+        write_part(out, a, sizes[r], negatives[r], count);
+        a = write_sequence(out, a + PART_RECORD, letters, p, end);
+        p = end;
+        r += 1;
+    }
+    a
+}
+
+fn lay_job(
+    settings: Settings,
+    starts: &[u64],
+    ends: &[u64],
+    sizes: &[i32],
+    negatives: &[bool],
+    letter_counts: &[u32],
+    part_sizes: &[i32],
+    part_negatives: &[bool],
+    part_letter_counts: &[u32],
+    letters: &[u8],
+    out: &mut [u8],
+) -> usize
+    requires { ⌜ JobFits settings (lent (now starts) (now ends) (now sizes) (now negatives) (now «letter_counts»)
+        (now «part_sizes») (now «part_negatives») (now «part_letter_counts») (now letters)) (length (now out)) ⌝ }
+    ensures { λ r. ⌜ Put (now (out .entry)) (now (out .exit)) 0 r (jobBytes (jobFrom settings (lent
+        (now (starts .entry)) (now (ends .entry)) (now (sizes .entry)) (now (negatives .entry)) (now («letter_counts» .entry))
+        (now («part_sizes» .entry)) (now («part_negatives» .entry)) (now («part_letter_counts» .entry)) (now (letters .entry))))) ⌝ }
+{
+    put_u8(out, 0, SETTINGS);
+    write_settings(out, 1, settings);
+    let v = write_variants(
+        out,
+        SETTINGS_RECORD,
+        starts,
+        ends,
+        sizes,
+        negatives,
+        letter_counts,
+        letters,
+    );
+    let at = write_parts(
+        out,
+        v.at,
+        part_sizes,
+        part_negatives,
+        part_letter_counts,
+        letters,
+        v.letter,
+    );
+    put_u8(out, at, END);
+    at + 1
+}
+
+// The job that the slices hold, written at the front of `out`, or refused by 6, 13 or 30 with nothing written.
+pub fn write_job(
+    settings: Settings,
+    starts: &[u64],
+    ends: &[u64],
+    sizes: &[i32],
+    negatives: &[bool],
+    letter_counts: &[u32],
+    part_sizes: &[i32],
+    part_negatives: &[bool],
+    part_letter_counts: &[u32],
+    letters: &[u8],
+    out: &mut [u8],
+) -> Writing
+    ensures { λ r. ⌜ WriteJobPromise settings (now (starts .entry)) (now (ends .entry)) (now (sizes .entry)) (now (negatives .entry)) (now («letter_counts» .entry))
+        (now («part_sizes» .entry)) (now («part_negatives» .entry)) (now («part_letter_counts» .entry)) (now (letters .entry)) (now (out .entry)) (now (out .exit)) r ⌝ }
+{
+    if !rows_agree(
+        starts.len(),
+        ends.len(),
+        sizes.len(),
+        negatives.len(),
+        letter_counts.len(),
+    ) {
+        return Writing::Refused(BAD_LENGTHS);
+    }
+    if !parts_agree(
+        part_sizes.len(),
+        part_negatives.len(),
+        part_letter_counts.len(),
+    ) {
+        return Writing::Refused(BAD_LENGTHS);
+    }
+    if !letters_agree(letter_counts, part_letter_counts, letters.len()) {
+        return Writing::Refused(BAD_LENGTHS);
+    }
+    if any_over(letter_counts) {
+        return Writing::Refused(TOO_MANY_LETTERS);
+    }
+    if any_over(part_letter_counts) {
+        return Writing::Refused(TOO_MANY_LETTERS);
+    }
+    let room = spare(letter_counts, part_letter_counts, out.len());
+    match room {
+        Left::Short => Writing::Refused(LITTLE_ROOM),
+        Left::Enough(n) => Writing::Wrote(lay_job(
+            settings,
+            starts,
+            ends,
+            sizes,
+            negatives,
+            letter_counts,
+            part_sizes,
+            part_negatives,
+            part_letter_counts,
+            letters,
+            out,
+        )),
+    }
+}
