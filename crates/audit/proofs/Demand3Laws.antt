@@ -22,7 +22,7 @@ use Rattle.audit.specs.Demand3.{Demand3, Demand3Holds, resultIn}
 use Rattle.params.specs.declared.Settings.{Settings}
 use Rattle.kplib.specs.declared.traverse.Answer.{Answer}
 use Rattle.kplib.proofs.GraphLaws.{counts-chains}
-use Rattle.params.proofs.CheckLaws.{and-yes}
+use Rattle.paths.proofs.BooleanLaws.{and-both}
 use Rattle.kplib.proofs.RoundingLaws.{holds}
 use Rattle.kplib.proofs.ScoreFloorLaws.{is-true, at-least-zero, score-number}
 
@@ -69,7 +69,7 @@ module _ (c : Call) where
     parts : (firstFault c ≡ 0) × (inSearchMode c ≡ true)
     unfolding searches
     parts =
-        let b = and-yes (eqb (firstFault c) 0) (inSearchMode c) mode in
+        let b = and-both (eqb (firstFault c) 0) (inSearchMode c) mode in
         (eqb-true (firstFault c) 0 (b .0), b .1)
 
     found-is : foundAfter (firstFault c) c ≡ searched s t p
