@@ -11,7 +11,8 @@ use Rattle.metrics.specs.Letters.{countsOf, counterAnswer, countedNumber, rowAf
 use Rattle.metrics.specs.Placed.{placed as placedText}
 use Rattle.metrics.specs.Similarity.{sizesimOf, seqsimOf, number, value}
 use Rattle.kplib.specs.Graph.{cappedCount, countNumber, countValue}
-use Rattle.kplib.specs.Answer.{answerOf, rowsOf, placed}
+use Rattle.kplib.specs.Answer.{answerOf, rowsOf}
+use Rattle.metrics.specs.Placed.{placed}
 use Rattle.kplib.specs.Promises.{callLent, QueueKept}
 use Rattle.desk.specs.Desk.{deskText}
 use Rattle.capi.specs.Words.{settingsOfWords}

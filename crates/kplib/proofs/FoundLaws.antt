@@ -11,7 +11,8 @@ use Rattle.kplib.specs.Score.{start}
 use Rattle.kplib.specs.OneToOne.{oneToOne, loneRowsAt}
 use Rattle.kplib.specs.Scoring.{unplaced}
 use Rattle.kplib.specs.Search.{rowsFor}
-use Rattle.kplib.specs.Answer.{searched, matchedAlone, inSearchMode, foundAfter, answerWith, answerOf, rowsOf, placed, queueRoom, searches}
+use Rattle.kplib.specs.Answer.{searched, matchedAlone, inSearchMode, foundAfter, answerWith, answerOf, rowsOf, queueRoom, searches}
+use Rattle.metrics.specs.Placed.{placed}
 use Rattle.kplib.specs.SearchSteps.{chainOf, answerParts, Startable, Searched}
 use Rattle.params.specs.declared.Settings.{Settings}
 use Rattle.kplib.specs.declared.pathscore.Scored.{Scored}
@@ -71,7 +72,6 @@ module _ (c : Call) where
 
   pub refused-answers : {fault : ℕ} → fault ≡ firstFault c → (fault ≡ 0 → ⊥) → {x : Scored} → x ≡ start → {r : Answer} → r ≡ answerParts fault 0 x 0 false → (rows : List ℕ)
       → (r ≡ answerOf c) × (rows ≡ placed rows (rowsOf c))
-  unfolding placed
   refused-answers {fault = zero} e z hx hr rows = absurd (z refl)
   refused-answers {fault = suc n} e z hx hr rows =
       (hr ∙ ap (λ (y : Scored). answerParts (suc n) 0 y 0 false) hx ∙ answer-at (suc n) e, ap (λ (l : List ℕ). l ++ drop (length l) rows) (rows-at (suc n) e))

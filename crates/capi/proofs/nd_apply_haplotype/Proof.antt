@@ -2,7 +2,7 @@
 -- target's number fits. The settings that the code makes of the words are answered as the words' own are.
 use mathlib.Core.Path.{ap, _∙_}
 use borrow.Author.Needs.{needs}
-use Rattle.kplib.specs.Answer.{placed}
+use Rattle.metrics.specs.Placed.{placed}
 use Rattle.capi.proofs.nd_apply_haplotype.Statement.{statement}
 use Rattle.capi.proofs.nd_apply_haplotype.Tie as tie
 use Rattle.capi.specs.Report.{reportOf}
