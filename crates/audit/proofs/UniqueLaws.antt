@@ -50,6 +50,7 @@ unique = record {
   bits-of = λ x. one;
   overlaps = λ s1 e1 s2 e2. one;
   seq-to-kmer = λ seq k negative out. through (λ r. rowAfter r (countsOf k negative seq) out);
+  clear-row = λ row. one;
   entries = λ k. one;
   magnitude = λ x. one;
   row-over = λ a limit. one;

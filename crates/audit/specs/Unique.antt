@@ -9,7 +9,7 @@ use lib.IntN.{ℤ}
 use lib.Ieee.{Float}
 use Rattle.metrics.specs.declared.Sim.{Sim}
 use Rattle.metrics.specs.declared.kmer.Counted.{Counted}
-use Rattle.metrics.specs.Promises.{SizesimPromise, SeqsimPromise, OverlapsPromise, SeqToKmerPromise, EntriesPromise, MagnitudePromise, RowOverPromise, BitsOfPromise}
+use Rattle.metrics.specs.Promises.{SizesimPromise, SeqsimPromise, OverlapsPromise, SeqToKmerPromise, ClearRowPromise, EntriesPromise, MagnitudePromise, RowOverPromise, BitsOfPromise}
 use Rattle.params.specs.declared.Settings.{Settings}
 use Rattle.params.specs.Promises.{SearchModePromise, CallFaultPromise, CountFaultPromise}
 use Rattle.kplib.specs.Answer.{searches}
@@ -61,6 +61,7 @@ pub record Unique : Type 0 where
   pub bits-of : (x : Float) → One ℕ (BitsOfPromise x)
   pub overlaps : (s1 e1 s2 e2 : ℕ) → One Bool (OverlapsPromise s1 e1 s2 e2)
   pub seq-to-kmer : (seq : List ℕ) (k : ℕ) (negative : Bool) (out : List ℤ) → Two (List ℤ) Counted (SeqToKmerPromise seq k negative out)
+  pub clear-row : (row : List ℤ) → One (List ℤ) (ClearRowPromise row)
   pub entries : (k : ℕ) → One ℕ (EntriesPromise k)
   pub magnitude : (x : ℤ) → One ℕ (MagnitudePromise x)
   pub row-over : (a : List ℤ) (limit : ℕ) → One Bool (RowOverPromise a limit)

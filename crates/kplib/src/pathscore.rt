@@ -6,12 +6,13 @@ ghost use lib.Dec.{eqb};
 ghost use lib.IntN.{natAbs};
 ghost use lib.ListN.{length, take, drop};
 ghost use Rattle.metrics.specs.Similarity.{sizesimValue, magnitudeSum};
-ghost use Rattle.kplib.specs.Sums.{rowPlus, zeros, featuresFrom, featuresOf};
+ghost use Rattle.kplib.specs.Sums.{rowPlus, featuresFrom, featuresOf};
 ghost use Rattle.kplib.specs.Score.{sign, seqsimOfRows, gapOf, scoreValue, listScore, start, targetOf, greaterOf};
 ghost use Rattle.kplib.specs.Scoring.{Summable, Ready, Testable, Comparable, Paired, mayWin, total, chainTotal, codedScore, Attempt, Attempted, noneTried, Scorable};
 use crate::haplotype::positions;
 use crate::plan::Plan;
 use metrics::Sim;
+use metrics::kmer::clear_row;
 use metrics::lanes::magnitude;
 use params::Settings;
 
@@ -183,16 +184,6 @@ fn add_row(acc: &mut [i32], row: &[i32])
     let mut i: usize = 0;
     while i < acc.len() {
         acc[i] = acc[i] + row[i];
-        i += 1;
-    }
-}
-
-fn clear_row(row: &mut [i32])
-    ensures { λ _. ⌜ now (row .exit) ≡ zeros (length (now (row .entry))) ⌝ }
-{
-    let mut i: usize = 0;
-    while i < row.len() {
-        row[i] = 0;
         i += 1;
     }
 }

@@ -203,10 +203,11 @@ fn answer_alone(
     answer_with(0, n, scored, starts.len() + 2, true)
 }
 
-fn smaller(a: usize, b: usize) -> usize
-    ensures { λ r. ⌜ r ≡ min a b ⌝ }
+// The queue holds as many entries as both of its slices have.
+fn queue_room(links: usize, keys: usize) -> usize
+    ensures { λ r. ⌜ r ≡ min links keys ⌝ }
 {
-    if a < b { a } else { b }
+    if links < keys { links } else { keys }
 }
 
 // The best chain of a table for a haplotype, or the best node alone. `links` and `keys` are the queue's room.
@@ -233,7 +234,7 @@ pub fn apply_haplotype(
         features,
         part_sizes,
         part_features,
-        smaller(links.len(), keys.len()),
+        queue_room(links.len(), keys.len()),
         rows.len(),
     );
     if refusal != 0 {

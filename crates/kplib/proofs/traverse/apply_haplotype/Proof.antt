@@ -25,7 +25,7 @@ abbrev begin : tie.After-call-fault → tie.Start
 begin c = c .before .before .before .before .before .before .before
 
 found : (c : tie.After-call-fault) → c .call-fault .result ≡ firstFault (call (begin c))
-found c = rw (c .before .smaller .ensures) at (c .call-fault .ensures)
+found c = rw (c .before .queue-room .ensures) at (c .call-fault .ensures)
 
 -- the call is accepted
 abbrev start : tie.Else1 → tie.Start
@@ -50,8 +50,8 @@ answered c = c .before .before .before .before .before .before
 abbrev answered-alone : tie.After-slice-known7 → tie.After-answer-alone
 answered-alone c = c .before .before
 
-smaller-requires : tie.Need-smaller-requires
-smaller-requires c κs = search needs
+queue-room-requires : tie.Need-queue-room-requires
+queue-room-requires c κs = search needs
 
 call-fault-requires : tie.Need-call-fault-requires
 call-fault-requires c κs = search needs
@@ -114,7 +114,7 @@ pub apply-haplotype-spec : {M : Type 1} → statement M
 apply-haplotype-spec =
     tie.close
     (tie.spec
-    smaller-requires
+    queue-room-requires
     call-fault-requires
     nothing-requires
     answer-with-requires
