@@ -29,16 +29,24 @@ use Rattle.form.proofs.OrderLaws.{in-order}
 use Rattle.form.proofs.CountLaws.{none-placed, none-whole, counts-are, letters-of-variants, letters-of-parts}
 
 -- ---- a good form begins with a whole settings record
-first-kind : (k : ℕ) (b : List ℕ) (c : Counts) (rest : Scan) → judge (faultOf outset k b) k outset rest ≡ Good c → 40 ≤ length b
+first-kind : (kind : Kind) (b : List ℕ) → inPlace outset kind ≡ true → bodyLen kind ≤ length b → 40 ≤ length b
 unfolding inPlace bodyLen
-first-kind k b c rest e = ⊎-elim
-    (λ (f : eqb (faultOf outset k b) 0 ≡ true).
-    let z : faultOf outset k b ≡ 0 = eqb-true _ _ f in
-    long (eqb-true k 1 (none-placed outset k b z)) (none-whole outset k b z))
-    (λ (f : eqb (faultOf outset k b) 0 ≡ false).
-    let w : Refused (faultOf outset k b) ≡ Good c = simp f at e in
+first-kind End b h w = mixed (sym h)
+first-kind Settings b h w = w
+first-kind VariantRecord b h w = mixed (sym h)
+first-kind PartRecord b h w = mixed (sym h)
+first-kind Letters b h w = mixed (sym h)
+first-kind Unknown b h w = mixed (sym h)
+
+first-whole : (kind : Kind) (b : List ℕ) (c : Counts) (rest : Scan) → judge (faultOf outset kind b) kind outset rest ≡ Good c → 40 ≤ length b
+first-whole kind b c rest e = ⊎-elim
+    (λ (f : eqb (faultOf outset kind b) 0 ≡ true).
+    let z : faultOf outset kind b ≡ 0 = eqb-true _ _ f in
+    first-kind kind b (none-placed outset kind b z) (none-whole outset kind b z))
+    (λ (f : eqb (faultOf outset kind b) 0 ≡ false).
+    let w : Refused (faultOf outset kind b) ≡ Good c = simp f at e in
     let z : _≡_ {A = ℕ} 0 1 = cc in omega arith)
-    (split (eqb (faultOf outset k b) 0))
+    (split (eqb (faultOf outset kind b) 0))
 
 good-long : (s : List ℕ) (c : Counts) → run s 0 outset ≡ Good c → 41 ≤ length s
 unfolding run
