@@ -16,6 +16,8 @@ use Rattle.kplib.specs.Answer.{searches}
 use Rattle.kplib.specs.declared.vargraph.ChainCount.{ChainCount}
 use Rattle.kplib.specs.declared.traverse.Answer.{Answer}
 use Rattle.kplib.specs.Promises.{callLent, CountChainsPromise, ApplyHaplotypePromise}
+use Rattle.form.specs.declared.records.Kind.{Kind}
+use Rattle.form.specs.declared.records.Record.{Record}
 use Rattle.form.specs.declared.records.Scan.{Scan}
 use Rattle.reader.specs.declared.Reading.{Reading}
 use Rattle.writer.specs.declared.Writing.{Writing}

@@ -9,7 +9,7 @@ use mathlib.Core.List.{List, [], _∷_, _++_, append-assoc, append-nil}
 use mathlib.Core.Logic.{⊎-elim}
 use lib.Dec.{ltb, leb, eqb}
 use lib.ListN.{length, length-append}
-use borrow.Author.Tests.{le-ltb, eq-eqb, ne-eqb, leb-false, ltb-false, eqb-true, eqb-false}
+use borrow.Author.Tests.{le-ltb, leb-false, ltb-false, eqb-true}
 use Rattle.form.specs.declared.records.Kind.{Kind}
 use Rattle.form.specs.declared.records.Kind.the-variants.{End, Settings, Variant as VariantRecord, Part as PartRecord, Letters, Unknown}
 use Rattle.form.specs.declared.records.State.{State}

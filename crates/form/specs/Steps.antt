@@ -4,7 +4,7 @@ use mathlib.Core.Path.{_≡_}
 use mathlib.Core.List.{List, [], _∷_, _++_}
 use mathlib.Core.Bool.{cond}
 use lib.ListN.{length}
-use lib.Dec.{ltb, leb, eqb}
+use lib.Dec.{ltb, leb}
 use Rattle.form.specs.Form.{lettersKind, lettersLen, kindOf, isVariant, isPart, isLetters, bodyLen, countOf, after}
 use Rattle.form.specs.Job.{lettersIn, lettersAfter}
 use Rattle.form.specs.declared.records.Kind.{Kind}

@@ -8,7 +8,7 @@ use mathlib.Core.Logic.{⊎-elim}
 use lib.Dec.{ltb, leb}
 use lib.ListN.{length, getD, take, drop, replicate, length-append, length-drop, length-take}
 use lib.Seq.{take-at, drop-at, slice}
-use borrow.Author.Tests.{lt-ltb, le-ltb, ne-eqb, leb-true, ltb-false}
+use borrow.Author.Tests.{lt-ltb, le-ltb, leb-true, ltb-false}
 use Rattle.params.specs.declared.Settings.{Settings}
 use Rattle.form.specs.declared.records.State.{State}
 use Rattle.form.specs.declared.records.Counts.{Counts}
@@ -269,7 +269,7 @@ module _ (x : Part) (h : PartHolds x) (rest : List ℕ) where
   module _ (phase : ℕ) (later : phase ≡ 0 → ⊥) (st : State) (o : Owes st phase 0) where
     p-placed : inPlace st PartRecord ≡ true
     unfolding inPlace
-    p-placed = rw (o .left-is, o .phase-is, ne-eqb phase 0 later)
+    p-placed = let h : 0 < phase = omega arith in rw (o .left-is, o .phase-is, lt-ltb 0 phase h)
 
     p-sound : faultOf st PartRecord (pbody ++ prest) ≡ 0
     unfolding kindOf bodyLen
@@ -308,7 +308,7 @@ module _ (x : Part) (h : PartHolds x) (rest : List ℕ) where
 module _ (phase : ℕ) (later : phase ≡ 0 → ⊥) (st : State) (o : Owes st phase 0) where
   end-placed : inPlace st End ≡ true
   unfolding inPlace
-  end-placed = rw (o .left-is, o .phase-is, ne-eqb phase 0 later)
+  end-placed = let h : 0 < phase = omega arith in rw (o .left-is, o .phase-is, lt-ltb 0 phase h)
 
   end-flags : flagsOk End [] ≡ true
   unfolding flagsOk
