@@ -16,12 +16,14 @@ use Rattle.kplib.specs.Answer.{searches}
 use Rattle.kplib.specs.declared.vargraph.ChainCount.{ChainCount}
 use Rattle.kplib.specs.declared.traverse.Answer.{Answer}
 use Rattle.kplib.specs.Promises.{callLent, CountChainsPromise, ApplyHaplotypePromise}
+use Rattle.form.specs.declared.records.Kind.{Kind}
+use Rattle.form.specs.declared.records.Record.{Record}
 use Rattle.form.specs.declared.records.Scan.{Scan}
 use Rattle.reader.specs.declared.Reading.{Reading}
 use Rattle.writer.specs.declared.Writing.{Writing}
 use Rattle.form.specs.Lent.{Lent}
 use Rattle.fields.specs.Promises.{U8AtPromise, U32AtPromise, U64AtPromise, I32OfPromise, U32OfPromise, FloatOfPromise, PutU8Promise, PutU32Promise, PutU64Promise}
-use Rattle.form.specs.Promises.{ScanPromise, BodyLenPromise, CountOfPromise, ReadSettingsPromise, WriteSettingsPromise}
+use Rattle.form.specs.Promises.{ScanPromise, KindOfPromise, BodyLenPromise, RecordAtPromise, ReadSettingsPromise, WriteSettingsPromise}
 use Rattle.reader.specs.Promises.{ReadJobPromise}
 use Rattle.writer.specs.Promises.{WriteJobPromise}
 use Rattle.text.specs.Promises.{PutRefusedPromise, PutAnswerPromise}
@@ -82,8 +84,9 @@ pub record Unique : Type 0 where
   pub put-u8 : (out : List ℕ) (at x : ℕ) → One (List ℕ) (PutU8Promise out at x)
   pub put-u32 : (out : List ℕ) (at x : ℕ) → One (List ℕ) (PutU32Promise out at x)
   pub put-u64 : (out : List ℕ) (at x : ℕ) → One (List ℕ) (PutU64Promise out at x)
-  pub body-len : (k : ℕ) → One ℕ (BodyLenPromise k)
-  pub count-of : (k : ℕ) (b : List ℕ) → One ℕ (CountOfPromise k b)
+  pub kind-of : (byte : ℕ) → One Kind (KindOfPromise byte)
+  pub body-len : (kind : Kind) → One ℕ (BodyLenPromise kind)
+  pub record-at : (s : List ℕ) (at : ℕ) → One Record (RecordAtPromise s at)
   pub read-settings : (b : List ℕ) → One Settings (ReadSettingsPromise b)
   pub write-settings : (out : List ℕ) (at : ℕ) (s : Settings) → One (List ℕ) (WriteSettingsPromise out at s)
   pub scan : (bytes : List ℕ) → One Scan (ScanPromise bytes)
