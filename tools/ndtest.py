@@ -33,7 +33,7 @@ class FolderTest(unittest.TestCase):
 
 
 def run():
-    """Runs the tests of the file that was called, and gives its exit status."""
+    """Runs the tests of the file that was called, and gives its exit status: 1 where one failed or none was found."""
     result = unittest.TextTestRunner(verbosity=1).run(unittest.defaultTestLoader.loadTestsFromModule(sys.modules["__main__"]))
     failed = len({test.id().split(" ")[0] for test, _ in result.failures + result.errors})
     skipped = len(result.skipped)
@@ -41,4 +41,4 @@ def run():
         reasons = sorted({reason for _, reason in result.skipped})
         print(f"{skipped} left out: {'; '.join(reasons)}")
     print(f"{result.testsRun - failed - skipped} passed, {failed} failed")
-    return 1 if failed else 0
+    return 1 if failed or not result.testsRun else 0

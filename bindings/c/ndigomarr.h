@@ -1,8 +1,9 @@
 /* Ndigomarr for C and C++: the functions of libndigomarr.a, which tools/library proves and writes.
  *
  * Each function asks nothing of its caller but that every pointer and its length belong together
- * and that no lent buffer overlaps another. It returns 0, or the number of a refusal; then every
- * lent buffer is as it was. An empty slice still needs a pointer that is not null.
+ * and that no lent buffer overlaps another. An empty slice still needs a pointer that is not null.
+ * Each but nd_answer, which returns a length, returns 0 or the number of a refusal. On a refusal
+ * every lent buffer is as it was, but for *place, *count and the report, which are then 0.
  *
  * What a call promises is proved of the Rattle source; tools/prototypes holds this header to it.
  */
@@ -17,8 +18,9 @@
 extern "C" {
 #endif
 
-/* What a call returns, each refusal with the table's words. Made from docs/refusals.tsv
- * by tools/refusals --write. */
+/* The refusals, each with the table's words. 1 to 13 are returned; 20 to 26 stand in nd_answer's
+ * text, beside those; 30 is the Rattle reader's and writer's.
+ * Made from docs/refusals.tsv by tools/refusals --write. */
 enum nd_refusal {
     ND_ACCEPTED = 0,
     ND_REFUSED_BAD_K = 1, /* k not 1 to 6 */

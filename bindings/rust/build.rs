@@ -9,6 +9,9 @@ fn main() {
         Some(given) => PathBuf::from(given),
         None => proved_archive(),
     };
+    // the linker looks for this name in the archive's folder
+    let named = archive.file_name().is_some_and(|name| name == "libndigomarr.a");
+    assert!(named, "NDIGOMARR_ARCHIVE is {:?}; set it to the path of a libndigomarr.a, or unset it and tools/library makes one", archive.display());
     println!("cargo:rerun-if-changed={}", archive.display());
     let folder = archive.parent().expect("the archive has no folder");
     println!("cargo:rustc-link-search=native={}", folder.display());

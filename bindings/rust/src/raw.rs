@@ -69,7 +69,8 @@ pub fn answer(job: &[u8]) -> Vec<u8> {
 }
 
 impl Room {
-    /// Grows to what a search is asked to be lent: 1 + (maxpaths + 1) × V entries, and none where it will be refused anyway.
+    /// Grows to what a search is asked to be lent: 1 + (maxpaths + 1) × V entries. None for a one-to-one match, which
+    /// has no queue, nor where the call will be refused anyway.
     fn grow(&mut self, settings: &Settings, variants: usize) {
         let asked = settings.maxpaths <= 4095 && variants <= 64 && !settings.one_to_one;
         let entries = if asked { 1 + (settings.maxpaths as usize + 1) * variants } else { 0 };

@@ -8,11 +8,10 @@ use lib.IntN.{ℤ}
 use lib.Ieee.{Float}
 use lib.ListN.{length}
 use Rattle.metrics.specs.Letters.{countsOf, counterAnswer, countedNumber, rowAfter}
-use Rattle.metrics.specs.Placed.{placed as placedText}
+use Rattle.metrics.specs.Placed.{placed}
 use Rattle.metrics.specs.Similarity.{sizesimOf, seqsimOf, number, value}
 use Rattle.kplib.specs.Graph.{cappedCount, countNumber, countValue}
 use Rattle.kplib.specs.Answer.{answerOf, rowsOf}
-use Rattle.metrics.specs.Placed.{placed}
 use Rattle.kplib.specs.Promises.{callLent, QueueKept}
 use Rattle.desk.specs.Desk.{deskText}
 use Rattle.capi.specs.Words.{settingsOfWords}
@@ -33,7 +32,7 @@ NdCountChainsPromise starts ends full cap count count' r =
     (r ≡ countNumber (cappedCount starts ends full cap)) × (count' ≡ countValue (cappedCount starts ends full cap))
 
 abbrev pub NdAnswerPromise : List ℕ → List ℕ → List ℕ → ℕ → Type 0
-NdAnswerPromise job text text' r = (r ≡ length (deskText job)) × (text' ≡ placedText text (deskText job))
+NdAnswerPromise job text text' r = (r ≡ length (deskText job)) × (text' ≡ placed text (deskText job))
 
 abbrev pub NdApplyHaplotypePromise : List ℕ → List ℕ → List ℕ → List ℤ → List ℤ → List ℤ → List ℤ → List ℕ → List ℕ → List ℕ → List ℕ
     → List ℕ → List ℕ → List ℕ → List ℕ → ℕ → Type 0

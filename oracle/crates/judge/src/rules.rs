@@ -1,5 +1,5 @@
-//! Document 01's sentences in its order, each a rule with a name. `DOCUMENT` holds them as the paper says them;
-//! document.rs, call.rs and job.rs ask for them by name.
+//! The sentences of document 01 that a mistake misreads, in its order, each a rule with a name. `DOCUMENT` holds them as the
+//! paper says them; document.rs, call.rs and job.rs ask for them by name. The other limits stand where call.rs and program.rs ask them.
 use crate::answer::Target;
 use crate::document::{PartList, Scored};
 use crate::job::Settings;

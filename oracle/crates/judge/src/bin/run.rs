@@ -144,8 +144,9 @@ fn library_says(call: &Call, must: &Answer) -> Result<(), String> {
     if !said.rest_unchanged {
         return Err("the rest of the answer buffer changed".to_string());
     }
-    if must.refusal != 0 && !said.queue_unchanged {
-        return Err("a refusal changed the queue".to_string());
+    let searched = must.refusal == 0 && call.searches(&DOCUMENT);
+    if !searched && !said.queue_unchanged {
+        return Err("the queue changed, and no search ran".to_string());
     }
     Ok(())
 }
