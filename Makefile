@@ -1,5 +1,5 @@
 # `make run` and `make test` do all set-up themselves; README.md says what each target is for.
-.PHONY: run test program proofs packages oracle faults fuzz bindings bench
+.PHONY: run test changed program proofs packages oracle faults fuzz bindings bench
 
 program:
 	tools/emulate >&2
@@ -25,12 +25,22 @@ test:
 	tools/test_promises
 	tools/uses
 	tools/test_uses
+	tools/refusals
+	tools/test_refusals
+	tools/prototypes
+	tools/test_prototypes
+	tools/test_changed
+	tools/test_unproved
 	rt fmt --check
 	tools/run-examples
 	SHEET_NEEDS_PROGRAM=1 SHEET_WRITER=target/bin/copy_job tools/test_sheet
 	oracle/run --short
 	bindings/test
 	rt ci
+
+# After a changed line: what differs from main and what stands on it, not the whole gate.
+changed:
+	tools/changed
 
 oracle:
 	oracle/setup

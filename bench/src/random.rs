@@ -1,5 +1,5 @@
 //! Random letters and rows, by the judge's generator: the same from the same seed everywhere.
-use judge::generate::Random as Generator;
+use judge::random::Random as Generator;
 
 pub struct Random(Generator);
 

@@ -1,8 +1,14 @@
-/* The worked example from C: two variants, one part, and the row that explains it. */
+/* The worked example from C, and from C++: two variants, one part, and the row that explains it. */
 #include "ndigomarr.h"
 
 #include <stdio.h>
 #include <string.h>
+
+#ifdef __cplusplus
+#define LANGUAGE "C++"
+#else
+#define LANGUAGE "C"
+#endif
 
 enum { K = 1, ENTRIES = 4, V = 2, MAXPATHS = 10, ROOM = 1 + (MAXPATHS + 1) * V };
 
@@ -18,23 +24,49 @@ static void expect(const char *what, uint32_t got, uint32_t wanted)
 
 static void count(const char *letters, int32_t *row)
 {
-    expect(letters, nd_seq_to_kmer((const uint8_t *)letters, strlen(letters), K, false, row, ENTRIES), 0);
+    expect(letters, nd_seq_to_kmer((const uint8_t *)letters, strlen(letters), K, false, row, ENTRIES), ND_ACCEPTED);
+}
+
+static uint32_t bits(float x)
+{
+    uint32_t word;
+    memcpy(&word, &x, sizeof word);
+    return word;
+}
+
+static void set(uint32_t *settings)
+{
+    memset(settings, 0, ND_SETTINGS_LEN * sizeof *settings);
+    settings[ND_SETTING_K] = K;
+    settings[ND_SETTING_FULL] = 2; /* yes, as any word but 0 */
+    settings[ND_SETTING_MAXPATHS] = MAXPATHS;
+    settings[ND_SETTING_MAXNODES] = 10;
+    settings[ND_SETTING_FNMAX] = 1;
+    settings[ND_SETTING_PILEUPMAX] = 5;
+    settings[ND_SETTING_MINKFREQ] = 1;
+    settings[ND_SETTING_SIZESIM] = bits(0.5f);
+    settings[ND_SETTING_SEQSIM] = bits(0.5f);
+}
+
+static uint32_t search(const uint32_t *settings, uint32_t *rows, uint32_t *report)
+{
+    uint64_t starts[V] = {10, 20}, ends[V] = {10, 20}, keys[ROOM];
+    int32_t sizes[V] = {2, 2}, features[V * ENTRIES], part_sizes[1] = {2}, part_features[ENTRIES];
+    uint32_t links[ROOM], chains = 0;
+    count("AG", features);
+    count("CT", features + ENTRIES);
+    count("AG", part_features);
+    expect("chain count", nd_count_chains(starts, V, ends, V, true, 4096, &chains), ND_ACCEPTED);
+    expect("chains", chains, 4);
+    return nd_apply_haplotype(settings, starts, V, ends, V, sizes, V, features, V * ENTRIES, part_sizes, 1,
+                              part_features, ENTRIES, links, ROOM, keys, ROOM, rows, V, report);
 }
 
 static void worked_example(void)
 {
-    uint64_t starts[V] = {10, 20}, ends[V] = {10, 20}, keys[ROOM];
-    int32_t sizes[V] = {2, 2}, features[V * ENTRIES], part_sizes[1] = {2}, part_features[ENTRIES];
-    uint32_t links[ROOM], rows[V] = {7, 7}, report[ND_REPORT_LEN], chains = 0;
-    count("AG", features);
-    count("CT", features + ENTRIES);
-    count("AG", part_features);
-    expect("refusal",
-           nd_apply_haplotype(K, false, false, true, MAXPATHS, 10, 1, 5, 1, 0.5f, 0.5f, 0, 0, starts,
-                              V, ends, V, sizes, V, features, V * ENTRIES, part_sizes, 1,
-                              part_features, ENTRIES, links, ROOM, keys, ROOM,
-                              rows, V, report),
-           0);
+    uint32_t settings[ND_SETTINGS_LEN], rows[V] = {7, 7}, report[ND_REPORT_LEN];
+    set(settings);
+    expect("refusal", search(settings, rows, report), ND_ACCEPTED);
     expect("rows", report[ND_ROWS], 1);
     expect("row", rows[0], 0);
     expect("the buffer's rest", rows[1], 7);
@@ -42,25 +74,36 @@ static void worked_example(void)
     expect("score", report[ND_SCORE], 0x3f800000);
     expect("scored", report[ND_SCORED], 4);
     expect("complete", report[ND_COMPLETE], 1);
-    expect("chain count", nd_count_chains(starts, V, ends, V, true, 4096, &chains), 0);
-    expect("chains", chains, 4);
+    settings[ND_SETTING_K] = 256 + K;
+    expect("k 257", search(settings, rows, report), ND_REFUSED_BAD_K);
+    expect("its report", report[ND_SCORE], 0);
+}
+
+static void program_text(void)
+{
+    const char *wanted = "refused 21\n";
+    const uint8_t job[1] = {1}; /* the kind of a settings record, without its body */
+    uint8_t text[ND_TEXT_LEN] = {0};
+    expect("a job that is cut short", nd_answer(job, 1, text), (uint32_t)strlen(wanted));
+    expect("its text", memcmp(text, wanted, strlen(wanted)) == 0, 1);
 }
 
 static void refusals(void)
 {
     float value = 2;
     int32_t one[1] = {1}, two[2] = {1, 1};
-    expect("a size over its limit", nd_sizesim(0, 8388609, &value), 9);
+    expect("a size of 8,388,609", nd_sizesim(0, 8388609, &value), ND_REFUSED_BAD_SIZE);
     expect("its value", value == 0, 1);
-    expect("unequal lengths", nd_seqsim(one, 1, two, 2, 1, &value), 6);
-    expect("k 7", nd_seq_to_kmer((const uint8_t *)"A", 1, 7, false, one, 1), 1);
+    expect("unequal lengths", nd_seqsim(one, 1, two, 2, 1, &value), ND_REFUSED_BAD_LENGTHS);
+    expect("k 7", nd_seq_to_kmer((const uint8_t *)"A", 1, 7, false, one, 1), ND_REFUSED_BAD_K);
     expect("the row after a refusal", (uint32_t)one[0], 1);
 }
 
 int main(void)
 {
     worked_example();
+    program_text();
     refusals();
-    puts(failed ? "the C binding differs" : "the C binding agrees");
+    puts(failed ? "the " LANGUAGE " binding differs" : "the " LANGUAGE " binding agrees");
     return failed;
 }

@@ -12,28 +12,18 @@
 mod kmer;
 #[path = "../kplib/metrics.rs"]
 mod metrics;
+#[path = "../crates/judge/src/random.rs"]
+mod random;
 
+use random::Random;
 use std::io::Read;
 
-/// splitmix64
-struct Random(u64);
+fn letters(random: &mut Random, count: u64, alphabet: &[u8]) -> String {
+    (0..count).map(|_| random.pick(alphabet) as char).collect()
+}
 
-impl Random {
-    fn next(&mut self, below: u64) -> u64 {
-        self.0 = self.0.wrapping_add(0x9e37_79b9_7f4a_7c15);
-        let mut z = self.0;
-        z = (z ^ (z >> 30)).wrapping_mul(0xbf58_476d_1ce4_e5b9);
-        z = (z ^ (z >> 27)).wrapping_mul(0x94d0_49bb_1331_11eb);
-        (z ^ (z >> 31)) % below
-    }
-
-    fn letters(&mut self, count: u64, alphabet: &[u8]) -> String {
-        (0..count).map(|_| alphabet[self.next(alphabet.len() as u64) as usize] as char).collect()
-    }
-
-    fn row(&mut self, entries: u64, low: i64, high: i64) -> Vec<i64> {
-        (0..entries).map(|_| low + self.next((high - low + 1) as u64) as i64).collect()
-    }
+fn row(random: &mut Random, entries: u64, low: i64, high: i64) -> Vec<i64> {
+    (0..entries).map(|_| random.within(low, high)).collect()
 }
 
 fn counter_line(k: u32, negative: bool, count: usize, letters: &str) {
@@ -59,8 +49,8 @@ fn list_counter(random: &mut Random) {
         // none, one too few, just one window, and more
         for count in [0, k - 1, k, k + 1, 12, 40] {
             for alphabet in [&b"ACGT"[..], &b"ACGTacgt"[..], &b"AGCTNnRy-"[..]] {
-                let letters = random.letters(count as u64, alphabet);
-                counter_line(k, random.next(2) == 1, letters.len(), &letters);
+                let letters = letters(random, count as u64, alphabet);
+                counter_line(k, random.below(2) == 1, letters.len(), &letters);
             }
         }
     }
@@ -84,7 +74,7 @@ fn list_seqsim(random: &mut Random) {
     seqsim_line(0, &[8_388_607, 1], &[1, -8_388_607]);
     for entries in [1, 2, 4, 16, 64] {
         for (low, high) in [(0, 3), (-3, 3), (-3, 0), (-1000, 1000), (-131_072, 131_072)] {
-            let (a, b) = (random.row(entries, low, high), random.row(entries, low, high));
+            let (a, b) = (row(random, entries, low, high), row(random, entries, low, high));
             // at the sum of the first pair of entries, and one to each side of it
             let both = (a[0].abs() + b[0].abs()) as u64;
             for minkfreq in [0, both.saturating_sub(1), both, both + 1] {
@@ -107,7 +97,7 @@ fn list_numbers(random: &mut Random) {
     }
     println!("o 0 9999999999999999999 9999999999999999998 9999999999999999999");
     for _ in 0..12 {
-        println!("o {} {} {} {}", random.next(9), random.next(9), random.next(9), random.next(9));
+        println!("o {} {} {} {}", random.below(9), random.below(9), random.below(9), random.below(9));
     }
 }
 
@@ -140,7 +130,7 @@ fn answer(line: &str) -> Option<String> {
 
 fn main() {
     if std::env::args().nth(1).as_deref() == Some("list") {
-        let mut random = Random(1);
+        let mut random = Random::new(1);
         list_counter(&mut random);
         list_seqsim(&mut random);
         list_numbers(&mut random);

@@ -176,3 +176,8 @@ pub fn apply_haplotype(settings: &Settings, table: &Table, haplotype: &Haplotype
 pub fn apply_haplotype_in(settings: &Settings, table: &Table, haplotype: &Haplotype, room: &mut Room) -> Result<Answer, Refusal> {
     raw::apply_haplotype(settings, table, haplotype, room)
 }
+
+/// The program's answer to a job's bytes: its lines of text. A job that the program refuses is answered by a line that says so.
+pub fn answer(job: &[u8]) -> String {
+    String::from_utf8_lossy(&raw::answer(job)).into_owned()
+}

@@ -1,31 +1,19 @@
 //! The boundary: the archive's functions, declared once, and the room that they are lent.
 //!
-//! Nothing checks these declarations against the proved source, so they stand together here. A
-//! slice passes as a pointer and then a length; each function asks nothing more of its caller than
-//! that the two belong together and that no lent buffer overlaps another, which Rust's slices
-//! guarantee.
+//! `tools/prototypes` holds these declarations to the proved source. A slice passes as a pointer and
+//! then a length; each function asks nothing more of its caller than that the two belong together
+//! and that no lent buffer overlaps another, which Rust's slices guarantee.
 use crate::{checked, Answer, Haplotype, Refusal, Room, Settings, Table, Target};
 
 mod archive {
     extern "C" {
         pub fn nd_seq_to_kmer(letters: *const u8, letters_len: usize, k: u8, negative: bool, row: *mut i32, row_len: usize) -> u32;
-        pub fn nd_seqsim(a: *const i32, a_len: usize, b: *const i32, b_len: usize, minkfreq: u32, value: *mut f32) -> u32;
-        pub fn nd_sizesim(a: u64, b: u64, value: *mut f32) -> u32;
+        pub fn nd_seqsim(a: *const i32, a_len: usize, b: *const i32, b_len: usize, minkfreq: u32, place: *mut f32) -> u32;
+        pub fn nd_sizesim(a: u64, b: u64, place: *mut f32) -> u32;
         pub fn nd_count_chains(starts: *const u64, starts_len: usize, ends: *const u64, ends_len: usize, full: bool, cap: u32, count: *mut u32) -> u32;
+        pub fn nd_answer(job: *const u8, job_len: usize, text: *mut [u8; 8192]) -> u32;
         pub fn nd_apply_haplotype(
-            k: u8,
-            squish: bool,
-            one_to_one: bool,
-            full: bool,
-            maxpaths: u32,
-            maxnodes: u32,
-            fnmax: u32,
-            pileupmax: u32,
-            minkfreq: u32,
-            sizesim: f32,
-            seqsim: f32,
-            fpenalty: f32,
-            gpenalty: f32,
+            settings: *const [u32; 13],
             starts: *const u64,
             starts_len: usize,
             ends: *const u64,
@@ -73,8 +61,16 @@ pub fn count_chains(starts: &[u64], ends: &[u64], full: bool, cap: u32, count: &
     unsafe { archive::nd_count_chains(starts.as_ptr(), starts.len(), ends.as_ptr(), ends.len(), full, cap, count) }
 }
 
+/// The program's text for a job's bytes.
+pub fn answer(job: &[u8]) -> Vec<u8> {
+    let mut text = [0; 8192];
+    let length = unsafe { archive::nd_answer(job.as_ptr(), job.len(), &mut text) };
+    text[..length as usize].to_vec()
+}
+
 impl Room {
-    /// Grows to what a search is asked to be lent: 1 + (maxpaths + 1) × V entries, and none where it will be refused anyway.
+    /// Grows to what a search is asked to be lent: 1 + (maxpaths + 1) × V entries. None for a one-to-one match, which
+    /// has no queue, nor where the call will be refused anyway.
     fn grow(&mut self, settings: &Settings, variants: usize) {
         let asked = settings.maxpaths <= 4095 && variants <= 64 && !settings.one_to_one;
         let entries = if asked { 1 + (settings.maxpaths as usize + 1) * variants } else { 0 };
@@ -112,23 +108,29 @@ fn target_of(number: u32) -> Target {
     }
 }
 
+/// The settings as the archive takes them: flags as 0 and 1, floats by their bits.
+fn words(s: &Settings) -> [u32; 13] {
+    [
+        s.k.into(),
+        s.squish.into(),
+        s.one_to_one.into(),
+        s.full.into(),
+        s.maxpaths,
+        s.maxnodes,
+        s.fnmax,
+        s.pileupmax,
+        s.minkfreq,
+        s.sizesim.to_bits(),
+        s.seqsim.to_bits(),
+        s.fpenalty.to_bits(),
+        s.gpenalty.to_bits(),
+    ]
+}
+
 fn search(settings: &Settings, table: &Table, haplotype: &Haplotype, room: &mut Room, rows: &mut [u32], report: &mut [u32; 7]) -> u32 {
-    let s = settings;
     unsafe {
         archive::nd_apply_haplotype(
-            s.k,
-            s.squish,
-            s.one_to_one,
-            s.full,
-            s.maxpaths,
-            s.maxnodes,
-            s.fnmax,
-            s.pileupmax,
-            s.minkfreq,
-            s.sizesim,
-            s.seqsim,
-            s.fpenalty,
-            s.gpenalty,
+            &words(settings),
             table.starts().as_ptr(),
             table.starts().len(),
             table.ends().as_ptr(),

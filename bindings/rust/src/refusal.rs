@@ -1,6 +1,9 @@
 //! Why a call was refused.
 use std::fmt;
 
+/// Document 01's table: number, name and words of each refusal, parted by tabs.
+const TABLE: &str = include_str!("../../../docs/refusals.tsv");
+
 /// A refusal: its number, and the table's words for it as its text.
 #[derive(Clone, Copy, Debug, PartialEq, Eq, Hash)]
 pub struct Refusal(u32);
@@ -17,22 +20,9 @@ impl Refusal {
     }
 
     fn words(self) -> &'static str {
-        match self.0 {
-            1 => "k not 1 to 6",
-            2 => "a float setting is NaN or outside its range",
-            3 => "a whole-number setting over its limit",
-            4 => "no variants",
-            5 => "over 64 variants or over 64 parts",
-            6 => "lent lengths disagree with V, m or 4^k",
-            7 => "a start is greater than its end",
-            8 => "a start is less than the row before's",
-            9 => "a size over its limit",
-            10 => "a feature row over its limit",
-            11 => "queue room too small",
-            12 => "answer room too small",
-            13 => "a sequence over its letter limit",
-            _ => "refused",
-        }
+        let number = self.0.to_string();
+        let mut rows = TABLE.lines().map(|line| line.split('\t'));
+        rows.find_map(|mut cells| (cells.next()? == number).then(|| cells.nth(1))?).unwrap_or("not in the table of refusals")
     }
 }
 
@@ -43,3 +33,17 @@ impl fmt::Display for Refusal {
 }
 
 impl std::error::Error for Refusal {}
+
+#[cfg(test)]
+mod tests {
+    use super::Refusal;
+
+    #[test]
+    fn a_number_has_the_words_of_its_own_line() {
+        let said = |number| Refusal::new(number).map(|refusal| refusal.to_string());
+        assert_eq!(said(0), None);
+        assert_eq!(said(1).as_deref(), Some("refused 1: k not 1 to 6"));
+        assert_eq!(said(12).as_deref(), Some("refused 12: answer room under V rows"));
+        assert_eq!(said(2_000).as_deref(), Some("refused 2000: not in the table of refusals"));
+    }
+}

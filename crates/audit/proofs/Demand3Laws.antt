@@ -11,7 +11,7 @@ use lib.Ieee.{le, isNan}
 use Rattle.metrics.proofs.FloatOrder.{le-trans, le-total}
 use Rattle.paths.specs.Best.{Order}
 use Rattle.paths.specs.Search.{none}
-use Rattle.paths.specs.Demand.{Demand3 as Rule}
+use Rattle.paths.specs.Demand.{SearchDemand}
 use Rattle.paths.proofs.Demand.{count-counts, demand3}
 use Rattle.params.specs.Numbers.{Table, Parts, Call, firstFault}
 use Rattle.kplib.specs.Graph.{edge}
@@ -22,9 +22,9 @@ use Rattle.audit.specs.Demand3.{Demand3, Demand3Holds, resultIn}
 use Rattle.params.specs.declared.Settings.{Settings}
 use Rattle.kplib.specs.declared.traverse.Answer.{Answer}
 use Rattle.kplib.proofs.GraphLaws.{counts-chains}
-use Rattle.params.proofs.CheckLaws.{and-yes}
+use Rattle.paths.proofs.BooleanLaws.{and-both}
 use Rattle.kplib.proofs.RoundingLaws.{holds}
-use Rattle.kplib.proofs.AnswerLaws.{is-true, at-least-zero, score-number}
+use Rattle.kplib.proofs.ScoreFloorLaws.{is-true, at-least-zero, score-number}
 
 or-right : (a b : Bool) → a ≡ false → T (a || b) → b ≡ true
 or-right true b e h = let z : _≡_ {A = ℕ} 0 1 = cc in absurd (omega arith)
@@ -58,7 +58,7 @@ module _ (c : Call) where
   unfolding resultOf
   first = at-least-zero s t p (reverse [])
 
-  rule : Rule noLower startResult (resultOf s t p) (followsIn s t p) (length (t .starts)) (distanceIn s t p) (s .maxpaths + 1)
+  rule : SearchDemand noLower startResult (resultOf s t p) (followsIn s t p) (length (t .starts)) (distanceIn s t p) (s .maxpaths + 1)
   rule = demand3 Number noLower in-order startResult (resultOf s t p) number first (followsIn s t p) (length (t .starts)) (distanceIn s t p) (s .maxpaths + 1) (omega arith)
 
   score-of : (x : List ℕ) → resultOf s t p x .scored ≡ chainScore s t p (reverse x)
@@ -69,7 +69,7 @@ module _ (c : Call) where
     parts : (firstFault c ≡ 0) × (inSearchMode c ≡ true)
     unfolding searches
     parts =
-        let b = and-yes (eqb (firstFault c) 0) (inSearchMode c) mode in
+        let b = and-both (eqb (firstFault c) 0) (inSearchMode c) mode in
         (eqb-true (firstFault c) 0 (b .0), b .1)
 
     found-is : foundAfter (firstFault c) c ≡ searched s t p

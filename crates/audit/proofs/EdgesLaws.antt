@@ -9,8 +9,7 @@ use borrow.Author.Tests.{lt-ltb, le-ltb, le-leb, lt-leb, eq-eqb, ne-eqb, leb-tru
 use lib.Dec.{leb, ltb, eqb}
 use lib.ListN.{length, getD}
 use Rattle.paths.specs.Chains.{firstAfter, extends, isChain}
-use Rattle.paths.proofs.BestLaws.{clash}
-use Rattle.params.proofs.CheckLaws.{and-yes}
+use Rattle.paths.proofs.BooleanLaws.{clash, and-both}
 use Rattle.kplib.specs.Graph.{nodeOf, rowOf, edge, mayFollowIn, extendsIn, isChainIn}
 use Rattle.kplib.proofs.GraphLaws.{and-false}
 use Rattle.audit.specs.Edges.{source, sink, boundAt, nodesOverlap, graphEdge, isPathFrom, EdgesHold}
@@ -68,9 +67,9 @@ module _ (starts ends : List ℕ) where
   last-row : (full : Bool) (r : ℕ) (c : List ℕ) → isChainIn starts ends full (r ∷ c) ≡ true → (r < size) × (full ≡ true)
   unfolding isChain extends
   last-row full r c h =
-      let a = and-yes (isChainIn starts ends full c) (ltb r size && extendsIn starts ends full c r) h .1 in
-      let b = and-yes (ltb r size) (extendsIn starts ends full c r) a in
-      (ltb-true r size (b .0), full-of full c (and-yes (leb (firstAfter c) r) (mayFollowIn starts ends full c r) (b .1) .1))
+      let a = and-both (isChainIn starts ends full c) (ltb r size && extendsIn starts ends full c r) h .1 in
+      let b = and-both (ltb r size) (extendsIn starts ends full c r) a in
+      (ltb-true r size (b .0), full-of full c (and-both (leb (firstAfter c) r) (mayFollowIn starts ends full c r) (b .1) .1))
     where
       full-of : (full : Bool) (c : List ℕ) → mayFollowIn starts ends full c r ≡ true → full ≡ true
       full-of true c e = refl
@@ -134,10 +133,10 @@ module _ (starts ends : List ℕ) where
   -- every node of a path that ends at the sink is a row's
   only-rows : (full : Bool) (a : ℕ) (nodes : List ℕ) → isPathFrom (graphEdge starts ends full) a (nodes ++ (sink starts ∷ [])) ≡ true → map nodeOf (map rowOf nodes) ≡ nodes
   only-rows full a [] h = refl
-  only-rows full a (zero ∷ nodes) h = absurd (clash (graphEdge starts ends full a 0) (none-back full a) (and-yes (graphEdge starts ends full a 0) _ h .0))
+  only-rows full a (zero ∷ nodes) h = absurd (clash (graphEdge starts ends full a 0) (none-back full a) (and-both (graphEdge starts ends full a 0) _ h .0))
   only-rows full a (suc b ∷ nodes) h =
       let z : suc b - 1 + 1 ≡ suc b = omega arith in
-      rw (z, only-rows full (suc b) nodes (and-yes (graphEdge starts ends full a (suc b)) _ h .1))
+      rw (z, only-rows full (suc b) nodes (and-both (graphEdge starts ends full a (suc b)) _ h .1))
 
 pub edges : EdgesHold
 unfolding isChain

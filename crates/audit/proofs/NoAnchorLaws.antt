@@ -10,7 +10,7 @@ use Rattle.params.specs.Checked.{Checked}
 use Rattle.params.proofs.CheckedLaws.{accepted}
 use Rattle.kplib.specs.OneToOne.{anchorTotal, nodeTotal}
 use Rattle.kplib.specs.Scoring.{Tables}
-use Rattle.kplib.proofs.OneToOneLaws.{anchor-low, rows-only}
+use Rattle.kplib.proofs.OneToOneLaws.{tables-of, anchor-low, rows-only}
 use Rattle.audit.specs.NoAnchor.{NoAnchor, NoAnchorChosen}
 use Rattle.params.specs.declared.Settings.{Settings}
 
@@ -28,7 +28,7 @@ module _ (c : Call) (zeroFault : firstFault c ≡ 0) where
   checked = accepted c zeroFault
 
   tables : Tables s t p
-  tables = record { minkfreq = checked .minkfreq; sized = checked .sized; rows = checked .rows; part-sized = checked .part-sized; part-rows = checked .part-rows }
+  tables = tables-of (t .starts) (t .ends) checked
 
   source-is : nodeTotal (4 ^ s .k) (t .sizes) (t .features) 0 ≡ anchorTotal (4 ^ s .k)
   unfolding nodeTotal

@@ -226,7 +226,12 @@ one-more true len n lengths = go (leb len n) refl (eqb len (suc n)) refl
     go : (t : Bool) → leb len n ≡ t → (u : Bool) → eqb len (suc n) ≡ u → bit (eqb len (suc n)) + bit (leb len n && ltb n (len + lengths)) ≡ bit (leb len (suc n) && ltb (suc n) (len + suc lengths))
     go true e u f =
         let k = leb-true len n e in
-        rw (e, ne-eqb len (suc n) (λ q. omega (arith, k)), le-leb len (suc n) (omega (arith, k)), same-leb (suc n) (len + lengths) (suc (suc n)) (len + suc lengths) (λ h. omega arith) (λ h. omega arith))
+        rw (
+          e,
+          ne-eqb len (suc n) (λ q. omega (arith, k)),
+          le-leb len (suc n) (omega (arith, k)),
+          same-leb (suc n) (len + lengths) (suc (suc n)) (len + suc lengths) (λ h. omega arith) (λ h. omega arith),
+        )
         (omega arith)
     go false e true f = let k = eqb-true len (suc n) f in rw (e, f, le-leb len (suc n) (omega (arith, k)), lt-ltb (suc n) (len + suc lengths) (omega (arith, k)))
     go false e false f = let k = leb-false len n e in let l = eqb-false len (suc n) f in rw (e, f, lt-leb len (suc n) (omega (arith, k, l)))
@@ -239,7 +244,13 @@ falling-listed m (suc lengths) (suc n) h x =
     let z : suc n - 1 ≡ n = omega arith in
     let e : 0 + m ≡ m = omega arith in
     let first : timesIn x (choices m 0 (suc n)) ≡ bit (ascending 0 m x && eqb (length x) (suc n)) = rw e at (chosen m 0 (suc n) x) in
-    rw z (omega (arith, sum-append (λ l. bit (sameRows x l)) (choices m 0 (suc n)) (fallingLists m lengths n), first, falling-listed m lengths n (le-of-suc-le-suc h) x, one-more (ascending 0 m x) (length x) n lengths))
+    rw z (omega (
+      arith,
+      sum-append (λ l. bit (sameRows x l)) (choices m 0 (suc n)) (fallingLists m lengths n),
+      first,
+      falling-listed m lengths n (le-of-suc-le-suc h) x,
+      one-more (ascending 0 m x) (length x) n lengths,
+    ))
 
 listed : (m fnmax pileupmax : ℕ) → m < pileupmax → (x : List ℕ)
     → StandsWhen x (partLists m fnmax pileupmax) (ascending 0 m x && (leb (length x) m && leb (max 1 (m - fnmax)) (length x)))

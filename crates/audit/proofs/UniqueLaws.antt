@@ -50,6 +50,7 @@ unique = record {
   bits-of = λ x. one;
   overlaps = λ s1 e1 s2 e2. one;
   seq-to-kmer = λ seq k negative out. through (λ r. rowAfter r (countsOf k negative seq) out);
+  clear-row = λ row. one;
   entries = λ k. one;
   magnitude = λ x. one;
   row-over = λ a limit. one;
@@ -67,8 +68,9 @@ unique = record {
   put-u8 = λ out at x. one;
   put-u32 = λ out at x. one;
   put-u64 = λ out at x. one;
-  body-len = λ k. one;
-  count-of = λ k b. one;
+  kind-of = λ byte. one;
+  body-len = λ kind. one;
+  record-at = λ s at. one;
   read-settings = λ b. one;
   write-settings = λ out at s. one;
   scan = λ bytes. one;
@@ -81,7 +83,6 @@ unique = record {
   nd-seqsim = λ a b minkfreq place. two;
   nd-sizesim = λ a b place. two;
   nd-count-chains = λ starts ends full cap count. two;
-  nd-apply-haplotype =
-      λ k squish oneToOne full maxpaths maxnodes fnmax pileupmax minkfreq sizesim seqsim fpenalty gpenalty starts ends sizes features partSizes partFeatures links keys rows report x y p q.
-      agree x y (both (x .says) p) (both (y .says) q);
+  nd-answer = λ job text. two;
+  nd-apply-haplotype = λ settings starts ends sizes features partSizes partFeatures links keys rows report x y p q. agree x y (both (x .says) p) (both (y .says) q);
 }

@@ -16,7 +16,7 @@ use Rattle.kplib.specs.Search.{distanceTo, resultOf}
 use Rattle.kplib.specs.Answer.{searched, answerOf, rowsOf}
 use Rattle.fields.specs.Fields.{le2, le4, le8, signedOf, wordOf, bytes2, bytes4, bytes8}
 use Rattle.form.specs.Settings40.{settingsIn, numberBytes, floatBytes, settingsBytes}
-use Rattle.form.specs.Form.{bodyLen, inPlace, flagsOk, countOf, padOk, faultOf, after as afterRecord, run}
+use Rattle.form.specs.Form.{kindOf, bodyLen, inPlace, flagsOk, countOf, padOk, faultOf, after as afterRecord, run}
 use Rattle.form.specs.Job.{lettersIn, lettersAfter, variantOf, partOf, variantHere, partHere, gather, jobOf, readJob}
 use Rattle.form.specs.Job.{padded, lettersRecords, sequenceBytes, partBody, variantBody, variantBytes, partBytes, variantsBytes, partsBytes, jobBytes}
 use Rattle.text.specs.Text.{bytesOf, digitsWithin, hexDigit, hex2, hex4, hex8, numberLine, floatLine, flagLine, rowText, rowsText, rowsLine, isWhole, similarityLines, reachLines, sevenLines, answerText}
@@ -27,7 +27,7 @@ pub worked : Worked
 unfolding answerOf rowsOf searched firstFault badK badFloat badNumber anyBelow startAfterEnd fallingStart badSize badRow littleQueueRoom magnitudeSum best resultOf scored left after pick
     extensions extends edge overlapsOf distanceTo sizeOf sizeFrom positionsFrom chainScore totalScore afterLists afterList listScore greaterOf partLists fallingLists choices featuresOf
     featuresFrom rowPlus zeros sumBy codeOf numberOf windowsOf timesIn tableFrom countsOf le2 le4 le8 signedOf wordOf bytes2 bytes4 bytes8 settingsIn numberBytes floatBytes
-    settingsBytes bodyLen inPlace flagsOk countOf padOk faultOf afterRecord run lettersIn lettersAfter variantOf partOf variantHere partHere gather jobOf readJob padded lettersRecords
+    settingsBytes kindOf bodyLen inPlace flagsOk countOf padOk faultOf afterRecord run lettersIn lettersAfter variantOf partOf variantHere partHere gather jobOf readJob padded lettersRecords
     sequenceBytes partBody variantBody variantBytes partBytes variantsBytes partsBytes jobBytes bytesOf digitsWithin hexDigit hex2 hex4 hex8 numberLine floatLine flagLine rowText
     rowsText rowsLine isWhole similarityLines reachLines sevenLines variantFeatures partFeatures tableOfJob partsOfJob answerText tooLarge jobText readText deskText le lt eq ofBits
     ofInt div add sub mul toBits

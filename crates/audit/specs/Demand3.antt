@@ -8,7 +8,7 @@ use lib.ListN.{length}
 use lib.Ieee.{le}
 use Rattle.paths.specs.Sums.{timesIn}
 use Rattle.paths.specs.Best.{Latest}
-use Rattle.paths.specs.Demand.{Lists, Counted}
+use Rattle.paths.specs.Demand.{Lists, NumberOfChains}
 use Rattle.params.specs.Numbers.{Table, Parts, Call}
 use Rattle.kplib.specs.Graph.{isChainIn, chainsOf}
 use Rattle.kplib.specs.Score.{chainScore}
@@ -39,7 +39,7 @@ module _ (c : Call) where
     -- the count reported is their number
     pub counted : answerOf c .scored ≡ length (scoredIn s t p)
     -- N is the number of chains: some list of N members holds each chain of the graph once and nothing else, and every list that does has N
-    pub n-counts : Counted (followsIn s t p) (length (t .starts)) (chainsOf (t .starts) (t .ends) (s .full))
+    pub n-counts : NumberOfChains (followsIn s t p) (length (t .starts)) (chainsOf (t .starts) (t .ends) (s .full))
     -- the count reported is the smaller of N and maxpaths + 1
     pub as-many : answerOf c .scored ≡ min (chainsOf (t .starts) (t .ends) (s .full)) (s .maxpaths + 1)
     -- complete is yes exactly when N is at most maxpaths + 1

@@ -9,25 +9,27 @@ use lib.IntN.{ℤ}
 use lib.Ieee.{Float}
 use Rattle.metrics.specs.declared.Sim.{Sim}
 use Rattle.metrics.specs.declared.kmer.Counted.{Counted}
-use Rattle.metrics.specs.Promises.{SizesimPromise, SeqsimPromise, OverlapsPromise, SeqToKmerPromise, EntriesPromise, MagnitudePromise, RowOverPromise, BitsOfPromise}
+use Rattle.metrics.specs.Promises.{SizesimPromise, SeqsimPromise, OverlapsPromise, SeqToKmerPromise, ClearRowPromise, EntriesPromise, MagnitudePromise, RowOverPromise, BitsOfPromise}
 use Rattle.params.specs.declared.Settings.{Settings}
 use Rattle.params.specs.Promises.{SearchModePromise, CallFaultPromise, CountFaultPromise}
 use Rattle.kplib.specs.Answer.{searches}
 use Rattle.kplib.specs.declared.vargraph.ChainCount.{ChainCount}
 use Rattle.kplib.specs.declared.traverse.Answer.{Answer}
 use Rattle.kplib.specs.Promises.{callLent, CountChainsPromise, ApplyHaplotypePromise}
+use Rattle.form.specs.declared.records.Kind.{Kind}
+use Rattle.form.specs.declared.records.Record.{Record}
 use Rattle.form.specs.declared.records.Scan.{Scan}
 use Rattle.reader.specs.declared.Reading.{Reading}
 use Rattle.writer.specs.declared.Writing.{Writing}
 use Rattle.form.specs.Lent.{Lent}
 use Rattle.fields.specs.Promises.{U8AtPromise, U32AtPromise, U64AtPromise, I32OfPromise, U32OfPromise, FloatOfPromise, PutU8Promise, PutU32Promise, PutU64Promise}
-use Rattle.form.specs.Promises.{ScanPromise, BodyLenPromise, CountOfPromise, ReadSettingsPromise, WriteSettingsPromise}
+use Rattle.form.specs.Promises.{ScanPromise, KindOfPromise, BodyLenPromise, RecordAtPromise, ReadSettingsPromise, WriteSettingsPromise}
 use Rattle.reader.specs.Promises.{ReadJobPromise}
 use Rattle.writer.specs.Promises.{WriteJobPromise}
 use Rattle.text.specs.Promises.{PutRefusedPromise, PutAnswerPromise}
 use Rattle.desk.specs.Promises.{AnswerPromise}
-use Rattle.capi.specs.Report.{settingsOf}
-use Rattle.capi.specs.Promises.{NdSeqToKmerPromise, NdSeqsimPromise, NdSizesimPromise, NdCountChainsPromise, NdApplyHaplotypePromise}
+use Rattle.capi.specs.Words.{settingsOfWords}
+use Rattle.capi.specs.Promises.{NdSeqToKmerPromise, NdSeqsimPromise, NdSizesimPromise, NdCountChainsPromise, NdAnswerPromise, NdApplyHaplotypePromise}
 
 -- at most one result meets a promise of a value, and at most one pair a promise of what a slice holds at exit and a value
 abbrev pub One : (A : Type 0) → (A → Type 0) → Type 0
@@ -61,6 +63,7 @@ pub record Unique : Type 0 where
   pub bits-of : (x : Float) → One ℕ (BitsOfPromise x)
   pub overlaps : (s1 e1 s2 e2 : ℕ) → One Bool (OverlapsPromise s1 e1 s2 e2)
   pub seq-to-kmer : (seq : List ℕ) (k : ℕ) (negative : Bool) (out : List ℤ) → Two (List ℤ) Counted (SeqToKmerPromise seq k negative out)
+  pub clear-row : (row : List ℤ) → One (List ℤ) (ClearRowPromise row)
   pub entries : (k : ℕ) → One ℕ (EntriesPromise k)
   pub magnitude : (x : ℤ) → One ℕ (MagnitudePromise x)
   pub row-over : (a : List ℤ) (limit : ℕ) → One Bool (RowOverPromise a limit)
@@ -81,8 +84,9 @@ pub record Unique : Type 0 where
   pub put-u8 : (out : List ℕ) (at x : ℕ) → One (List ℕ) (PutU8Promise out at x)
   pub put-u32 : (out : List ℕ) (at x : ℕ) → One (List ℕ) (PutU32Promise out at x)
   pub put-u64 : (out : List ℕ) (at x : ℕ) → One (List ℕ) (PutU64Promise out at x)
-  pub body-len : (k : ℕ) → One ℕ (BodyLenPromise k)
-  pub count-of : (k : ℕ) (b : List ℕ) → One ℕ (CountOfPromise k b)
+  pub kind-of : (byte : ℕ) → One Kind (KindOfPromise byte)
+  pub body-len : (kind : Kind) → One ℕ (BodyLenPromise kind)
+  pub record-at : (s : List ℕ) (at : ℕ) → One Record (RecordAtPromise s at)
   pub read-settings : (b : List ℕ) → One Settings (ReadSettingsPromise b)
   pub write-settings : (out : List ℕ) (at : ℕ) (s : Settings) → One (List ℕ) (WriteSettingsPromise out at s)
   pub scan : (bytes : List ℕ) → One Scan (ScanPromise bytes)
@@ -96,11 +100,8 @@ pub record Unique : Type 0 where
   pub nd-seqsim : (a b : List ℤ) (minkfreq : ℕ) (place : Float) → Two Float ℕ (NdSeqsimPromise a b minkfreq place)
   pub nd-sizesim : (a b : ℕ) (place : Float) → Two Float ℕ (NdSizesimPromise a b place)
   pub nd-count-chains : (starts ends : List ℕ) (full : Bool) (cap count : ℕ) → Two ℕ ℕ (NdCountChainsPromise starts ends full cap count)
-  pub nd-apply-haplotype : (k : ℕ) (squish oneToOne full : Bool) (maxpaths maxnodes fnmax pileupmax minkfreq : ℕ) (sizesim seqsim fpenalty gpenalty : Float)
-      (starts ends : List ℕ) (sizes features partSizes partFeatures : List ℤ) (links keys rows report : List ℕ)
-      → Agree (List ℕ × ℕ)
-      (searches (callLent (settingsOf k squish oneToOne full maxpaths maxnodes fnmax pileupmax minkfreq sizesim seqsim fpenalty gpenalty)
-      starts ends sizes features partSizes partFeatures links keys rows))
-      (λ x. NdApplyHaplotypePromise k squish oneToOne full maxpaths maxnodes fnmax pileupmax minkfreq sizesim seqsim fpenalty gpenalty
-      starts ends sizes features partSizes partFeatures links keys rows report
+  pub nd-answer : (job text : List ℕ) → Two (List ℕ) ℕ (NdAnswerPromise job text)
+  pub nd-apply-haplotype : (settings starts ends : List ℕ) (sizes features partSizes partFeatures : List ℤ) (links keys rows report : List ℕ)
+      → Agree (List ℕ × ℕ) (searches (callLent (settingsOfWords settings) starts ends sizes features partSizes partFeatures links keys rows))
+      (λ x. NdApplyHaplotypePromise settings starts ends sizes features partSizes partFeatures links keys rows report
       (x .links) (x .keys) (x .rows) (x .says .0) (x .says .1))

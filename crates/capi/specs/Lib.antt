@@ -1,2 +1,4 @@
+pub mod Words
+pub mod Held
 pub mod Report
 pub mod Promises

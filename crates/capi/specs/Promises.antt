@@ -6,12 +6,16 @@ use mathlib.Core.Bool.{Bool}
 use mathlib.Core.List.{List}
 use lib.IntN.{ℤ}
 use lib.Ieee.{Float}
+use lib.ListN.{length}
 use Rattle.metrics.specs.Letters.{countsOf, counterAnswer, countedNumber, rowAfter}
+use Rattle.metrics.specs.Placed.{placed}
 use Rattle.metrics.specs.Similarity.{sizesimOf, seqsimOf, number, value}
 use Rattle.kplib.specs.Graph.{cappedCount, countNumber, countValue}
-use Rattle.kplib.specs.Answer.{answerOf, rowsOf, placed}
+use Rattle.kplib.specs.Answer.{answerOf, rowsOf}
 use Rattle.kplib.specs.Promises.{callLent, QueueKept}
-use Rattle.capi.specs.Report.{settingsOf, reportOf}
+use Rattle.desk.specs.Desk.{deskText}
+use Rattle.capi.specs.Words.{settingsOfWords}
+use Rattle.capi.specs.Report.{reportOf}
 
 abbrev pub NdSeqToKmerPromise : List ℕ → ℕ → Bool → List ℤ → List ℤ → ℕ → Type 0
 NdSeqToKmerPromise letters k negative row row' r =
@@ -27,14 +31,13 @@ abbrev pub NdCountChainsPromise : List ℕ → List ℕ → Bool → ℕ → ℕ
 NdCountChainsPromise starts ends full cap count count' r =
     (r ≡ countNumber (cappedCount starts ends full cap)) × (count' ≡ countValue (cappedCount starts ends full cap))
 
-abbrev pub NdApplyHaplotypePromise : ℕ → Bool → Bool → Bool → ℕ → ℕ → ℕ → ℕ → ℕ → Float → Float → Float → Float
-    → List ℕ → List ℕ → List ℤ → List ℤ → List ℤ → List ℤ → List ℕ → List ℕ → List ℕ → List ℕ
+abbrev pub NdAnswerPromise : List ℕ → List ℕ → List ℕ → ℕ → Type 0
+NdAnswerPromise job text text' r = (r ≡ length (deskText job)) × (text' ≡ placed text (deskText job))
+
+abbrev pub NdApplyHaplotypePromise : List ℕ → List ℕ → List ℕ → List ℤ → List ℤ → List ℤ → List ℤ → List ℕ → List ℕ → List ℕ → List ℕ
     → List ℕ → List ℕ → List ℕ → List ℕ → ℕ → Type 0
-NdApplyHaplotypePromise k squish oneToOne full maxpaths maxnodes fnmax pileupmax minkfreq sizesim seqsim fpenalty gpenalty
-    starts ends sizes features partSizes partFeatures links keys rows report
-    links' keys' rows' report' r =
-    let s = settingsOf k squish oneToOne full maxpaths maxnodes fnmax pileupmax minkfreq sizesim seqsim fpenalty gpenalty in
-    let c = callLent s starts ends sizes features partSizes partFeatures links keys rows in
+NdApplyHaplotypePromise settings starts ends sizes features partSizes partFeatures links keys rows report links' keys' rows' report' r =
+    let c = callLent (settingsOfWords settings) starts ends sizes features partSizes partFeatures links keys rows in
     (r ≡ answerOf c .refusal)
     × ((report' ≡ reportOf (answerOf c))
     × ((rows' ≡ placed rows (rowsOf c))

@@ -1,30 +1,11 @@
--- A search called with plain numbers, and its answer as seven of them.
+-- The answer of a search as seven words.
 use Prim.Native.Nat.{ℕ, _+_}
 use mathlib.Core.Bool.{Bool, true, false}
 use mathlib.Core.List.{List, [], _∷_}
-use lib.Ieee.{Float, binary32, toBits}
-use Rattle.params.specs.declared.Settings.{Settings}
+use lib.Ieee.{binary32, toBits}
 use Rattle.kplib.specs.declared.pathscore.Target.{Target}
 use Rattle.kplib.specs.declared.pathscore.Target.the-variants.{Nothing, Whole, Partial}
 use Rattle.kplib.specs.declared.traverse.Answer.{Answer}
-
--- the settings in the order of the call's arguments
-abbrev pub settingsOf : ℕ → Bool → Bool → Bool → ℕ → ℕ → ℕ → ℕ → ℕ → Float → Float → Float → Float → Settings
-settingsOf k squish oneToOne full maxpaths maxnodes fnmax pileupmax minkfreq sizesim seqsim fpenalty gpenalty = record {
-  k = k;
-  squish = squish;
-  «one_to_one» = oneToOne;
-  full = full;
-  maxpaths = maxpaths;
-  maxnodes = maxnodes;
-  fnmax = fnmax;
-  pileupmax = pileupmax;
-  minkfreq = minkfreq;
-  sizesim = sizesim;
-  seqsim = seqsim;
-  fpenalty = fpenalty;
-  gpenalty = gpenalty;
-}
 
 -- 0 no part list, 1 the whole haplotype, 1 more for each part left out
 abbrev pub targetNumber : Target → ℕ

@@ -1,13 +1,15 @@
 // What Rust and C link: the library's calls on numbers and slices. Each gives back the refusal's number, 0 for an accepted call.
-ghost use Rattle.capi.specs.Promises.{NdSeqToKmerPromise, NdSeqsimPromise, NdSizesimPromise, NdCountChainsPromise, NdApplyHaplotypePromise};
+ghost use Rattle.capi.specs.Promises.{NdSeqToKmerPromise, NdSeqsimPromise, NdSizesimPromise, NdCountChainsPromise, NdAnswerPromise, NdApplyHaplotypePromise};
 use crate::report::put_report;
+use crate::words::length_word;
+use crate::words::settings_of_words;
 use kplib::vargraph::ChainCount;
 use metrics::Sim;
 use metrics::kmer::Counted;
 use metrics::refusals::ACCEPTED;
-use params::Settings;
 
 mod report;
+mod words;
 
 #[no_mangle]
 pub extern "C" fn nd_seq_to_kmer(letters: &[u8], k: u8, negative: bool, row: &mut [i32]) -> u32
@@ -77,22 +79,19 @@ pub extern "C" fn nd_count_chains(
     }
 }
 
-// The settings are the first thirteen numbers; the queue's content is open after a search, and only then.
+// The program's answer to a job's bytes, at the front of `text`. Returns how long it is.
+#[no_mangle]
+pub extern "C" fn nd_answer(job: &[u8], text: &mut [u8; 8192]) -> u32
+    ensures { λ r. ⌜ NdAnswerPromise (now (job .entry)) (now (text .entry)) (now (text .exit)) r ⌝ }
+{
+    let n = desk::answer(job, text);
+    length_word(n, text)
+}
+
+// The queue's content is open after a search, and only then.
 #[no_mangle]
 pub extern "C" fn nd_apply_haplotype(
-    k: u8,
-    squish: bool,
-    one_to_one: bool,
-    full: bool,
-    maxpaths: u32,
-    maxnodes: u32,
-    fnmax: u32,
-    pileupmax: u32,
-    minkfreq: u32,
-    sizesim: f32,
-    seqsim: f32,
-    fpenalty: f32,
-    gpenalty: f32,
+    settings: &[u32; 13],
     starts: &[u64],
     ends: &[u64],
     sizes: &[i32],
@@ -104,25 +103,11 @@ pub extern "C" fn nd_apply_haplotype(
     rows: &mut [u32],
     report: &mut [u32; 7],
 ) -> u32
-    ensures { λ r. ⌜ NdApplyHaplotypePromise k squish «one_to_one» full maxpaths maxnodes fnmax pileupmax minkfreq sizesim seqsim fpenalty gpenalty (now (starts .entry))
-        (now (ends .entry)) (now (sizes .entry)) (now (features .entry)) (now («part_sizes» .entry)) (now («part_features» .entry)) (now (links .entry))
-        (now (keys .entry)) (now (rows .entry)) (now (report .entry)) (now (links .exit)) (now (keys .exit)) (now (rows .exit)) (now (report .exit)) r ⌝ }
+    ensures { λ r. ⌜ NdApplyHaplotypePromise (now (settings .entry)) (now (starts .entry)) (now (ends .entry)) (now (sizes .entry)) (now (features .entry))
+        (now («part_sizes» .entry)) (now («part_features» .entry)) (now (links .entry)) (now (keys .entry)) (now (rows .entry)) (now (report .entry))
+        (now (links .exit)) (now (keys .exit)) (now (rows .exit)) (now (report .exit)) r ⌝ }
 {
-    let s = Settings {
-        k,
-        squish,
-        one_to_one,
-        full,
-        maxpaths,
-        maxnodes,
-        fnmax,
-        pileupmax,
-        minkfreq,
-        sizesim,
-        seqsim,
-        fpenalty,
-        gpenalty,
-    };
+    let s = settings_of_words(settings);
     let answer = kplib::traverse::apply_haplotype(
         s,
         starts,

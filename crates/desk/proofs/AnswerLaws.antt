@@ -8,7 +8,8 @@ use lib.Seq.{take-at}
 use Rattle.params.specs.declared.Settings.{Settings}
 use Rattle.kplib.specs.declared.traverse.Answer.{Answer}
 use Rattle.params.specs.Numbers.{Table, Parts, Call, callOf, badK, firstFault}
-use Rattle.kplib.specs.Answer.{answerOf, rowsOf, placed, queueRoom}
+use Rattle.kplib.specs.Answer.{answerOf, rowsOf, queueRoom}
+use Rattle.metrics.specs.Placed.{placed}
 use Rattle.text.specs.Text.{answerText}
 use Rattle.text.specs.Written.{Written}
 use Rattle.text.proofs.TextLaws.{answer-short}
@@ -21,7 +22,6 @@ refused-k-zero c e = rw e
 
 -- rows that were placed in a buffer, which kept its length, are no more than it has
 placed-few : (old rows new : List ℕ) → new ≡ placed old rows → length new ≡ length old → length rows ≤ length old
-unfolding placed
 placed-few old rows new e l =
     let a : length new ≡ length (rows ++ drop (length rows) old) = ap length e in
     let b = length-append rows (drop (length rows) old) in
@@ -43,7 +43,6 @@ module _ (s : Settings) (t : Table) (p : Parts) (links keys old : List ℕ) wher
     rows-are = ap (λ (x : Answer). x .rows) is
 
     rows-taken : take (a .rows) new ≡ rowsOf call
-    unfolding placed
     rows-taken = rw stands (take-at (rowsOf call) (drop (length (rowsOf call)) old) (a .rows) (sym rows-are))
 
     answer-text : answerText a (take (a .rows) new) ≡ searchText s t p

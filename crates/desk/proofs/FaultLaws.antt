@@ -9,7 +9,8 @@ use lib.ListN.{length}
 use Rattle.form.specs.declared.records.State.{State}
 use Rattle.form.specs.declared.records.Scan.{Scan}
 use Rattle.form.specs.declared.records.Scan.the-variants.{Good, Refused}
-use Rattle.form.specs.Form.{bodyLen, inPlace, flagsOk, countOf, padOk, faultOf, after, outset, counted, judge, run}
+use Rattle.form.specs.declared.records.Kind.{Kind}
+use Rattle.form.specs.Form.{kindOf, isEnd, isUnknown, bodyLen, inPlace, flagsOk, countOf, padOk, faultOf, after, outset, counted, judge, run}
 use Rattle.form.specs.Job.{Job, Read, Faulty, Held, readOf, jobOf, readJob}
 
 abbrev Low : Scan → Type 0
@@ -24,19 +25,19 @@ either : (t : Bool) {a b : ℕ} → a < 30 → b < 30 → cond t a b < 30
 either true p q = p
 either false p q = q
 
-fault-low : (st : State) (k : ℕ) (b : List ℕ) → faultOf st k b < 30
+fault-low : (st : State) (kind : Kind) (b : List ℕ) → faultOf st kind b < 30
 unfolding faultOf
-fault-low st k b =
-    either (ltb 4 k) (omega arith)
-    (either (ltb (length b) (bodyLen k)) (omega arith)
-    (either (not (inPlace st k)) (omega arith)
-    (either (not (flagsOk k b)) (omega arith)
-    (either (ltb 131072 (countOf k b)) (omega arith)
-    (either (not (padOk st k b)) (omega arith)
-    (either (eqb k 0 && ltb 0 (length b)) (omega arith) (omega arith)))))))
+fault-low st kind b =
+    either (isUnknown kind) (omega arith)
+    (either (ltb (length b) (bodyLen kind)) (omega arith)
+    (either (not (inPlace st kind)) (omega arith)
+    (either (not (flagsOk kind b)) (omega arith)
+    (either (ltb 131072 (countOf kind b)) (omega arith)
+    (either (not (padOk st kind b)) (omega arith)
+    (either (isEnd kind && ltb 0 (length b)) (omega arith) (omega arith)))))))
 
-judge-low : (f k : ℕ) (st : State) (rest : Scan) → f < 30 → Low rest → Low (judge f k st rest)
-judge-low f k st rest h low = go (eqb f 0) (eqb k 0)
+judge-low : (f : ℕ) (kind : Kind) (st : State) (rest : Scan) → f < 30 → Low rest → Low (judge f kind st rest)
+judge-low f kind st rest h low = go (eqb f 0) (isEnd kind)
   where
     go : (none last : Bool) → Low (cond none (cond last (Good (counted st)) rest) (Refused f))
     go true true = tt
@@ -47,7 +48,7 @@ run-low : (s : List ℕ) (n : ℕ) (st : State) → Low (run s n st)
 unfolding run
 run-low [] n st = omega arith
 run-low (k ∷ b) (suc n) st = run-low b n st
-run-low (k ∷ b) zero st = judge-low (faultOf st k b) k st (run b (bodyLen k) (after st k b)) (fault-low st k b) (run-low b (bodyLen k) (after st k b))
+run-low (k ∷ b) zero st = judge-low (faultOf st (kindOf k) b) (kindOf k) st (run b (bodyLen (kindOf k)) (after st (kindOf k) b)) (fault-low st (kindOf k) b) (run-low b (bodyLen (kindOf k)) (after st (kindOf k) b))
 
 read-low : (found : Scan) (job : Job) → Low found → LowRead (readOf found job)
 read-low (Refused n) job h = h

@@ -10,7 +10,8 @@ use lib.ListN.{length, take, drop, replicate, length-append, length-map, length-
 use lib.Seq.{take-at}
 use borrow.Author.Tests.{ltb-false, leb-true, le-leb, ne-eqb}
 use Rattle.params.specs.declared.Settings.{Settings}
-use Rattle.params.proofs.CheckLaws.{and-yes, or-no}
+use Rattle.paths.proofs.BooleanLaws.{and-both}
+use Rattle.params.proofs.CheckLaws.{or-no}
 use Rattle.form.specs.declared.records.Counts.{Counts}
 use Rattle.reader.specs.declared.Reading.{Reading}
 use Rattle.reader.specs.declared.Reading.the-variants.{Refused as Declined, Job as Given}
@@ -95,9 +96,9 @@ module _ (input : List ℕ) (short : length input ≤ 32768) (t : Lent) (room : 
     few-of : hasRoom (jobCounts job) t ≡ true → (length (job .variants) ≤ 16) × (length (job .parts) ≤ 8)
     unfolding five three jobCounts
     few-of h =
-        let a = and-yes _ _ h in
-        let v : length (job .variants) ≤ length (t .starts) = leb-true _ _ (and-yes _ _ (a .0) .0) in
-        let p : length (job .parts) ≤ length (t .partSizes) = leb-true _ _ (and-yes _ _ (and-yes _ _ (a .1) .0) .0) in
+        let a = and-both _ _ h in
+        let v : length (job .variants) ≤ length (t .starts) = leb-true _ _ (and-both _ _ (a .0) .0) in
+        let p : length (job .parts) ≤ length (t .partSizes) = leb-true _ _ (and-both _ _ (and-both _ _ (a .1) .0) .0) in
         let s : length (t .starts) ≡ 16 = room .starts in
         let q : length (t .partSizes) ≡ 8 = room .partSizes in
         (omega arith, omega arith)

@@ -2,8 +2,8 @@
 use crate::features::count_rows;
 use crate::room::key_room;
 use crate::room::letter_room;
+use crate::room::link_room;
 use crate::room::part_table;
-use crate::room::queue_room;
 use crate::room::variant_table;
 use kplib::traverse::apply_haplotype;
 use metrics::kmer::entries;
@@ -38,7 +38,7 @@ fn search(
         (tableOf (now (starts .entry)) (now (ends .entry)) (now (sizes .entry)) (now (features .entry)))
         (partsOf (now («part_sizes» .entry)) (now («part_features» .entry)))) (now (out .exit)) r ⌝ }
 {
-    let mut links = queue_room();
+    let mut links = link_room();
     let mut keys = key_room();
     let mut rows = [0u32; 16];
     let a = apply_haplotype(

@@ -24,7 +24,7 @@ pub(crate) fn letter_room() -> [u8; 32768]
 }
 
 // The queue: 1 + (63 + 1) × 16 entries.
-pub(crate) fn queue_room() -> [u32; 1025]
+pub(crate) fn link_room() -> [u32; 1025]
     ensures { λ r. ⌜ 1025 ≡ length r ⌝ }
 {
     [0u32; 1025]

@@ -16,7 +16,10 @@ use lib.Seq.{take-all, drop-drop}
 use lib.ListN.{drop-of-length-le}
 use Rattle.form.specs.declared.records.Scan.{Scan}
 use Rattle.form.specs.declared.records.Scan.the-variants.{Good, Refused}
-use Rattle.form.specs.Form.{settingsLen, variantLen, partLen, lettersLen, shape, shapeOf, bodyLen, inPlace, areFlags, flagsOk, countOf, padOk, allZero, faultOf, after, run, judge, counted}
+use Rattle.form.specs.declared.records.Kind.{Kind}
+use Rattle.form.specs.declared.records.Kind.the-variants.{End, Settings, Variant, Part, Letters, Unknown}
+use Rattle.form.specs.declared.records.Record.{Record}
+use Rattle.form.specs.Form.{kindOf, isEnd, isVariant, isPart, isLetters, isUnknown, shapeOf, bodyLen, inPlace, areFlags, flagsOk, countOf, recordOf, recordAt, padOk, allZero, faultOf, after, run, judge, counted}
 use Rattle.form.specs.Steps.{Next}
 use Rattle.fields.specs.Fields.{le4}
 use Rattle.form.specs.declared.records.Shape.{Shape}
@@ -33,74 +36,87 @@ pub split : (t : Bool) → (t ≡ true) ⊎ (t ≡ false)
 split true = inl refl
 split false = inr refl
 
--- ---- the place of a record
-module _ (st : State) (k : ℕ) where
-  pub place-letters : 0 < st .left → eqb k 4 ≡ inPlace st k
-  unfolding inPlace
-  place-letters h = simp (lt-ltb _ _ h)
+pub mixed : {A : Type 0} → true ≡ false → A
+mixed e = let z : _≡_ {A = ℕ} 0 1 = cc in let w : ⊥ = omega arith in absurd w
 
-  pub place-first : st .left ≤ 0 → st .phase ≡ 0 → eqb k 1 ≡ inPlace st k
-  unfolding inPlace
-  place-first h p = simp (le-ltb _ _ h, eq-eqb _ _ p)
+-- ---- the kind of a byte
+pub kind-rest : (k : ℕ) → (k ≡ 0 → ⊥) → (k ≡ 1 → ⊥) → (k ≡ 2 → ⊥) → (k ≡ 3 → ⊥) → (k ≡ 4 → ⊥) → Unknown ≡ kindOf k
+unfolding kindOf
+kind-rest k o p q r t = sym (rw (ne-eqb k 0 o, ne-eqb k 1 p, ne-eqb k 2 q, ne-eqb k 3 r, ne-eqb k 4 t))
 
-  pub place-variant : st .left ≤ 0 → (st .phase ≡ 0 → ⊥) → k ≡ 2 → eqb (st .phase) 1 ≡ inPlace st k
-  unfolding inPlace
-  place-variant h p q = simp (le-ltb _ _ h, ne-eqb _ _ p, eq-eqb _ _ q)
+-- ---- the place of a record: none but letters while letters are owed
+pub none-owed : {x : Bool} (left : ℕ) → left ≡ 0 → x ≡ eqb left 0 && x
+none-owed left h = sym (rw (eq-eqb left 0 h))
 
-  pub place-part : st .left ≤ 0 → (st .phase ≡ 0 → ⊥) → (k ≡ 2 → ⊥) → k ≡ 3 → eqb k 3 ≡ inPlace st k
-  unfolding inPlace
-  place-part h p q t = simp (le-ltb _ _ h, ne-eqb _ _ p, ne-eqb _ _ q, eq-eqb _ _ t)
-
-  pub place-end : st .left ≤ 0 → (st .phase ≡ 0 → ⊥) → (k ≡ 2 → ⊥) → (k ≡ 3 → ⊥) → eqb k 0 ≡ inPlace st k
-  unfolding inPlace
-  place-end h p q t = simp (le-ltb _ _ h, ne-eqb _ _ p, ne-eqb _ _ q, ne-eqb _ _ t)
+pub some-owed : (x : Bool) (left : ℕ) → (left ≡ 0 → ⊥) → eqb left 0 ≡ eqb left 0 && x
+some-owed x left h = rw (ne-eqb left 0 h)
 
 -- ---- lengths and counts by the kind
-pub long : {k n m : ℕ} → k ≡ n → bodyLen k ≤ m → bodyLen n ≤ m
-long {k} {n} {m} e h = subst (λ (j : ℕ). bodyLen j ≤ m) e h
+pub count-is : (b : List ℕ) {n : ℕ} {j k : Kind} → j ≡ k → n ≡ countOf j b → n ≡ countOf k b
+count-is b {n} {j} {k} e h = subst (λ (i : Kind). n ≡ countOf i b) e h
 
--- what holds of each row of the table holds of a kind's shape
-module _ (P : Shape → Type 0) (settings : P (shape settingsLen 1 3 0)) (variant : P (shape variantLen 20 1 21)) (part : P (shape partLen 4 1 5))
-    (letters : P (shape lettersLen 0 0 0)) (rest : P (shape 0 0 0 0)) where
-  by-row : (p q r t : Bool)
-      → P (cond p (shape settingsLen 1 3 0) (cond q (shape variantLen 20 1 21) (cond r (shape partLen 4 1 5) (cond t (shape lettersLen 0 0 0) (shape 0 0 0 0)))))
-  by-row true q r t = settings
-  by-row false true r t = variant
-  by-row false false true t = part
-  by-row false false false true = letters
-  by-row false false false false = rest
+pub next-is : {st : State} {j k : Kind} {b : List ℕ} {r : State} → j ≡ k → Next st k b r → Next st j b r
+next-is {st} {j} {k} {b} {r} e h = subst (λ (i : Kind). Next st i b r) (sym e) h
 
-  pub every-row : (k : ℕ) → P (shapeOf k)
-  every-row k = by-row (eqb k 1) (eqb k 2) (eqb k 3) (eqb k 4)
+pub long : {j k : Kind} {m : ℕ} → j ≡ k → bodyLen j ≤ m → bodyLen k ≤ m
+long {j} {k} {m} e h = subst (λ (i : Kind). bodyLen i ≤ m) e h
 
-pub shape-rest : (k : ℕ) → (k ≡ 1 → ⊥) → (k ≡ 2 → ⊥) → (k ≡ 3 → ⊥) → (k ≡ 4 → ⊥) → shape 0 0 0 0 ≡ shapeOf k
-shape-rest k p q r t = sym (rw (ne-eqb k 1 p, ne-eqb k 2 q, ne-eqb k 3 r, ne-eqb k 4 t))
+pub letters-kind : (kind : Kind) → isLetters kind ≡ true → kind ≡ Letters
+letters-kind End e = mixed (sym e)
+letters-kind Settings e = mixed (sym e)
+letters-kind Variant e = mixed (sym e)
+letters-kind Part e = mixed (sym e)
+letters-kind Letters e = refl
+letters-kind Unknown e = mixed (sym e)
 
-pub count-rest : (k : ℕ) (b : List ℕ) → (k ≡ 2 → ⊥) → (k ≡ 3 → ⊥) → countOf k b ≡ 0
+pub end-kind : (kind : Kind) → isEnd kind ≡ true → kind ≡ End
+end-kind End e = refl
+end-kind Settings e = mixed (sym e)
+end-kind Variant e = mixed (sym e)
+end-kind Part e = mixed (sym e)
+end-kind Letters e = mixed (sym e)
+end-kind Unknown e = mixed (sym e)
+
+pub short-body : (kind : Kind) → bodyLen kind ≤ 40
+unfolding bodyLen
+short-body End = omega arith
+short-body Settings = omega arith
+short-body Variant = omega arith
+short-body Part = omega arith
+short-body Letters = omega arith
+short-body Unknown = omega arith
+
+few-flags : (kind : Kind) → shapeOf kind .flags + shapeOf kind .«flag_count» ≤ 64
+few-flags End = omega arith
+few-flags Settings = omega arith
+few-flags Variant = omega arith
+few-flags Part = omega arith
+few-flags Letters = omega arith
+few-flags Unknown = omega arith
+
+pub count-rest : (kind : Kind) (b : List ℕ) → isVariant kind ≡ false → isPart kind ≡ false → countOf kind b ≡ 0
 unfolding countOf
-count-rest k b p q = ⊎-elim
-    (λ (t : eqb k 1 ≡ true). rw t)
-    (λ (t : eqb k 1 ≡ false). ⊎-elim
-    (λ (u : eqb k 4 ≡ true). rw (t, ne-eqb k 2 p, ne-eqb k 3 q, u))
-    (λ (u : eqb k 4 ≡ false). rw (t, ne-eqb k 2 p, ne-eqb k 3 q, u))
-    (split (eqb k 4)))
-    (split (eqb k 1))
+count-rest End b p q = refl
+count-rest Settings b p q = refl
+count-rest Variant b p q = mixed p
+count-rest Part b p q = mixed q
+count-rest Letters b p q = refl
+count-rest Unknown b p q = refl
 
 -- s is the shape that the table gives
-module _ (s : Shape) (k : ℕ) (b : List ℕ) (is : s ≡ shapeOf k) where
-  pub count-none : s .count ≡ 0 → 0 ≡ countOf k b
+module _ (s : Shape) (kind : Kind) (b : List ℕ) (is : s ≡ shapeOf kind) where
+  pub count-none : s .count ≡ 0 → 0 ≡ countOf kind b
   unfolding countOf
   count-none z = sym (ap (λ (x : Shape). cond (eqb (x .count) 0) 0 (le4 b (x .count))) (sym is) ∙ rw (eq-eqb (s .count) 0 z))
 
-  pub count-some : (s .count ≡ 0 → ⊥) → le4 b (s .count) ≡ countOf k b
+  pub count-some : (s .count ≡ 0 → ⊥) → le4 b (s .count) ≡ countOf kind b
   unfolding countOf
   count-some z = sym (ap (λ (x : Shape). cond (eqb (x .count) 0) 0 (le4 b (x .count))) (sym is) ∙ rw (ne-eqb (s .count) 0 z))
 
   pub flags-there : s .flags + s .«flag_count» ≤ 64
-  flags-there = subst (λ (x : Shape). x .flags + x .«flag_count» ≤ 64) (sym is)
-      (every-row (λ (x : Shape). x .flags + x .«flag_count» ≤ 64) (omega arith) (omega arith) (omega arith) (omega arith) (omega arith) k)
+  flags-there = subst (λ (x : Shape). x .flags + x .«flag_count» ≤ 64) (sym is) (few-flags kind)
 
-  pub flags-are : areFlags b (s .flags) (s .«flag_count») ≡ flagsOk k b
+  pub flags-are : areFlags b (s .flags) (s .«flag_count») ≡ flagsOk kind b
   unfolding flagsOk
   flags-are = ap (λ (x : Shape). areFlags b (x .flags) (x .«flag_count»)) is
 
@@ -142,105 +158,108 @@ module _ (b : List ℕ) (i to : ℕ) (low : i < to) (high : to ≤ length b) whe
 pub zero-done : (b : List ℕ) (i to : ℕ) → to ≤ i → true ≡ allZero (drop i (take to b))
 zero-done b i to h = ap allZero (sym (drop-of-length-le (take to b) {i = i} (simp length-take (omega arith))))
 
-pub pad-rest : (st : State) (k : ℕ) (b : List ℕ) → (k ≡ 4 → ⊥) → true ≡ padOk st k b
+pub pad-rest : (st : State) (kind : Kind) (b : List ℕ) → isLetters kind ≡ false → true ≡ padOk st kind b
 unfolding padOk
-pad-rest st k b h = simp (ne-eqb _ _ h)
+pad-rest st kind b h = sym (rw h)
 
-pub pad-letters : (st : State) (k : ℕ) (b : List ℕ) → k ≡ 4 → allZero (drop (st .left) (take 16 b)) ≡ padOk st k b
+pub pad-letters : (st : State) (kind : Kind) (b : List ℕ) → isLetters kind ≡ true → allZero (drop (st .left) (take 16 b)) ≡ padOk st kind b
 unfolding padOk
-pad-letters st k b h = simp (eq-eqb _ _ h)
+pad-letters st kind b h = sym (rw h)
 
 -- ---- the faults, in their order
-module _ (st : State) (k : ℕ) (b : List ℕ) where
-  pub fault-20 : 4 < k → 20 ≡ faultOf st k b
+module _ (st : State) (kind : Kind) (b : List ℕ) where
+  pub fault-20 : isUnknown kind ≡ true → 20 ≡ faultOf st kind b
   unfolding faultOf
-  fault-20 h = simp (lt-ltb _ _ h)
+  fault-20 h = sym (rw h)
 
-  module _ (known : k ≤ 4) where
-    pub fault-21 : (n : ℕ) → n ≡ bodyLen k → length b < n → 21 ≡ faultOf st k b
+  module _ (known : isUnknown kind ≡ false) where
+    pub fault-21 : (n : ℕ) → n ≡ bodyLen kind → length b < n → 21 ≡ faultOf st kind b
     unfolding faultOf
-    fault-21 n e h = simp (le-ltb _ _ known, lt-ltb _ _ (rw e at h))
+    fault-21 n e h = simp (known, lt-ltb _ _ (rw e at h))
 
-    module _ (n : ℕ) (ln : n ≡ bodyLen k) (whole : n ≤ length b) where
-      whole′ : bodyLen k ≤ length b
+    module _ (n : ℕ) (ln : n ≡ bodyLen kind) (whole : n ≤ length b) where
+      whole′ : bodyLen kind ≤ length b
       whole′ = rw ln at whole
 
-      pub fault-22 : inPlace st k ≡ false → 22 ≡ faultOf st k b
+      pub fault-22 : inPlace st kind ≡ false → 22 ≡ faultOf st kind b
       unfolding faultOf
-      fault-22 h = simp (le-ltb _ _ known, le-ltb _ _ whole′, h)
+      fault-22 h = simp (known, le-ltb _ _ whole′, h)
 
-      module _ (placed : inPlace st k ≡ true) where
-        pub fault-24 : flagsOk k b ≡ false → 24 ≡ faultOf st k b
+      module _ (placed : inPlace st kind ≡ true) where
+        pub fault-24 : flagsOk kind b ≡ false → 24 ≡ faultOf st kind b
         unfolding faultOf
-        fault-24 h = simp (le-ltb _ _ known, le-ltb _ _ whole′, placed, h)
+        fault-24 h = simp (known, le-ltb _ _ whole′, placed, h)
 
-        module _ (flags : flagsOk k b ≡ true) where
-          pub fault-13 : 131072 < countOf k b → 13 ≡ faultOf st k b
+        module _ (flags : flagsOk kind b ≡ true) where
+          pub fault-13 : 131072 < countOf kind b → 13 ≡ faultOf st kind b
           unfolding faultOf
-          fault-13 h = simp (le-ltb _ _ known, le-ltb _ _ whole′, placed, flags, lt-ltb _ _ h)
+          fault-13 h = simp (known, le-ltb _ _ whole′, placed, flags, lt-ltb _ _ h)
 
-          module _ (few : countOf k b ≤ 131072) where
-            pub fault-23 : padOk st k b ≡ false → 23 ≡ faultOf st k b
+          module _ (few : countOf kind b ≤ 131072) where
+            pub fault-23 : padOk st kind b ≡ false → 23 ≡ faultOf st kind b
             unfolding faultOf
-            fault-23 h = simp (le-ltb _ _ known, le-ltb _ _ whole′, placed, flags, le-ltb _ _ few, h)
+            fault-23 h = simp (known, le-ltb _ _ whole′, placed, flags, le-ltb _ _ few, h)
 
-            module _ (padded : padOk st k b ≡ true) where
-              pub fault-25 : k ≡ 0 → 0 < length b → 25 ≡ faultOf st k b
+            module _ (padded : padOk st kind b ≡ true) where
+              pub fault-25 : isEnd kind ≡ true → 0 < length b → 25 ≡ faultOf st kind b
               unfolding faultOf
-              fault-25 h g = simp (le-ltb _ _ known, le-ltb _ _ whole′, placed, flags, le-ltb _ _ few, padded, eq-eqb _ _ h, lt-ltb _ _ g)
+              fault-25 h g = simp (known, le-ltb _ _ whole′, placed, flags, le-ltb _ _ few, padded, h, lt-ltb _ _ g)
 
-              pub fault-none-end : k ≡ 0 → length b ≤ 0 → 0 ≡ faultOf st k b
+              pub fault-none-end : isEnd kind ≡ true → length b ≤ 0 → 0 ≡ faultOf st kind b
               unfolding faultOf
-              fault-none-end h g = simp (le-ltb _ _ known, le-ltb _ _ whole′, placed, flags, le-ltb _ _ few, padded, eq-eqb _ _ h, le-ltb _ _ g)
+              fault-none-end h g = simp (known, le-ltb _ _ whole′, placed, flags, le-ltb _ _ few, padded, h, le-ltb _ _ g)
 
-              pub fault-none : (k ≡ 0 → ⊥) → 0 ≡ faultOf st k b
+              pub fault-none : isEnd kind ≡ false → 0 ≡ faultOf st kind b
               unfolding faultOf
-              fault-none h = simp (le-ltb _ _ known, le-ltb _ _ whole′, placed, flags, le-ltb _ _ few, padded, ne-eqb _ _ h)
+              fault-none h = simp (known, le-ltb _ _ whole′, placed, flags, le-ltb _ _ few, padded, h)
 
 -- ---- the state after a record
-module _ (st : State) where
+module _ (st : State) (b : List ℕ) where
   pub next-last : st .left ≤ 16
-      → Next st 4 [] (record { phase = st .phase; left = 0; variants = st .variants; parts = st .parts; letters = st .letters + st .left })
+      → Next st Letters [] (record { phase = st .phase; left = 0; variants = st .variants; parts = st .parts; letters = st .letters + st .left })
   unfolding after bodyLen
   next-last h = record { is = simp (le-leb _ _ h); variants-grow = omega arith; parts-grow = omega arith; letters-grow = omega arith }
 
   pub next-letters : 16 < st .left
-      → Next st 4 [] (record { phase = st .phase; left = st .left - 16; variants = st .variants; parts = st .parts; letters = st .letters + 16 })
+      → Next st Letters [] (record { phase = st .phase; left = st .left - 16; variants = st .variants; parts = st .parts; letters = st .letters + 16 })
   unfolding after bodyLen
   next-letters h = record { is = simp (lt-leb _ _ h); variants-grow = omega arith; parts-grow = omega arith; letters-grow = omega arith }
 
-  module _ (k : ℕ) (b : List ℕ) where
-    pub next-kind : {r : State} → k ≡ 4 → Next st 4 [] r → Next st k b r
-    unfolding after
-    next-kind {r} e n = subst (λ (j : ℕ). Next st j b r) (sym e) (record { is = n .is; variants-grow = n .variants-grow; parts-grow = n .parts-grow; letters-grow = n .letters-grow })
+  -- what a letters record's body holds changes nothing
+  pub next-any : {r : State} → Next st Letters [] r → Next st Letters b r
+  unfolding after
+  next-any n = record { is = n .is; variants-grow = n .variants-grow; parts-grow = n .parts-grow; letters-grow = n .letters-grow }
 
-    module _ (no4 : k ≡ 4 → ⊥) (n : ℕ) (count : n ≡ countOf k b) where
-      pub next-settings : k ≡ 1 → Next st k b (record { phase = 1; left = n; variants = st .variants; parts = st .parts; letters = st .letters })
-      unfolding after
-      next-settings e = record { is = rw (count, e); variants-grow = omega arith; parts-grow = omega arith; letters-grow = omega arith }
+  pub next-settings : (n : ℕ) → n ≡ countOf Settings b → Next st Settings b (record { phase = 1; left = n; variants = st .variants; parts = st .parts; letters = st .letters })
+  unfolding after
+  next-settings n e = record { is = rw e; variants-grow = omega arith; parts-grow = omega arith; letters-grow = omega arith }
 
-      pub next-variant : k ≡ 2 → Next st k b (record { phase = st .phase; left = n; variants = st .variants + 1; parts = st .parts; letters = st .letters })
-      unfolding after
-      next-variant e = record { is = rw (count, e); variants-grow = omega arith; parts-grow = omega arith; letters-grow = omega arith }
+  pub next-variant : (n : ℕ) → n ≡ countOf Variant b → Next st Variant b (record { phase = st .phase; left = n; variants = st .variants + 1; parts = st .parts; letters = st .letters })
+  unfolding after
+  next-variant n e = record { is = rw e; variants-grow = omega arith; parts-grow = omega arith; letters-grow = omega arith }
 
-      pub next-part : k ≡ 3 → Next st k b (record { phase = 2; left = n; variants = st .variants; parts = st .parts + 1; letters = st .letters })
-      unfolding after
-      next-part e = record { is = rw (count, e); variants-grow = omega arith; parts-grow = omega arith; letters-grow = omega arith }
+  pub next-part : (n : ℕ) → n ≡ countOf Part b → Next st Part b (record { phase = 2; left = n; variants = st .variants; parts = st .parts + 1; letters = st .letters })
+  unfolding after
+  next-part n e = record { is = rw e; variants-grow = omega arith; parts-grow = omega arith; letters-grow = omega arith }
 
-      pub next-rest : (k ≡ 1 → ⊥) → (k ≡ 2 → ⊥) → (k ≡ 3 → ⊥) → Next st k b (record { phase = st .phase; left = n; variants = st .variants; parts = st .parts; letters = st .letters })
-      unfolding after
-      next-rest p q r = record { is = simp (count, ne-eqb _ _ no4, ne-eqb _ _ p, ne-eqb _ _ q, ne-eqb _ _ r); variants-grow = omega arith; parts-grow = omega arith; letters-grow = omega arith }
+  pub next-end : (n : ℕ) → n ≡ countOf End b → Next st End b (record { phase = st .phase; left = n; variants = st .variants; parts = st .parts; letters = st .letters })
+  unfolding after
+  next-end n e = record { is = rw e; variants-grow = omega arith; parts-grow = omega arith; letters-grow = omega arith }
+
+  pub next-unknown : (n : ℕ) → n ≡ countOf Unknown b → Next st Unknown b (record { phase = st .phase; left = n; variants = st .variants; parts = st .parts; letters = st .letters })
+  unfolding after
+  next-unknown n e = record { is = rw e; variants-grow = omega arith; parts-grow = omega arith; letters-grow = omega arith }
 
 -- ---- reading on
-pub fault-long : (st : State) (k : ℕ) (b : List ℕ) → faultOf st k b ≡ 0 → bodyLen k ≤ length b
+pub fault-long : (st : State) (kind : Kind) (b : List ℕ) → faultOf st kind b ≡ 0 → bodyLen kind ≤ length b
 unfolding faultOf
-fault-long st k b e = ⊎-elim
-    (λ (h : ltb (length b) (bodyLen k) ≡ true). ⊎-elim
-    (λ (g : ltb 4 k ≡ true). let z : _≡_ {A = ℕ} 20 0 = simp g at e in omega arith)
-    (λ (g : ltb 4 k ≡ false). let z : _≡_ {A = ℕ} 21 0 = simp (g, h) at e in omega arith)
-    (split (ltb 4 k)))
-    (λ (h : ltb (length b) (bodyLen k) ≡ false). ltb-false _ _ h)
-    (split (ltb (length b) (bodyLen k)))
+fault-long st kind b e = ⊎-elim
+    (λ (h : ltb (length b) (bodyLen kind) ≡ true). ⊎-elim
+    (λ (g : isUnknown kind ≡ true). let z : _≡_ {A = ℕ} 20 0 = simp g at e in omega arith)
+    (λ (g : isUnknown kind ≡ false). let z : _≡_ {A = ℕ} 21 0 = simp (g, h) at e in omega arith)
+    (split (isUnknown kind)))
+    (λ (h : ltb (length b) (bodyLen kind) ≡ false). ltb-false _ _ h)
+    (split (ltb (length b) (bodyLen kind)))
 
 pub skip : (s : List ℕ) (n : ℕ) (st : State) → run s n st ≡ run (drop n s) 0 st
 unfolding run
@@ -248,46 +267,68 @@ skip [] n st = simp drop-nil
 skip (k ∷ b) zero st = refl
 skip (k ∷ b) (suc n) st = skip b n st
 
-pub judge-done : (f k : ℕ) (st : State) (rest : Scan) → f ≡ 0 → k ≡ 0 → judge f k st rest ≡ Good (counted st)
-judge-done f k st rest p q = simp (eq-eqb _ _ p, eq-eqb _ _ q)
+pub judge-done : (f : ℕ) (kind : Kind) (st : State) (rest : Scan) → f ≡ 0 → isEnd kind ≡ true → judge f kind st rest ≡ Good (counted st)
+judge-done f kind st rest p q = rw (eq-eqb f 0 p, q)
 
-pub judge-more : (f k : ℕ) (st : State) (rest : Scan) → f ≡ 0 → (k ≡ 0 → ⊥) → judge f k st rest ≡ rest
-judge-more f k st rest p q = simp (eq-eqb _ _ p, ne-eqb _ _ q)
+pub judge-more : (f : ℕ) (kind : Kind) (st : State) (rest : Scan) → f ≡ 0 → isEnd kind ≡ false → judge f kind st rest ≡ rest
+judge-more f kind st rest p q = rw (eq-eqb f 0 p, q)
 
-module _ (s : List ℕ) (at : ℕ) (st : State) where
-  pub run-end : length s ≤ at → Refused 21 ≡ run (drop at s) 0 st
+pub record-none : (s : List ℕ) (at : ℕ) → length s ≤ at → record { kind = Unknown; count = 0; next = at } ≡ recordAt s at
+unfolding recordAt
+record-none s at h = sym (rw (le-ltb at (length s) h))
+
+-- ---- the record at a place inside
+module _ (s : List ℕ) (at : ℕ) (inside : at < length s) where
+  -- the part of the slice that the code takes
+  abbrev body : List ℕ
+  body = take (length s - (at + 1)) (drop (at + 1) s)
+
+  pub rest-is : body ≡ drop (suc at) s
+  rest-is = take-all (length s - (at + 1)) (drop (at + 1) s) (simp length-drop (omega arith)) ∙ rw add-one
+
+  there : recordAt s at ≡ recordOf (kindOf (getD s at 0)) (drop (suc at) s) at
+  unfolding recordAt
+  there = rw (lt-ltb at (length s) inside)
+
+  pub record-here : (kind : Kind) (count n : ℕ) → kind ≡ kindOf (getD s at 0) → count ≡ countOf kind body → n ≡ bodyLen kind → record { kind = kind; count = count; next = at + 1 + n } ≡ recordAt s at
+  record-here kind count n k c b = rw (c, b, rest-is, k) (sym there)
+
+  module _ (r : Record) (is : r ≡ recordAt s at) where
+    pub record-kind : r .kind ≡ kindOf (getD s at 0)
+    record-kind = ap (λ (x : Record). x .kind) (is ∙ there)
+
+    pub record-count : r .count ≡ countOf (r .kind) body
+    record-count = ap (λ (x : Record). x .count) (is ∙ there) ∙ sym (rw (record-kind, rest-is))
+
+    pub record-next : r .next ≡ at + 1 + bodyLen (r .kind)
+    record-next = ap (λ (x : Record). x .next) (is ∙ there) ∙ sym (rw record-kind)
+
+pub run-end : (s : List ℕ) (at : ℕ) (st : State) → length s ≤ at → Refused 21 ≡ run (drop at s) 0 st
+unfolding run
+run-end s at st h = rw (drop-of-length-le s {i = at} h)
+
+module _ (s : List ℕ) (at : ℕ) (st : State) (inside : at < length s) (here : Record) (is : here ≡ recordAt s at) (f : ℕ) (fault : f ≡ faultOf st (here .kind) (body s at inside)) where
+  abbrev rest : List ℕ
+  rest = body s at inside
+
+  run-here : run (drop at s) 0 st ≡ judge (faultOf st (here .kind) rest) (here .kind) st (run rest (bodyLen (here .kind)) (after st (here .kind) rest))
   unfolding run
-  run-end h = rw (drop-of-length-le s {i = at} h)
+  run-here = rw (record-kind s at inside here is, rest-is s at inside) (ap (λ (l : List ℕ). run l 0 st) (drop-cons s at 0 inside))
 
-  module _ (inside : at < length s) where
-    abbrev kind : ℕ
-    kind = getD s at 0
+  pub run-refused : (f ≡ 0 → ⊥) → Refused f ≡ run (drop at s) 0 st
+  run-refused n = sym (run-here ∙ rw (sym fault, ne-eqb f 0 n))
 
-    -- the part of the slice that the code takes
-    abbrev body : List ℕ
-    body = take (length s - (at + 1)) (drop (at + 1) s)
+  module _ (none : f ≡ 0) where
+    pub room : here .next ≤ length s
+    room =
+        let h : bodyLen (here .kind) ≤ length rest = fault-long st (here .kind) rest (sym fault ∙ none) in
+        omega (arith, simp (length-take, length-drop) at h, record-next s at inside here is)
 
-    pub room : (f : ℕ) → f ≡ faultOf st kind body → f ≡ 0 → (n : ℕ) → n ≡ bodyLen kind → at + 1 + n ≤ length s
-    room f e z n m =
-        let h : n ≤ length body = rw m (fault-long st kind body (sym e ∙ z)) in
-        omega (arith, simp (length-take, length-drop) at h)
+    pub run-done : isEnd (here .kind) ≡ true → Good (counted st) ≡ run (drop at s) 0 st
+    run-done n = sym (run-here ∙ judge-done _ (here .kind) st _ (sym fault ∙ none) n)
 
-    rest-is : body ≡ drop (suc at) s
-    rest-is = take-all (length s - (at + 1)) (drop (at + 1) s) (simp length-drop (omega arith)) ∙ rw add-one
-
-    run-here : run (drop at s) 0 st ≡ judge (faultOf st kind body) kind st (run body (bodyLen kind) (after st kind body))
-    unfolding run
-    run-here = rw (drop-cons s at 0 inside, rest-is)
-
-    pub run-refused : (f : ℕ) → f ≡ faultOf st kind body → (f ≡ 0 → ⊥) → Refused f ≡ run (drop at s) 0 st
-    run-refused f e n = sym (run-here ∙ simp (sym e, ne-eqb _ _ n))
-
-    pub run-done : (f : ℕ) → f ≡ faultOf st kind body → f ≡ 0 → kind ≡ 0 → Good (counted st) ≡ run (drop at s) 0 st
-    run-done f e z n = sym (run-here ∙ judge-done _ _ st _ (sym e ∙ z) n)
-
-    pub run-more : (f : ℕ) → f ≡ faultOf st kind body → f ≡ 0 → (kind ≡ 0 → ⊥) → (r : State) → r ≡ after st kind body → (n : ℕ) → n ≡ bodyLen kind
-        → run (drop (at + 1 + n) s) 0 r ≡ run (drop at s) 0 st
-    run-more f e z k r a n m =
-        let h : suc at + bodyLen kind ≡ at + 1 + bodyLen kind = omega arith in
-        rw (a, m) (sym (run-here ∙ judge-more _ _ st _ (sym e ∙ z) k ∙ skip body _ _
-        ∙ ap (λ (l : List ℕ). run l 0 (after st kind body)) (ap (drop (bodyLen kind)) rest-is ∙ drop-drop (bodyLen kind) (suc at) s ∙ ap (λ (j : ℕ). drop j s) h)))
+    pub run-more : isEnd (here .kind) ≡ false → (r : State) → r ≡ after st (here .kind) rest → run (drop (here .next) s) 0 r ≡ run (drop at s) 0 st
+    run-more k r a =
+        let h : suc at + bodyLen (here .kind) ≡ here .next = omega (arith, record-next s at inside here is) in
+        rw a (sym (run-here ∙ judge-more _ (here .kind) st _ (sym fault ∙ none) k ∙ skip rest _ _
+        ∙ ap (λ (l : List ℕ). run l 0 (after st (here .kind) rest)) (ap (drop (bodyLen (here .kind))) (rest-is s at inside) ∙ drop-drop (bodyLen (here .kind)) (suc at) s ∙ ap (λ (j : ℕ). drop j s) h)))

@@ -2,22 +2,19 @@
 use Prim.Native.Nat.{ℕ, zero, suc, _+_, _-_, _≤_, _<_}
 use native.Mathlib.Omega.{arith}
 use native.Mathlib.Numerals.{add-one}
-use mathlib.Core.Path.{_≡_, refl, ap, _∙_}
+use mathlib.Core.Path.{_≡_, refl, sym, ap, _∙_}
 use mathlib.Core.List.{List, [], _∷_, _++_}
-use lib.ListN.{length, getD, take, drop, length-drop, drop-of-length-le}
-use lib.Seq.{drop-cons, drop-nil, take-all, drop-drop}
-use Rattle.form.specs.declared.records.Shape.{Shape}
-use Rattle.form.specs.Form.{bodyLen}
+use lib.ListN.{length, getD, take, drop, drop-of-length-le}
+use lib.Seq.{drop-cons, drop-nil, drop-drop}
+use Rattle.form.specs.declared.records.Kind.{Kind}
+use Rattle.form.specs.declared.records.Record.{Record}
+use Rattle.form.specs.Form.{kindOf, bodyLen, recordAt}
 use Rattle.form.specs.Job.{lettersIn, gather}
 use Rattle.form.specs.Lent.{sum}
-use Rattle.form.proofs.FormLaws.{every-row}
-
-pub short-body : (k : ℕ) → bodyLen k ≤ 40
-unfolding bodyLen
-short-body k = every-row (λ (s : Shape). s .body ≤ 40) (omega arith) (omega arith) (omega arith) (omega arith) (omega arith) k
+use Rattle.form.proofs.FormLaws.{rest-is, record-kind, record-next}
 
 -- ---- the walk over the records
-module _ {A : Type 0} (here : ℕ → List ℕ → List A) where
+module _ {A : Type 0} (here : Kind → List ℕ → List A) where
   pub gather-skip : (s : List ℕ) (n : ℕ) → gather here s n ≡ gather here (drop n s) 0
   unfolding gather
   gather-skip [] n = simp drop-nil
@@ -29,23 +26,16 @@ module _ {A : Type 0} (here : ℕ → List ℕ → List A) where
     unfolding gather
     gather-done h = rw (drop-of-length-le s {i = at} h)
 
-    module _ (inside : at < length s) where
-      -- the part of the slice that the code takes
-      abbrev kind : ℕ
-      kind = getD s at 0
-
-      abbrev body : List ℕ
-      body = take (length s - (at + 1)) (drop (at + 1) s)
-
-      rest-is : body ≡ drop (suc at) s
-      rest-is = take-all (length s - (at + 1)) (drop (at + 1) s) (simp length-drop (omega arith)) ∙ rw add-one
-
-      pub gather-here : (n : ℕ) → n ≡ bodyLen kind → gather here (drop at s) 0 ≡ here kind body ++ gather here (drop (at + 1 + n) s) 0
-      unfolding gather
-      gather-here n m =
-          let h : suc at + bodyLen kind ≡ at + 1 + bodyLen kind = omega arith in
-          rw (drop-cons s at 0 inside, rest-is, m) (ap (λ (l : List A). here kind (drop (suc at) s) ++ l)
-          (gather-skip (drop (suc at) s) (bodyLen kind) ∙ ap (λ (l : List ℕ). gather here l 0) (drop-drop (bodyLen kind) (suc at) s ∙ ap (λ (j : ℕ). drop j s) h)))
+    pub gather-here : (inside : at < length s) (r : Record) → r ≡ recordAt s at
+        → gather here (drop at s) 0 ≡ here (r .kind) (take (length s - (at + 1)) (drop (at + 1) s)) ++ gather here (drop (r .next) s) 0
+    unfolding gather
+    gather-here inside r is =
+        let h : suc at + bodyLen (r .kind) ≡ r .next = omega (arith, record-next s at inside r is) in
+        let e : r .kind ≡ kindOf (getD s at 0) = record-kind s at inside r is in
+        ap (λ (l : List ℕ). gather here l 0) (drop-cons s at 0 inside)
+        ∙ ap (λ (k : Kind). here k (drop (suc at) s) ++ gather here (drop (suc at) s) (bodyLen k)) (sym e)
+        ∙ rw (rest-is s at inside) (ap (λ (l : List A). here (r .kind) (drop (suc at) s) ++ l)
+        (gather-skip (drop (suc at) s) (bodyLen (r .kind)) ∙ ap (λ (l : List ℕ). gather here l 0) (drop-drop (bodyLen (r .kind)) (suc at) s ∙ ap (λ (j : ℕ). drop j s) h)))
 
 -- ---- letters
 pub long-letters : (b : List ℕ) (i n : ℕ) → length (lettersIn b i n) ≡ n

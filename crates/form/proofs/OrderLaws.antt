@@ -7,18 +7,21 @@ use mathlib.Core.Path.{_≡_, refl, sym, ap, subst, _∙_}
 use mathlib.Core.Bool.{true, false}
 use mathlib.Core.List.{List, [], _∷_, _++_, append-assoc, append-nil}
 use mathlib.Core.Logic.{_⊎_, inl, inr, ⊎-elim}
-use lib.Dec.{ltb, leb, eqb}
+use lib.Dec.{leb, eqb}
 use lib.ListN.{length, getD, drop}
 use lib.Seq.{getD-drop}
-use borrow.Author.Tests.{le-ltb, eq-eqb, ne-eqb, leb-false, eqb-true, eqb-false}
+use borrow.Author.Tests.{le-ltb, leb-false, eqb-true}
+use Rattle.form.specs.declared.records.Kind.{Kind}
+use Rattle.form.specs.declared.records.Kind.the-variants.{End, Settings, Variant, Part, Letters, Unknown}
 use Rattle.form.specs.declared.records.State.{State}
 use Rattle.form.specs.declared.records.Counts.{Counts}
+use Rattle.form.specs.declared.records.Scan.{Scan}
 use Rattle.form.specs.declared.records.Scan.the-variants.{Good, Refused}
-use Rattle.form.specs.Form.{bodyLen, inPlace, countOf, faultOf, after, run, outset}
+use Rattle.form.specs.Form.{kindOf, isEnd, isSettings, isVariant, isPart, isLetters, bodyLen, inPlace, countOf, faultOf, after, judge, run, outset}
 use Rattle.form.specs.Job.{lettersIn, lettersAfter, gather}
-use Rattle.form.specs.Steps.{lettersHere, lettersGiven, lettersOwed, lettersWalk}
-use Rattle.form.proofs.FormLaws.{split, count-rest}
-use Rattle.form.proofs.CountLaws.{none-placed, none-whole, none-last, owed-none, never}
+use Rattle.form.specs.Steps.{variantLettersHere, partLettersHere, lettersGiven, lettersOwed, lettersWalk}
+use Rattle.form.proofs.FormLaws.{split, both, mixed, count-rest, end-kind}
+use Rattle.form.proofs.CountLaws.{none-placed, none-whole, end-empty, owed-none, never}
 
 -- ---- a record's sixteen letters, and the rest of its sequence
 in-append : (b : List ℕ) (i m n : ℕ) → lettersIn b i (m + n) ≡ lettersIn b i m ++ lettersIn b (i + m) n
@@ -39,7 +42,7 @@ in-next k b i (suc n) =
     rw (g, f) (ap (λ (l : List ℕ). getD (drop 16 b) (1 + i + i / 16) 0 ∷ l) (in-next k b (suc i) n))
 
 -- the letters that are owed, as a letters record and those behind it give them
-in-record : (b : List ℕ) (left : ℕ) → lettersIn (4 ∷ b) 0 left ≡ lettersIn (4 ∷ b) 0 (lettersGiven 4 left) ++ lettersIn (drop 16 b) 0 (lettersOwed 4 b left)
+in-record : (b : List ℕ) (left : ℕ) → lettersIn (4 ∷ b) 0 left ≡ lettersIn (4 ∷ b) 0 (lettersGiven Letters left) ++ lettersIn (drop 16 b) 0 (lettersOwed Letters 0 left)
 unfolding lettersIn lettersGiven lettersOwed
 in-record b left = ⊎-elim
     (λ (t : leb left 16 ≡ true). rw t (sym (append-nil (lettersIn (4 ∷ b) 0 left))))
@@ -51,70 +54,53 @@ in-record b left = ⊎-elim
     (split (leb left 16))
 
 -- ---- a form in good order, one record at a time
-sound : (st : State) (k : ℕ) (b : List ℕ) (c : Counts) → run (k ∷ b) 0 st ≡ Good c
-    → (faultOf st k b ≡ 0) × ((k ≡ 0) ⊎ (run b (bodyLen k) (after st k b) ≡ Good c))
-unfolding run
-sound st k b c e = ⊎-elim
-    (λ (f : eqb (faultOf st k b) 0 ≡ true). (
+sound : (st : State) (kind : Kind) (b : List ℕ) (c : Counts) (rest : Scan) → judge (faultOf st kind b) kind st rest ≡ Good c
+    → (faultOf st kind b ≡ 0) × ((isEnd kind ≡ true) ⊎ (rest ≡ Good c))
+sound st kind b c rest e = ⊎-elim
+    (λ (f : eqb (faultOf st kind b) 0 ≡ true). (
       eqb-true _ _ f,
       ⊎-elim
-          (λ (g : eqb k 0 ≡ true). inl (eqb-true k 0 g))
-          (λ (g : eqb k 0 ≡ false). let r : run b (bodyLen k) (after st k b) ≡ Good c = simp (f, g) at e in inr r)
-          (split (eqb k 0)),
+          (λ (g : isEnd kind ≡ true). inl g)
+          (λ (g : isEnd kind ≡ false). let r : rest ≡ Good c = simp (f, g) at e in inr r)
+          (split (isEnd kind)),
     ))
-    (λ (f : eqb (faultOf st k b) 0 ≡ false).
-    let w : Refused (faultOf st k b) ≡ Good c = simp f at e in
+    (λ (f : eqb (faultOf st kind b) 0 ≡ false).
+    let w : Refused (faultOf st kind b) ≡ Good c = simp f at e in
     let z : _≡_ {A = ℕ} 1 0 = cc in absurd (never z))
-    (split (eqb (faultOf st k b) 0))
+    (split (eqb (faultOf st kind b) 0))
 
 -- behind a part neither settings nor a variant is in place
 module _ (st : State) (late : st .phase ≡ 2) where
-  no-settings : inPlace st 1 ≡ true → ⊥
+  late-kind : (kind : Kind) → inPlace st kind ≡ true → (isSettings kind ≡ false) × (isVariant kind ≡ false)
   unfolding inPlace
-  no-settings h = ⊎-elim
-      (λ (t : ltb 0 (st .left) ≡ true). let z : false ≡ true = rw t at h in let y : _≡_ {A = ℕ} 1 0 = cc in never y)
-      (λ (t : ltb 0 (st .left) ≡ false). let z : false ≡ true = rw (t, late) at h in let y : _≡_ {A = ℕ} 1 0 = cc in never y)
-      (split (ltb 0 (st .left)))
+  late-kind End h = (refl, refl)
+  late-kind Settings h = let p : eqb (st .phase) 0 ≡ true = both (eqb (st .left) 0) _ h .1 in let e : false ≡ true = rw late at p in mixed (sym e)
+  late-kind Variant h = let p : eqb (st .phase) 1 ≡ true = both (eqb (st .left) 0) _ h .1 in let e : false ≡ true = rw late at p in mixed (sym e)
+  late-kind Part h = (refl, refl)
+  late-kind Letters h = (refl, refl)
+  late-kind Unknown h = (refl, refl)
 
-  no-variant : inPlace st 2 ≡ true → ⊥
-  unfolding inPlace
-  no-variant h = ⊎-elim
-      (λ (t : ltb 0 (st .left) ≡ true). let z : false ≡ true = rw t at h in let y : _≡_ {A = ℕ} 1 0 = cc in never y)
-      (λ (t : ltb 0 (st .left) ≡ false). let z : false ≡ true = rw (t, late) at h in let y : _≡_ {A = ℕ} 1 0 = cc in never y)
-      (split (ltb 0 (st .left)))
+  module _ (kind : Kind) (b : List ℕ) (none : faultOf st kind b ≡ 0) where
+    no-letters : variantLettersHere kind b ≡ []
+    unfolding variantLettersHere
+    no-letters = rw (late-kind kind (none-placed st kind b none) .1)
 
-  module _ (k : ℕ) (b : List ℕ) (none : faultOf st k b ≡ 0) where
-    not-settings : k ≡ 1 → ⊥
-    not-settings e = no-settings (subst (λ (j : ℕ). inPlace st j ≡ true) e (none-placed st k b none))
-
-    not-variant : k ≡ 2 → ⊥
-    not-variant e = no-variant (subst (λ (j : ℕ). inPlace st j ≡ true) e (none-placed st k b none))
-
-    no-letters : lettersHere 2 k b ≡ []
-    unfolding lettersHere
-    no-letters = rw (ne-eqb k 2 not-variant)
-
-    stays-late : after st k b .phase ≡ 2
+    stays-late : after st kind b .phase ≡ 2
     unfolding after
     stays-late = ⊎-elim
-        (λ (t : eqb k 3 ≡ true). rw t)
-        (λ (t : eqb k 3 ≡ false). rw (t, ne-eqb k 1 not-settings) late)
-        (split (eqb k 3))
+        (λ (t : isPart kind ≡ true). rw t)
+        (λ (t : isPart kind ≡ false). rw (t, late-kind kind (none-placed st kind b none) .0) late)
+        (split (isPart kind))
 
--- behind the end there is nothing
-end-empty : (st : State) (k : ℕ) (b : List ℕ) → faultOf st k b ≡ 0 → k ≡ 0 → b ≡ []
-end-empty st k [] f e = refl
-end-empty st k (x ∷ b) f e = let h : length (x ∷ b) ≤ 0 = none-last st k (x ∷ b) f e in let z : ⊥ = omega arith in absurd z
-
-no-more-variants : (s : List ℕ) (n : ℕ) (st : State) (c : Counts) → run s n st ≡ Good c → st .phase ≡ 2 → gather (lettersHere 2) s n ≡ []
+no-more-variants : (s : List ℕ) (n : ℕ) (st : State) (c : Counts) → run s n st ≡ Good c → st .phase ≡ 2 → gather variantLettersHere s n ≡ []
 unfolding gather run
 no-more-variants [] n st c e p = refl
 no-more-variants (k ∷ b) (suc n) st c e p = no-more-variants b n st c e p
 no-more-variants (k ∷ b) zero st c e p =
-    let h = sound st k b c e in
-    rw (no-letters st p k b (h .0)) (⊎-elim
-    (λ (z : k ≡ 0). ap (λ (l : List ℕ). gather (lettersHere 2) l (bodyLen k)) (end-empty st k b (h .0) z))
-    (λ (r : run b (bodyLen k) (after st k b) ≡ Good c). no-more-variants b (bodyLen k) (after st k b) c r (stays-late st p k b (h .0)))
+    let h = sound st (kindOf k) b c (run b (bodyLen (kindOf k)) (after st (kindOf k) b)) e in
+    rw (no-letters st p (kindOf k) b (h .0)) (⊎-elim
+    (λ (z : isEnd (kindOf k) ≡ true). ap (λ (l : List ℕ). gather variantLettersHere l (bodyLen (kindOf k))) (end-empty st (kindOf k) b (h .0) z))
+    (λ (r : run b (bodyLen (kindOf k)) (after st (kindOf k) b) ≡ Good c). no-more-variants b (bodyLen (kindOf k)) (after st (kindOf k) b) c r (stays-late st p (kindOf k) b (h .0)))
     (h .1))
 
 -- ---- one record more
@@ -123,86 +109,85 @@ grown : (A B C W X : List ℕ) → W ≡ B ++ C → X ≡ A ++ B → A ++ W ≡ 
 grown A B C W X p q = rw (p, q) (sym (append-assoc A B C))
 
 module _ (st : State) (b : List ℕ) (G2 G3 : List ℕ) where
-  abbrev Turn : ℕ → Type 0
-  Turn k = faultOf st k b ≡ 0
-      → lettersWalk b (bodyLen k) (lettersOwed k b (st .left)) ≡ lettersIn (drop (bodyLen k) b) 0 (lettersOwed k b (st .left)) ++ (G2 ++ G3)
-      → (k ≡ 3 → G2 ≡ [])
-      → lettersIn (4 ∷ b) 0 (lettersGiven k (st .left)) ++ lettersWalk b (bodyLen k) (lettersOwed k b (st .left))
-      ≡ lettersIn (k ∷ b) 0 (st .left) ++ ((lettersHere 2 k b ++ G2) ++ (lettersHere 3 k b ++ G3))
+  abbrev owed : Kind → ℕ
+  owed kind = lettersOwed kind (countOf kind b) (st .left)
 
-  turn-letters : Turn 4
-  unfolding lettersHere bodyLen
-  turn-letters f w g = grown (lettersIn (4 ∷ b) 0 (lettersGiven 4 (st .left))) (lettersIn (drop 16 b) 0 (lettersOwed 4 b (st .left))) (G2 ++ G3) _ (lettersIn (4 ∷ b) 0 (st .left)) w (in-record b (st .left))
+  abbrev Turn : Kind → Type 0
+  Turn kind = faultOf st kind b ≡ 0
+      → lettersWalk b (bodyLen kind) (owed kind) ≡ lettersIn (drop (bodyLen kind) b) 0 (owed kind) ++ (G2 ++ G3)
+      → (isPart kind ≡ true → G2 ≡ [])
+      → lettersIn (4 ∷ b) 0 (lettersGiven kind (st .left)) ++ lettersWalk b (bodyLen kind) (owed kind)
+      ≡ lettersIn (4 ∷ b) 0 (st .left) ++ ((variantLettersHere kind b ++ G2) ++ (partLettersHere kind b ++ G3))
 
-  module _ (k : ℕ) (other : k ≡ 4 → ⊥) where
-    none-given : lettersGiven k (st .left) ≡ 0
-    unfolding lettersGiven
-    none-given = rw (ne-eqb k 4 other)
+  turn-letters : Turn Letters
+  unfolding variantLettersHere partLettersHere bodyLen countOf
+  turn-letters f w g = grown (lettersIn (4 ∷ b) 0 (lettersGiven Letters (st .left))) (lettersIn (drop 16 b) 0 (owed Letters)) (G2 ++ G3) _ (lettersIn (4 ∷ b) 0 (st .left)) w (in-record b (st .left))
 
-    announced : lettersOwed k b (st .left) ≡ countOf k b
-    unfolding lettersOwed
-    announced = rw (ne-eqb k 4 other)
-
-  turn-variant : Turn 2
-  unfolding lettersHere lettersAfter lettersGiven lettersOwed lettersIn bodyLen
+  turn-variant : Turn Variant
+  unfolding variantLettersHere partLettersHere lettersAfter lettersGiven lettersOwed lettersIn bodyLen
   turn-variant f w g =
-      let owed : st .left ≡ 0 = owed-none st 2 (none-placed st 2 b f) (λ e. omega arith) in
-      let whole : 25 ≤ length b = none-whole st 2 b f in
-      rw (owed, le-ltb (length b) 25 whole) (w ∙ sym (append-assoc (lettersIn (drop 25 b) 0 (countOf 2 b)) G2 G3))
+      let none : st .left ≡ 0 = owed-none st Variant (none-placed st Variant b f) refl in
+      let whole : 25 ≤ length b = none-whole st Variant b f in
+      rw (none, le-ltb (length b) 25 whole) (w ∙ sym (append-assoc (lettersIn (drop 25 b) 0 (countOf Variant b)) G2 G3))
 
-  turn-part : Turn 3
-  unfolding lettersHere lettersAfter lettersGiven lettersOwed lettersIn bodyLen
+  turn-part : Turn Part
+  unfolding variantLettersHere partLettersHere lettersAfter lettersGiven lettersOwed lettersIn bodyLen
   turn-part f w g =
-      let owed : st .left ≡ 0 = owed-none st 3 (none-placed st 3 b f) (λ e. omega arith) in
-      let whole : 9 ≤ length b = none-whole st 3 b f in
-      rw (owed, le-ltb (length b) 9 whole, g refl) (w ∙ rw (g refl))
+      let none : st .left ≡ 0 = owed-none st Part (none-placed st Part b f) refl in
+      let whole : 9 ≤ length b = none-whole st Part b f in
+      rw (none, le-ltb (length b) 9 whole, g refl) (w ∙ rw (g refl))
 
-  turn-rest : (k : ℕ) → (k ≡ 2 → ⊥) → (k ≡ 3 → ⊥) → (k ≡ 4 → ⊥) → Turn k
-  unfolding lettersHere lettersIn
-  turn-rest k p q r f w g =
-      let owed : st .left ≡ 0 = owed-none st k (none-placed st k b f) r in
-      let n : lettersOwed k b (st .left) ≡ 0 = announced k r ∙ count-rest k b p q in
-      let v : lettersWalk b (bodyLen k) (lettersOwed k b (st .left)) ≡ G2 ++ G3 = w ∙ rw n in
-      rw (none-given k r, owed, ne-eqb k 2 p, ne-eqb k 3 q) (ap (λ (m : ℕ). lettersWalk b (bodyLen k) (lettersOwed k b m)) (sym owed) ∙ v)
+  turn-rest : (kind : Kind) → isVariant kind ≡ false → isPart kind ≡ false → isLetters kind ≡ false → Turn kind
+  unfolding variantLettersHere partLettersHere lettersIn lettersGiven lettersOwed
+  turn-rest kind p q r f w g =
+      let none : st .left ≡ 0 = owed-none st kind (none-placed st kind b f) r in
+      let n : countOf kind b ≡ 0 = count-rest kind b p q in
+      let v : lettersWalk b (bodyLen kind) 0 ≡ G2 ++ G3 = rw (r, n) at w in
+      rw (r, none, p, q, n) v
 
-  turn : (k : ℕ) → Turn k
-  turn k = ⊎-elim
-      (λ (t : eqb k 4 ≡ true). subst Turn (sym (eqb-true k 4 t)) turn-letters)
-      (λ (t : eqb k 4 ≡ false). ⊎-elim
-      (λ (u : eqb k 2 ≡ true). subst Turn (sym (eqb-true k 2 u)) turn-variant)
-      (λ (u : eqb k 2 ≡ false). ⊎-elim
-      (λ (v : eqb k 3 ≡ true). subst Turn (sym (eqb-true k 3 v)) turn-part)
-      (λ (v : eqb k 3 ≡ false). turn-rest k (eqb-false k 2 u) (eqb-false k 3 v) (eqb-false k 4 t))
-      (split (eqb k 3)))
-      (split (eqb k 2)))
-      (split (eqb k 4))
+  turn : (kind : Kind) → Turn kind
+  turn End = turn-rest End refl refl refl
+  turn Settings = turn-rest Settings refl refl refl
+  turn Variant = turn-variant
+  turn Part = turn-part
+  turn Letters = turn-letters
+  turn Unknown = turn-rest Unknown refl refl refl
 
-at-end : (st : State) (b : List ℕ) → faultOf st 0 b ≡ 0
-    → lettersWalk (0 ∷ b) 0 (st .left) ≡ lettersIn (0 ∷ b) 0 (st .left) ++ (gather (lettersHere 2) (0 ∷ b) 0 ++ gather (lettersHere 3) (0 ∷ b) 0)
-unfolding lettersWalk lettersGiven lettersIn lettersHere gather bodyLen
-at-end st [] f = let owed : st .left ≡ 0 = owed-none st 0 (none-placed st 0 [] f) (λ e. omega arith) in rw owed
-at-end st (x ∷ b) f = let h : length (x ∷ b) ≤ 0 = none-last st 0 (x ∷ b) f refl in let z : ⊥ = omega arith in absurd z
+at-end : (st : State) (k : ℕ) → kindOf k ≡ End → st .left ≡ 0
+    → lettersWalk (k ∷ []) 0 (st .left) ≡ lettersIn (k ∷ []) 0 (st .left) ++ (gather variantLettersHere (k ∷ []) 0 ++ gather partLettersHere (k ∷ []) 0)
+unfolding lettersWalk lettersGiven lettersIn variantLettersHere partLettersHere gather
+at-end st k e none = rw (none, e)
 
-part-phase : (st : State) (k : ℕ) (b : List ℕ) → k ≡ 3 → after st k b .phase ≡ 2
+part-phase : (st : State) (kind : Kind) (b : List ℕ) → isPart kind ≡ true → after st kind b .phase ≡ 2
 unfolding after
-part-phase st k b x = rw (eq-eqb k 3 x)
+part-phase st kind b x = rw x
+
+-- the first byte is no letter
+any-first : (j k : ℕ) (b : List ℕ) (i n : ℕ) → lettersIn (j ∷ b) i n ≡ lettersIn (k ∷ b) i n
+unfolding lettersIn
+any-first j k b i zero = refl
+any-first j k b i (suc n) = let e : 1 + i + i / 16 ≡ suc (i + i / 16) = omega arith in rw (e, any-first j k b (suc i) n)
 
 -- the letters owed, and then those of the records behind
 owed-first : (s : List ℕ) (n : ℕ) (st : State) (c : Counts) → run s n st ≡ Good c
-    → lettersWalk s n (st .left) ≡ lettersIn (drop n s) 0 (st .left) ++ (gather (lettersHere 2) s n ++ gather (lettersHere 3) s n)
+    → lettersWalk s n (st .left) ≡ lettersIn (drop n s) 0 (st .left) ++ (gather variantLettersHere s n ++ gather partLettersHere s n)
 unfolding run gather lettersWalk after lettersOwed
 owed-first [] n st c e = let z : _≡_ {A = ℕ} 1 0 = cc in absurd (never z)
 owed-first (k ∷ b) (suc n) st c e = owed-first b n st c e
 owed-first (k ∷ b) zero st c e =
-    let h = sound st k b c e in
+    let h = sound st (kindOf k) b c (run b (bodyLen (kindOf k)) (after st (kindOf k) b)) e in
     ⊎-elim
-    (λ (z : k ≡ 0). subst (λ (j : ℕ). lettersWalk (j ∷ b) 0 (st .left) ≡ lettersIn (j ∷ b) 0 (st .left) ++ (gather (lettersHere 2) (j ∷ b) 0 ++ gather (lettersHere 3) (j ∷ b) 0))
-    (sym z) (at-end st b (subst (λ (j : ℕ). faultOf st j b ≡ 0) z (h .0))))
-    (λ (r : run b (bodyLen k) (after st k b) ≡ Good c).
-    turn st b (gather (lettersHere 2) b (bodyLen k)) (gather (lettersHere 3) b (bodyLen k)) k (h .0) (owed-first b (bodyLen k) (after st k b) c r)
-    (λ (x : k ≡ 3). no-more-variants b (bodyLen k) (after st k b) c r (part-phase st k b x)))
+    (λ (z : isEnd (kindOf k) ≡ true).
+    let i : kindOf k ≡ End = end-kind (kindOf k) z in
+    let o : st .left ≡ 0 = owed-none st (kindOf k) (none-placed st (kindOf k) b (h .0)) (ap isLetters i) in
+    subst (λ (l : List ℕ). lettersWalk (k ∷ l) 0 (st .left) ≡ lettersIn (k ∷ l) 0 (st .left) ++ (gather variantLettersHere (k ∷ l) 0 ++ gather partLettersHere (k ∷ l) 0))
+    (sym (end-empty st (kindOf k) b (h .0) z)) (at-end st k i o))
+    (λ (r : run b (bodyLen (kindOf k)) (after st (kindOf k) b) ≡ Good c).
+    rw (any-first k 4 b 0 (st .left)) (turn st b (gather variantLettersHere b (bodyLen (kindOf k))) (gather partLettersHere b (bodyLen (kindOf k))) (kindOf k) (h .0)
+    (owed-first b (bodyLen (kindOf k)) (after st (kindOf k) b) c r)
+    (λ (x : isPart (kindOf k) ≡ true). no-more-variants b (bodyLen (kindOf k)) (after st (kindOf k) b) c r (part-phase st (kindOf k) b x))))
     (h .1)
 
-pub in-order : (s : List ℕ) (c : Counts) → run s 0 outset ≡ Good c → lettersWalk s 0 0 ≡ gather (lettersHere 2) s 0 ++ gather (lettersHere 3) s 0
+pub in-order : (s : List ℕ) (c : Counts) → run s 0 outset ≡ Good c → lettersWalk s 0 0 ≡ gather variantLettersHere s 0 ++ gather partLettersHere s 0
 unfolding lettersIn
 in-order s c e = owed-first s 0 outset c e

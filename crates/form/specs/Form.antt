@@ -1,10 +1,13 @@
 -- Document 01, "Job form": records of one byte of kind and a body, and the first fault, front to back.
 use Prim.Native.Nat.{ℕ, zero, suc, _+_, _-_}
 use mathlib.Core.List.{List, [], _∷_}
-use mathlib.Core.Bool.{Bool, true, cond, not, _&&_, _||_}
+use mathlib.Core.Bool.{Bool, true, false, cond, not, _&&_}
 use lib.ListN.{getD, length, take, drop}
 use lib.Dec.{ltb, leb, eqb}
 use Rattle.fields.specs.Fields.{le4}
+use Rattle.form.specs.declared.records.Kind.{Kind}
+use Rattle.form.specs.declared.records.Kind.the-variants.{End, Settings, Variant, Part, Letters, Unknown}
+use Rattle.form.specs.declared.records.Record.{Record}
 use Rattle.form.specs.declared.records.Shape.{Shape}
 use Rattle.form.specs.declared.records.State.{State}
 use Rattle.form.specs.declared.records.Counts.{Counts}
@@ -27,6 +30,41 @@ partKind = 3
 abbrev pub lettersKind : ℕ
 lettersKind = 4
 
+unfoldable pub kindOf : ℕ → Kind
+kindOf byte =
+    cond (eqb byte endKind) End
+    (cond (eqb byte settingsKind) Settings
+    (cond (eqb byte variantKind) Variant
+    (cond (eqb byte partKind) Part
+    (cond (eqb byte lettersKind) Letters Unknown))))
+
+-- one value for each kind
+abbrev pub byKind : {A : Type 0} → A → A → A → A → A → A → Kind → A
+byKind end settings variant part letters unknown End = end
+byKind end settings variant part letters unknown Settings = settings
+byKind end settings variant part letters unknown Variant = variant
+byKind end settings variant part letters unknown Part = part
+byKind end settings variant part letters unknown Letters = letters
+byKind end settings variant part letters unknown Unknown = unknown
+
+abbrev pub isEnd : Kind → Bool
+isEnd kind = byKind true false false false false false kind
+
+abbrev pub isSettings : Kind → Bool
+isSettings kind = byKind false true false false false false kind
+
+abbrev pub isVariant : Kind → Bool
+isVariant kind = byKind false false true false false false kind
+
+abbrev pub isPart : Kind → Bool
+isPart kind = byKind false false false true false false kind
+
+abbrev pub isLetters : Kind → Bool
+isLetters kind = byKind false false false false true false kind
+
+abbrev pub isUnknown : Kind → Bool
+isUnknown kind = byKind false false false false false true kind
+
 -- how long the bodies of settings, variant, part and letters are
 abbrev pub settingsLen : ℕ
 settingsLen = 40
@@ -44,63 +82,73 @@ lettersLen = 16
 abbrev pub shape : ℕ → ℕ → ℕ → ℕ → Shape
 shape body flags flagCount count = record { body = body; flags = flags; «flag_count» = flagCount; count = count }
 
--- settings, variant, part, letters, and the end or what is unknown
-abbrev pub shapeOf : ℕ → Shape
-shapeOf k =
-    cond (eqb k settingsKind) (shape settingsLen 1 3 0)
-    (cond (eqb k variantKind) (shape variantLen 20 1 21)
-    (cond (eqb k partKind) (shape partLen 4 1 5)
-    (cond (eqb k lettersKind) (shape lettersLen 0 0 0) (shape 0 0 0 0))))
+-- the one table of kinds
+abbrev pub shapeOf : Kind → Shape
+shapeOf End = shape 0 0 0 0
+shapeOf Settings = shape settingsLen 1 3 0
+shapeOf Variant = shape variantLen 20 1 21
+shapeOf Part = shape partLen 4 1 5
+shapeOf Letters = shape lettersLen 0 0 0
+shapeOf Unknown = shape 0 0 0 0
 
-unfoldable pub bodyLen : ℕ → ℕ
-bodyLen k = shapeOf k .body
+unfoldable pub bodyLen : Kind → ℕ
+bodyLen kind = shapeOf kind .body
 
 -- While letters are owed, only they may follow. Phase 0: settings; 1: variants, parts and the end; 2: parts and the end.
-unfoldable pub inPlace : State → ℕ → Bool
-inPlace st k =
-    cond (ltb 0 (st .left)) (eqb k lettersKind)
-    (cond (eqb (st .phase) 0) (eqb k settingsKind)
-    (cond (eqb k variantKind) (eqb (st .phase) 1) (eqb k partKind || eqb k endKind)))
+unfoldable pub inPlace : State → Kind → Bool
+inPlace st Letters = ltb 0 (st .left)
+inPlace st Settings = eqb (st .left) 0 && eqb (st .phase) 0
+inPlace st Variant = eqb (st .left) 0 && eqb (st .phase) 1
+inPlace st Part = eqb (st .left) 0 && ltb 0 (st .phase)
+inPlace st End = eqb (st .left) 0 && ltb 0 (st .phase)
+inPlace st Unknown = false
 
 -- n flags from the i-th byte on
 abbrev pub areFlags : List ℕ → ℕ → ℕ → Bool
 areFlags b i zero = true
 areFlags b i (suc n) = ltb (getD b i 0) 2 && areFlags b (suc i) n
 
-unfoldable pub flagsOk : ℕ → List ℕ → Bool
-flagsOk k b = areFlags b (shapeOf k .flags) (shapeOf k .«flag_count»)
+unfoldable pub flagsOk : Kind → List ℕ → Bool
+flagsOk kind b = areFlags b (shapeOf kind .flags) (shapeOf kind .«flag_count»)
 
 -- how many letters a record announces
-unfoldable pub countOf : ℕ → List ℕ → ℕ
-countOf k b = cond (eqb (shapeOf k .count) 0) 0 (le4 b (shapeOf k .count))
+unfoldable pub countOf : Kind → List ℕ → ℕ
+countOf kind b = cond (eqb (shapeOf kind .count) 0) 0 (le4 b (shapeOf kind .count))
+
+-- the record at a place: its kind, how many letters it announces, and where the next one begins; behind the last byte there is none
+abbrev pub recordOf : Kind → List ℕ → ℕ → Record
+recordOf kind b at = record { kind = kind; count = countOf kind b; next = at + 1 + bodyLen kind }
+
+unfoldable pub recordAt : List ℕ → ℕ → Record
+recordAt s at = cond (ltb at (length s)) (recordOf (kindOf (getD s at 0)) (drop (suc at) s) at) (record { kind = Unknown; count = 0; next = at })
 
 abbrev pub allZero : List ℕ → Bool
 allZero [] = true
 allZero (x ∷ xs) = eqb x 0 && allZero xs
 
 -- zeros behind the last of the letters that are owed
-unfoldable pub padOk : State → ℕ → List ℕ → Bool
-padOk st k b = cond (eqb k lettersKind) (allZero (drop (st .left) (take lettersLen b))) true
+unfoldable pub padOk : State → Kind → List ℕ → Bool
+padOk st kind b = cond (isLetters kind) (allZero (drop (st .left) (take lettersLen b))) true
 
--- the first fault of the record of kind k with b from its body on, or 0
-unfoldable pub faultOf : State → ℕ → List ℕ → ℕ
-faultOf st k b =
-    cond (ltb lettersKind k) 20
-    (cond (ltb (length b) (bodyLen k)) 21
-    (cond (not (inPlace st k)) 22
-    (cond (not (flagsOk k b)) 24
-    (cond (ltb 131072 (countOf k b)) 13
-    (cond (not (padOk st k b)) 23
-    (cond (eqb k endKind && ltb 0 (length b)) 25 0))))))
+-- the first fault of a record with b from its body on, or 0
+unfoldable pub faultOf : State → Kind → List ℕ → ℕ
+faultOf st kind b =
+    cond (isUnknown kind) 20
+    (cond (ltb (length b) (bodyLen kind)) 21
+    (cond (not (inPlace st kind)) 22
+    (cond (not (flagsOk kind b)) 24
+    (cond (ltb 131072 (countOf kind b)) 13
+    (cond (not (padOk st kind b)) 23
+    (cond (isEnd kind && ltb 0 (length b)) 25 0))))))
 
 -- what is known after a record with no fault
-unfoldable pub after : State → ℕ → List ℕ → State
-after st k b = record {
-  phase = cond (eqb k partKind) 2 (cond (eqb k settingsKind) 1 (st .phase));
-  left = cond (eqb k lettersKind) (cond (leb (st .left) lettersLen) 0 (st .left - lettersLen)) (countOf k b);
-  variants = cond (eqb k variantKind) (st .variants + 1) (st .variants);
-  parts = cond (eqb k partKind) (st .parts + 1) (st .parts);
-  letters = cond (eqb k lettersKind) (st .letters + cond (leb (st .left) lettersLen) (st .left) lettersLen) (st .letters);
+unfoldable pub after : State → Kind → List ℕ → State
+after st kind b = record {
+  phase = cond (isPart kind) 2 (cond (isSettings kind) 1 (st .phase));
+  left = cond (isLetters kind) (cond (leb (st .left) lettersLen) 0 (st .left - lettersLen)) (countOf kind b);
+  variants = cond (isVariant kind) (st .variants + 1) (st .variants);
+  parts = cond (isPart kind) (st .parts + 1) (st .parts);
+  letters = cond (isLetters kind) (st .letters + cond (leb (st .left) lettersLen) (st .left) lettersLen) (st .letters);
 }
 
 abbrev pub outset : State
@@ -109,11 +157,11 @@ outset = record { phase = 0; left = 0; variants = 0; parts = 0; letters = 0 }
 abbrev pub counted : State → Counts
 counted st = record { variants = st .variants; parts = st .parts; letters = st .letters }
 
-abbrev pub judge : ℕ → ℕ → State → Scan → Scan
-judge f k st rest = cond (eqb f 0) (cond (eqb k endKind) (Good (counted st)) rest) (Refused f)
+abbrev pub judge : ℕ → Kind → State → Scan → Scan
+judge f kind st rest = cond (eqb f 0) (cond (isEnd kind) (Good (counted st)) rest) (Refused f)
 
 -- Reads the bytes front to back, of which the first n belong to a record that was read already.
 unfoldable pub run : List ℕ → ℕ → State → Scan
 run [] n st = Refused 21
 run (k ∷ b) (suc n) st = run b n st
-run (k ∷ b) zero st = judge (faultOf st k b) k st (run b (bodyLen k) (after st k b))
+run (k ∷ b) zero st = judge (faultOf st (kindOf k) b) (kindOf k) st (run b (bodyLen (kindOf k)) (after st (kindOf k) b))

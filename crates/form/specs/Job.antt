@@ -9,7 +9,9 @@ use lib.Dec.{ltb, eqb}
 use Rattle.params.specs.declared.Settings.{Settings}
 use Rattle.fields.specs.Fields.{le4, le8, signedOf, bytes4, bytes8, wordOf}
 use Rattle.form.specs.Settings40.{settingsIn, settingsBytes, flag}
-use Rattle.form.specs.Form.{endKind, settingsKind, variantKind, partKind, lettersKind, variantLen, partLen, lettersLen, shapeOf, bodyLen, countOf, run, outset}
+use Rattle.form.specs.Form.{endKind, settingsKind, variantKind, partKind, lettersKind, variantLen, partLen, lettersLen, kindOf, isVariant, isPart, shapeOf, bodyLen, countOf, run, outset}
+use Rattle.form.specs.declared.records.Kind.{Kind}
+use Rattle.form.specs.declared.records.Kind.the-variants.{Variant as VariantRecord, Part as PartRecord}
 use Rattle.form.specs.declared.records.Scan.{Scan}
 use Rattle.form.specs.declared.records.Scan.the-variants.{Good, Refused}
 
@@ -35,38 +37,38 @@ unfoldable pub lettersIn : List ℕ → ℕ → ℕ → List ℕ
 lettersIn b i zero = []
 lettersIn b i (suc n) = getD b (1 + i + i / lettersLen) 0 ∷ lettersIn b (suc i) n
 
--- the letters behind the record of kind k with b from its body on
-unfoldable pub lettersAfter : ℕ → List ℕ → List ℕ
-lettersAfter k b = lettersIn (drop (bodyLen k) b) 0 (countOf k b)
+-- the letters behind a record with b from its body on
+unfoldable pub lettersAfter : Kind → List ℕ → List ℕ
+lettersAfter kind b = lettersIn (drop (bodyLen kind) b) 0 (countOf kind b)
 
 unfoldable pub variantOf : List ℕ → Variant
 variantOf b = record {
   start = le8 b 0;
   end = le8 b 8;
   size = signedOf (le4 b 16);
-  negative = eqb (getD b (shapeOf variantKind .flags) 0) 1;
-  letters = lettersAfter variantKind b;
+  negative = eqb (getD b (shapeOf VariantRecord .flags) 0) 1;
+  letters = lettersAfter VariantRecord b;
 }
 
 unfoldable pub partOf : List ℕ → Part
 partOf b = record {
   size = signedOf (le4 b 0);
-  negative = eqb (getD b (shapeOf partKind .flags) 0) 1;
-  letters = lettersAfter partKind b;
+  negative = eqb (getD b (shapeOf PartRecord .flags) 0) 1;
+  letters = lettersAfter PartRecord b;
 }
 
 -- what a whole record adds to the variants, and to the parts
-unfoldable pub variantHere : ℕ → List ℕ → List Variant
-variantHere k b = cond (eqb k variantKind) (cond (ltb (length b) variantLen) [] (variantOf b ∷ [])) []
+unfoldable pub variantHere : Kind → List ℕ → List Variant
+variantHere kind b = cond (isVariant kind) (cond (ltb (length b) variantLen) [] (variantOf b ∷ [])) []
 
-unfoldable pub partHere : ℕ → List ℕ → List Part
-partHere k b = cond (eqb k partKind) (cond (ltb (length b) partLen) [] (partOf b ∷ [])) []
+unfoldable pub partHere : Kind → List ℕ → List Part
+partHere kind b = cond (isPart kind) (cond (ltb (length b) partLen) [] (partOf b ∷ [])) []
 
 -- what the records of a form add, front to back; the first n bytes belong to a record that was read already
-unfoldable pub gather : {A : Type 0} → (ℕ → List ℕ → List A) → List ℕ → ℕ → List A
+unfoldable pub gather : {A : Type 0} → (Kind → List ℕ → List A) → List ℕ → ℕ → List A
 gather here [] n = []
 gather here (k ∷ b) (suc n) = gather here b n
-gather here (k ∷ b) zero = here k b ++ gather here b (bodyLen k)
+gather here (k ∷ b) zero = here (kindOf k) b ++ gather here b (bodyLen (kindOf k))
 
 unfoldable pub jobOf : List ℕ → Job
 jobOf s = record { settings = settingsIn (drop 1 s); variants = gather variantHere s 0; parts = gather partHere s 0 }

@@ -5,17 +5,22 @@ use mathlib.Core.Path.{_≡_}
 use mathlib.Core.List.{List}
 use lib.Seq.{sets}
 use Rattle.params.specs.declared.Settings.{Settings}
-use Rattle.form.specs.Form.{bodyLen, countOf}
+use Rattle.form.specs.Form.{kindOf, bodyLen, recordAt}
 use Rattle.form.specs.Settings40.{settingsIn, settingsBytes}
 use Rattle.form.specs.Job.{readJob}
 use Rattle.form.specs.Lent.{scanOf}
+use Rattle.form.specs.declared.records.Kind.{Kind}
+use Rattle.form.specs.declared.records.Record.{Record}
 use Rattle.form.specs.declared.records.Scan.{Scan}
 
-abbrev pub BodyLenPromise : ℕ → ℕ → Type 0
-BodyLenPromise k r = r ≡ bodyLen k
+abbrev pub KindOfPromise : ℕ → Kind → Type 0
+KindOfPromise byte r = r ≡ kindOf byte
 
-abbrev pub CountOfPromise : ℕ → List ℕ → ℕ → Type 0
-CountOfPromise k b r = r ≡ countOf k b
+abbrev pub BodyLenPromise : Kind → ℕ → Type 0
+BodyLenPromise kind r = r ≡ bodyLen kind
+
+abbrev pub RecordAtPromise : List ℕ → ℕ → Record → Type 0
+RecordAtPromise s at r = r ≡ recordAt s at
 
 abbrev pub ScanPromise : List ℕ → Scan → Type 0
 ScanPromise bytes r = r ≡ scanOf (readJob bytes)

@@ -4,35 +4,42 @@ use mathlib.Core.Path.{_≡_}
 use mathlib.Core.List.{List, [], _∷_, _++_}
 use mathlib.Core.Bool.{cond}
 use lib.ListN.{length}
-use lib.Dec.{ltb, leb, eqb}
-use Rattle.form.specs.Form.{lettersKind, lettersLen, bodyLen, countOf, after}
+use lib.Dec.{ltb, leb}
+use Rattle.form.specs.Form.{lettersKind, lettersLen, kindOf, isVariant, isPart, isLetters, bodyLen, countOf, after}
 use Rattle.form.specs.Job.{lettersIn, lettersAfter}
+use Rattle.form.specs.declared.records.Kind.{Kind}
+use Rattle.form.specs.declared.records.Kind.the-variants.{Variant, Part}
 use Rattle.form.specs.declared.records.State.{State}
 
 -- a state that a record with no fault leads to, with bounds that keep the counts within the input's length
-pub record Next (st : State) (k : ℕ) (b : List ℕ) (r : State) : Type 0 where
-  pub is : r ≡ after st k b
+pub record Next (st : State) (kind : Kind) (b : List ℕ) (r : State) : Type 0 where
+  pub is : r ≡ after st kind b
   pub variants-grow : r .variants ≤ st .variants + 1
   pub parts-grow : r .parts ≤ st .parts + 1
-  pub letters-grow : r .letters ≤ st .letters + bodyLen k
+  pub letters-grow : r .letters ≤ st .letters + bodyLen kind
 
 -- counts that leave room for one more record
 abbrev pub Small : State → ℕ → Type 0
 Small st n = (st .variants ≤ n) × ((st .parts ≤ n) × (st .letters ≤ n))
 
--- the letters behind a record of one kind
-unfoldable pub lettersHere : ℕ → ℕ → List ℕ → List ℕ
-lettersHere kind k b = cond (eqb k kind) (cond (ltb (length b) (bodyLen kind)) [] (lettersAfter kind b)) []
+-- the letters behind a variant, and behind a part
+unfoldable pub variantLettersHere : Kind → List ℕ → List ℕ
+variantLettersHere kind b = cond (isVariant kind) (cond (ltb (length b) (bodyLen Variant)) [] (lettersAfter Variant b)) []
 
--- of the letters that are owed, those that the record of kind k gives, and those owed behind it
-unfoldable pub lettersGiven : ℕ → ℕ → ℕ
-lettersGiven k left = cond (eqb k lettersKind) (cond (leb left lettersLen) left lettersLen) 0
+unfoldable pub partLettersHere : Kind → List ℕ → List ℕ
+partLettersHere kind b = cond (isPart kind) (cond (ltb (length b) (bodyLen Part)) [] (lettersAfter Part b)) []
 
-unfoldable pub lettersOwed : ℕ → List ℕ → ℕ → ℕ
-lettersOwed k b left = cond (eqb k lettersKind) (cond (leb left lettersLen) 0 (left - lettersLen)) (countOf k b)
+-- of the letters that are owed, those that a record gives, and those owed behind it
+unfoldable pub lettersGiven : Kind → ℕ → ℕ
+lettersGiven kind left = cond (isLetters kind) (cond (leb left lettersLen) left lettersLen) 0
+
+-- a record that announces count letters
+unfoldable pub lettersOwed : Kind → ℕ → ℕ → ℕ
+lettersOwed kind count left = cond (isLetters kind) (cond (leb left lettersLen) 0 (left - lettersLen)) count
 
 -- the letters in the order of the bytes, of which the first n belong to a record that was read already
 unfoldable pub lettersWalk : List ℕ → ℕ → ℕ → List ℕ
 lettersWalk [] n left = []
 lettersWalk (k ∷ b) (suc n) left = lettersWalk b n left
-lettersWalk (k ∷ b) zero left = lettersIn (lettersKind ∷ b) 0 (lettersGiven k left) ++ lettersWalk b (bodyLen k) (lettersOwed k b left)
+lettersWalk (k ∷ b) zero left =
+    lettersIn (lettersKind ∷ b) 0 (lettersGiven (kindOf k) left) ++ lettersWalk b (bodyLen (kindOf k)) (lettersOwed (kindOf k) (countOf (kindOf k) b) left)

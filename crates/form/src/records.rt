@@ -12,9 +12,10 @@ ghost use mathlib.Core.Path.{_≡_};
 ghost use mathlib.Core.List.{[]};
 ghost use Prim.Native.Nat.{_≤_, _+_, _^_};
 ghost use lib.ListN.{length, drop, take};
-ghost use Rattle.form.specs.Form.{lettersKind, shapeOf, bodyLen, inPlace, areFlags, flagsOk, allZero, padOk, faultOf, outset, run};
+ghost use Rattle.form.specs.Form.{isEnd, isLetters, isUnknown, shapeOf, bodyLen, inPlace, areFlags, flagsOk, countOf, allZero, padOk, faultOf, outset, run};
+ghost use Rattle.form.specs.declared.records.Kind.the-variants.{Letters};
 ghost use Rattle.form.specs.Steps.{Next, Small};
-ghost use Rattle.form.specs.Promises.{BodyLenPromise, CountOfPromise};
+ghost use Rattle.form.specs.Promises.{KindOfPromise, BodyLenPromise, RecordAtPromise};
 
 // What is known between two records: which kinds may follow, how many letters are owed, and the counts so far.
 pub struct State {
@@ -34,6 +35,22 @@ pub struct Counts {
 pub enum Scan {
     Refused(u32),
     Good(Counts),
+}
+
+pub enum Kind {
+    End,
+    Settings,
+    Variant,
+    Part,
+    Letters,
+    Unknown,
+}
+
+// A record's kind, how many letters it announces, and where the next one begins.
+pub struct Record {
+    pub kind: Kind,
+    pub count: u32,
+    pub next: usize,
 }
 
 // the byte that begins a record
@@ -85,36 +102,56 @@ pub struct Shape {
     pub count: usize,
 }
 
-// The one table of kinds: settings, variant, part, letters, and the end or what is unknown.
-fn shape_of(k: u8) -> Shape
-    ensures { λ r. ⌜ r ≡ shapeOf k ⌝ }
+// The kind that a record's first byte says.
+pub fn kind_of(byte: u8) -> Kind
+    ensures { λ r. ⌜ KindOfPromise byte r ⌝ }
 {
-    match k {
-        1 => Shape {
+    match byte {
+        0 => Kind::End,
+        1 => Kind::Settings,
+        2 => Kind::Variant,
+        3 => Kind::Part,
+        4 => Kind::Letters,
+        _ => Kind::Unknown,
+    }
+}
+
+// The one table of kinds.
+fn shape_of(kind: Kind) -> Shape
+    ensures { λ r. ⌜ r ≡ shapeOf kind ⌝ }
+{
+    match kind {
+        Kind::Settings => Shape {
             body: SETTINGS_BODY,
             flags: 1,
             flag_count: 3,
             count: 0,
         },
-        2 => Shape {
+        Kind::Variant => Shape {
             body: VARIANT_BODY,
             flags: VARIANT_FLAG,
             flag_count: 1,
             count: VARIANT_COUNT,
         },
-        3 => Shape {
+        Kind::Part => Shape {
             body: PART_BODY,
             flags: PART_FLAG,
             flag_count: 1,
             count: PART_COUNT,
         },
-        4 => Shape {
+        Kind::Letters => Shape {
             body: LETTERS_BODY,
             flags: 0,
             flag_count: 0,
             count: 0,
         },
-        _ => Shape {
+        Kind::End => Shape {
+            body: 0,
+            flags: 0,
+            flag_count: 0,
+            count: 0,
+        },
+        Kind::Unknown => Shape {
             body: 0,
             flags: 0,
             flag_count: 0,
@@ -124,26 +161,63 @@ fn shape_of(k: u8) -> Shape
 }
 
 // How long a kind's body is; 0 where it has none or is unknown.
-pub fn body_len(k: u8) -> usize
-    ensures { λ r. ⌜ BodyLenPromise k r ⌝ }
+pub fn body_len(kind: Kind) -> usize
+    ensures { λ r. ⌜ BodyLenPromise kind r ⌝ }
 {
-    let s = shape_of(k);
+    let s = shape_of(kind);
     s.body
 }
 
-fn in_place(st: State, k: u8) -> bool
-    ensures { λ r. ⌜ r ≡ inPlace st k ⌝ }
+fn is_end(kind: Kind) -> bool
+    ensures { λ r. ⌜ r ≡ isEnd kind ⌝ }
 {
-    if 0 < st.left {
-        return k == LETTERS;
+    match kind {
+        Kind::End => true,
+        Kind::Settings => false,
+        Kind::Variant => false,
+        Kind::Part => false,
+        Kind::Letters => false,
+        Kind::Unknown => false,
     }
-    if st.phase == 0 {
-        return k == SETTINGS;
+}
+
+fn is_letters(kind: Kind) -> bool
+    ensures { λ r. ⌜ r ≡ isLetters kind ⌝ }
+{
+    match kind {
+        Kind::End => false,
+        Kind::Settings => false,
+        Kind::Variant => false,
+        Kind::Part => false,
+        Kind::Letters => true,
+        Kind::Unknown => false,
     }
-    if k == VARIANT {
-        return st.phase == 1;
+}
+
+fn is_unknown(kind: Kind) -> bool
+    ensures { λ r. ⌜ r ≡ isUnknown kind ⌝ }
+{
+    match kind {
+        Kind::End => false,
+        Kind::Settings => false,
+        Kind::Variant => false,
+        Kind::Part => false,
+        Kind::Letters => false,
+        Kind::Unknown => true,
     }
-    k == PART || k == END
+}
+
+fn in_place(st: State, kind: Kind) -> bool
+    ensures { λ r. ⌜ r ≡ inPlace st kind ⌝ }
+{
+    match kind {
+        Kind::Letters => 0 < st.left,
+        Kind::Settings => st.left == 0 && st.phase == 0,
+        Kind::Variant => st.left == 0 && st.phase == 1,
+        Kind::Part => st.left == 0 && 0 < st.phase,
+        Kind::End => st.left == 0 && 0 < st.phase,
+        Kind::Unknown => false,
+    }
 }
 
 fn are_flags(b: &[u8], from: usize, n: usize) -> bool
@@ -160,22 +234,41 @@ fn are_flags(b: &[u8], from: usize, n: usize) -> bool
     true
 }
 
-fn flags_ok(k: u8, b: &[u8]) -> bool
-    ensures { λ r. ⌜ r ≡ flagsOk k (now (b .entry)) ⌝ }
+fn flags_ok(kind: Kind, b: &[u8]) -> bool
+    ensures { λ r. ⌜ r ≡ flagsOk kind (now (b .entry)) ⌝ }
 {
-    let s = shape_of(k);
+    let s = shape_of(kind);
     are_flags(b, s.flags, s.flag_count)
 }
 
-// How many letters the record of kind k with b from its body on announces.
-pub fn count_of(k: u8, b: &[u8]) -> u32
-    ensures { λ r. ⌜ CountOfPromise k (now (b .entry)) r ⌝ }
+// How many letters a record with b from its body on announces.
+fn count_of(kind: Kind, b: &[u8]) -> u32
+    ensures { λ r. ⌜ r ≡ countOf kind (now (b .entry)) ⌝ }
 {
-    let s = shape_of(k);
+    let s = shape_of(kind);
     if s.count == 0 {
         return 0;
     }
     u32_at(b, s.count)
+}
+
+// The record at a place: one step of every walk over a form. Behind the last byte there is none, and the step goes nowhere.
+pub fn record_at(s: &[u8], at: usize) -> Record
+    ensures { λ r. ⌜ RecordAtPromise (now (s .entry)) at r ⌝ }
+{
+    if s.len() <= at {
+        return Record {
+            kind: Kind::Unknown,
+            count: 0,
+            next: at,
+        };
+    }
+    let kind = kind_of(s[at]);
+    Record {
+        kind: kind,
+        count: count_of(kind, &s[at + 1..]),
+        next: at + 1 + body_len(kind),
+    }
 }
 
 fn all_zero(b: &[u8], from: usize, to: usize) -> bool
@@ -192,38 +285,38 @@ fn all_zero(b: &[u8], from: usize, to: usize) -> bool
     true
 }
 
-fn pad_ok(st: State, k: u8, b: &[u8]) -> bool
-    requires { ⌜ bodyLen k ≤ length (now b) ⌝ }
-    ensures { λ r. ⌜ r ≡ padOk st k (now (b .entry)) ⌝ }
+fn pad_ok(st: State, kind: Kind, b: &[u8]) -> bool
+    requires { ⌜ bodyLen kind ≤ length (now b) ⌝ }
+    ensures { λ r. ⌜ r ≡ padOk st kind (now (b .entry)) ⌝ }
 {
-    if k == LETTERS {
+    if is_letters(kind) {
         return all_zero(b, st.left as usize, LETTERS_BODY);
     }
     true
 }
 
-fn fault_of(st: State, k: u8, b: &[u8]) -> u32
-    ensures { λ r. ⌜ r ≡ faultOf st k (now (b .entry)) ⌝ }
+fn fault_of(st: State, kind: Kind, b: &[u8]) -> u32
+    ensures { λ r. ⌜ r ≡ faultOf st kind (now (b .entry)) ⌝ }
 {
-    if LETTERS < k {
+    if is_unknown(kind) {
         return UNKNOWN_KIND;
     }
-    if b.len() < body_len(k) {
+    if b.len() < body_len(kind) {
         return CUT_SHORT;
     }
-    if !in_place(st, k) {
+    if !in_place(st, kind) {
         return OUT_OF_PLACE;
     }
-    if !flags_ok(k, b) {
+    if !flags_ok(kind, b) {
         return BAD_FLAG;
     }
-    if MOST_LETTERS < count_of(k, b) {
+    if MOST_LETTERS < count_of(kind, b) {
         return TOO_MANY_LETTERS;
     }
-    if !pad_ok(st, k, b) {
+    if !pad_ok(st, kind, b) {
         return BAD_PADDING;
     }
-    if k == END {
+    if is_end(kind) {
         if 0 < b.len() {
             return BYTES_AFTER_END;
         }
@@ -233,7 +326,7 @@ fn fault_of(st: State, k: u8, b: &[u8]) -> u32
 
 fn after_letters(st: State) -> State
     requires { ⌜ st .letters ≤ 2 ^ 63 ⌝ }
-    ensures { λ r. ⌜ Next st lettersKind [] r ⌝ }
+    ensures { λ r. ⌜ Next st Letters [] r ⌝ }
 {
     let left = st.left;
     if left <= LETTERS_EACH {
@@ -254,47 +347,48 @@ fn after_letters(st: State) -> State
     }
 }
 
-fn after_record(st: State, k: u8, b: &[u8]) -> State
-    requires { ⌜ (bodyLen k ≤ length (now b)) × Small st (2 ^ 63) ⌝ }
-    ensures { λ r. ⌜ Next st k (now (b .entry)) r ⌝ }
+fn after_record(st: State, kind: Kind, b: &[u8]) -> State
+    requires { ⌜ (bodyLen kind ≤ length (now b)) × Small st (2 ^ 63) ⌝ }
+    ensures { λ r. ⌜ Next st kind (now (b .entry)) r ⌝ }
 {
-    if k == LETTERS {
-        return after_letters(st);
-    }
-    let n = count_of(k, b);
-    if k == SETTINGS {
-        return State {
+    let n = count_of(kind, b);
+    match kind {
+        Kind::Letters => after_letters(st),
+        Kind::Settings => State {
             phase: 1,
             left: n,
             variants: st.variants,
             parts: st.parts,
             letters: st.letters,
-        };
-    }
-    if k == VARIANT {
-        return State {
+        },
+        Kind::Variant => State {
             phase: st.phase,
             left: n,
             variants: st.variants + 1,
             parts: st.parts,
             letters: st.letters,
-        };
-    }
-    if k == PART {
-        return State {
+        },
+        Kind::Part => State {
             phase: 2,
             left: n,
             variants: st.variants,
             parts: st.parts + 1,
             letters: st.letters,
-        };
-    }
-    State {
-        phase: st.phase,
-        left: n,
-        variants: st.variants,
-        parts: st.parts,
-        letters: st.letters,
+        },
+        Kind::End => State {
+            phase: st.phase,
+            left: n,
+            variants: st.variants,
+            parts: st.parts,
+            letters: st.letters,
+        },
+        Kind::Unknown => State {
+            phase: st.phase,
+            left: n,
+            variants: st.variants,
+            parts: st.parts,
+            letters: st.letters,
+        },
     }
 }
 
@@ -310,21 +404,22 @@ pub(crate) fn first_fault(s: &[u8]) -> Scan
     };
     let mut at = 0usize;
     while at < s.len() {
-        let k = s[at];
+        let here = record_at(s, at);
+        let kind = here.kind;
         let b = &s[at + 1..];
-        let f = fault_of(st, k, b);
+        let f = fault_of(st, kind, b);
         if f != 0 {
             return Scan::Refused(f);
         }
-        if k == END {
+        if is_end(kind) {
             return Scan::Good(Counts {
                 variants: st.variants,
                 parts: st.parts,
                 letters: st.letters,
             });
         }
-        st = after_record(st, k, b);
-        at = at + 1 + body_len(k);
+        st = after_record(st, kind, b);
+        at = here.next;
     }
     Scan::Refused(CUT_SHORT)
 }

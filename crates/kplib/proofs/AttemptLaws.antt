@@ -18,30 +18,23 @@ use Rattle.kplib.specs.declared.pathscore.Scored.{Scored}
 use Rattle.kplib.specs.declared.pathscore.Verdict.{Verdict}
 use Rattle.kplib.specs.declared.pathscore.Best.{Best}
 use Rattle.kplib.specs.declared.plan.Plan.{Plan}
-use Rattle.kplib.proofs.WordLaws.{back}
 use Rattle.kplib.proofs.RowSumLaws.{summable, features-length, features-sum}
-use Rattle.kplib.proofs.VerdictLaws.{lost}
+use Rattle.kplib.proofs.VerdictLaws.{chain-as-read, list-as-read, lost}
 
 -- ---- two rows in one slice
 pub rest-is : (w : ℕ) (rows : List ℤ) → take (length rows - w) (drop w rows) ≡ drop w rows
 rest-is w rows = ap (λ (n : ℕ). take n (drop w rows)) (sym (length-drop w rows)) ∙ take-length (drop w rows)
 
-module _ {plan : Plan} {chainSize : ℤ} {chainLen : ℕ} {listSize : ℤ} {listLen : ℕ} {rows : List ℤ} (y : Paired plan chainSize chainLen listSize listLen rows) where
-  chain-as-read : toZ w32 (ofZ w32 chainSize) ≡ chainSize
-  chain-as-read = back chainSize (omega (arith, y .comparable .tests .chain-size))
-
-  list-as-read : toZ w32 (ofZ w32 listSize) ≡ listSize
-  list-as-read = back listSize (omega (arith, y .comparable .tests .list-size))
-
-  pub rows-comparable : Comparable (plan .s) (toZ w32 (ofZ w32 chainSize)) (take (plan .width) rows) chainLen (toZ w32 (ofZ w32 listSize))
-      (take (length rows - plan .width) (drop (plan .width) rows)) listLen (plan .m - listLen)
-  rows-comparable = rw (chain-as-read, list-as-read, rest-is (plan .width) rows) (y .comparable)
+module _ {plan : Plan} {chainSize : ℤ} {chainLen : ℕ} {listSize : ℤ} {listLen : ℕ} {scratch : List ℤ} (y : Paired plan chainSize chainLen listSize listLen scratch) where
+  pub rows-comparable : Comparable (plan .s) (toZ w32 (ofZ w32 chainSize)) (take (plan .width) scratch) chainLen (toZ w32 (ofZ w32 listSize))
+      (take (length scratch - plan .width) (drop (plan .width) scratch)) listLen (plan .m - listLen)
+  rows-comparable = rw (chain-as-read (y .comparable .tests), list-as-read (y .comparable .tests), rest-is (plan .width) scratch) (y .comparable)
 
   pub rows-scored : {v : Verdict}
-      → v ≡ listScore (plan .s) (total (toZ w32 (ofZ w32 chainSize)) (take (plan .width) rows) chainLen)
-      (total (toZ w32 (ofZ w32 listSize)) (take (length rows - plan .width) (drop (plan .width) rows)) listLen) (plan .m - listLen)
-      → v ≡ listScore (plan .s) (total chainSize (take (plan .width) rows) chainLen) (total listSize (drop (plan .width) rows) listLen) (plan .m - listLen)
-  rows-scored e = e ∙ rw (chain-as-read, list-as-read, rest-is (plan .width) rows)
+      → v ≡ listScore (plan .s) (total (toZ w32 (ofZ w32 chainSize)) (take (plan .width) scratch) chainLen)
+      (total (toZ w32 (ofZ w32 listSize)) (take (length scratch - plan .width) (drop (plan .width) scratch)) listLen) (plan .m - listLen)
+      → v ≡ listScore (plan .s) (total chainSize (take (plan .width) scratch) chainLen) (total listSize (drop (plan .width) scratch) listLen) (plan .m - listLen)
+  rows-scored e = e ∙ rw (chain-as-read (y .comparable .tests), list-as-read (y .comparable .tests), rest-is (plan .width) scratch)
 
 -- a front with a row of its own and then a rest with one
 rows-laid : (w : ℕ) (rows front rest : List ℤ) → length front ≡ w → w ≤ length rows → putMid w (length (front ++ drop w rows) - w) (front ++ drop w rows) rest ≡ front ++ rest
@@ -64,12 +57,6 @@ module _ {plan : Plan} {features : List ℤ} {chain : List ℕ} {chainSize : ℤ
   list-few : length list ≤ 64
   list-few = omega (arith, y .listed .count-is, y .listed .most, y .planned .few)
 
-  c-back : toZ w32 (ofZ w32 chainSize) ≡ chainSize
-  c-back = back chainSize (omega (arith, y .chain-size))
-
-  l-back : toZ w32 (ofZ w32 size) ≡ size
-  l-back = back size (omega (arith, y .listed .size-small))
-
   tests : Testable chainSize (length chain) size (code / 65536) partial
   tests = record {
     chain-size = y .chain-size;
@@ -80,16 +67,17 @@ module _ {plan : Plan} {features : List ℤ} {chain : List ℕ} {chainSize : ℤ
   }
 
   pub may-ok : Testable (toZ w32 (ofZ w32 chainSize)) (length chain) (toZ w32 (ofZ w32 size)) (code / 65536) (plan .m - code / 65536)
-  may-ok = rw (c-back, l-back) tests
+  may-ok = rw (chain-as-read tests, list-as-read tests) tests
 
-  pub attempt-lost : (best : Best) {t : Bool} → t ≡ mayWin (plan .s) (toZ w32 (ofZ w32 chainSize)) (length chain) (toZ w32 (ofZ w32 size)) (code / 65536) (plan .m - code / 65536) (best .scored .score)
+  pub attempt-lost : (best : Best) {t : Bool}
+      → t ≡ mayWin (plan .s) (toZ w32 (ofZ w32 chainSize)) (length chain) (toZ w32 (ofZ w32 size)) (code / 65536) (plan .m - code / 65536) (best .scored .score)
       → t ≡ false → Ready (best .summed) (take (plan .width) scratch) (featuresOf (plan .width) features chain)
       → Attempted plan features chain chainSize partFeatures code size (best .scored) best scratch
   unfolding afterCode
   attempt-lost best f h r = record {
     best-is =
         lost (plan .s) (best .scored) chainSize (featuresOf width features chain) (length chain) size (featuresOf width partFeatures list) (code / 65536) partial
-        (sym (rw (c-back, l-back) at f) ∙ h);
+        (sym (rw (chain-as-read tests, list-as-read tests) at f) ∙ h);
     ready = r;
   }
 
@@ -147,9 +135,9 @@ module _ {plan : Plan} {features : List ℤ} {chain : List ℕ} {chainSize : ℤ
         back-is = ap (λ (l : List ℤ). drop width l) both-are ∙ drop-at chainRow listRow width chain-length ∙ list-is
 
         pub paired : Paired plan (toZ w32 (ofZ w32 chainSize)) (length chain) (toZ w32 (ofZ w32 size)) (code / 65536) both
-        paired = rw (c-back, l-back) (record {
+        paired = rw (chain-as-read tests, list-as-read tests) (record {
           short = y .part-rows .short;
-          rows-are =
+          scratch-is =
               ap length both-are ∙ length-append chainRow listRow ∙ omega (arith, chain-length, ap length list-is, features-length width partFeatures list list-sum);
           most = y .listed .most;
           comparable = rw (front-is, back-is) (record {
@@ -166,4 +154,4 @@ module _ {plan : Plan} {features : List ℤ} {chain : List ℕ} {chainSize : ℤ
             (plan .m - code / 65536) → scored ≡ greaterOf best (plan .m - code / 65536) v
             → Attempted plan features chain chainSize partFeatures code size best (record { scored = scored; summed = true }) both
         unfolding afterCode
-        attempt-scored best k u = record { best-is = u ∙ rw (k, c-back, l-back, front-is, back-is); ready = front-is }
+        attempt-scored best k u = record { best-is = u ∙ rw (k, chain-as-read tests, list-as-read tests, front-is, back-is); ready = front-is }

@@ -10,19 +10,12 @@ use lib.ListN.{length, getD, take, drop, drop-of-length-le}
 use lib.Seq.{drop-cons}
 use mir.Syntax.{w32}
 use mir.Val.{toZ, ofZ}
-use Rattle.params.specs.Checked.{Checked}
-use Rattle.params.specs.Numbers.{Table, Parts}
 use Rattle.kplib.specs.Sums.{featuresOf}
-use Rattle.kplib.specs.Scoring.{unplaced, Tables, Ready, chainTotal, afterCode, afterCodes, codedScore, Attempt, Attempted, noneTried, Scorable}
-use Rattle.params.specs.declared.Settings.{Settings}
+use Rattle.kplib.specs.Scoring.{Ready, chainTotal, afterCode, afterCodes, codedScore, Attempt, Attempted, noneTried, Scorable}
 use Rattle.kplib.specs.declared.pathscore.Scored.{Scored}
 use Rattle.kplib.specs.declared.pathscore.Best.{Best}
 use Rattle.kplib.specs.declared.plan.Plan.{Plan}
 use Rattle.kplib.proofs.WordLaws.{back}
-
--- what an accepted job gives the scoring
-pub tables-of : {s : Settings} {t : Table} {p : Parts} → Checked s t p → Tables s (unplaced (t .sizes) (t .features)) p
-tables-of c = record { minkfreq = c .minkfreq; sized = c .sized; rows = c .rows; part-sized = c .part-sized; part-rows = c .part-rows }
 
 -- ---- the lists one after another
 module _ (after : Scored → ℕ → ℤ → Scored) (codes : List ℕ) (sizes : List ℤ) (best : Scored) {i : ℕ} where

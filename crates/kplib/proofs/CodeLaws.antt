@@ -8,10 +8,10 @@ use native.Mathlib.Numerals.{add-one}
 use native.Mathlib.Omega.{arith}
 use borrow.Author.Tests.{eq-eqb, ne-eqb, eqb-true, eqb-false}
 use lib.Dec.{eqb}
-use lib.ListN.{length, take, set}
+use lib.ListN.{length, getD, take, set}
 use lib.Seq.{take-suc-set, take-set-le}
 use Rattle.kplib.specs.Parts.{positionsFrom, wholeOf}
-use Rattle.kplib.specs.Scoring.{Below, keepIf, positionsOfBits, listOfCode}
+use Rattle.kplib.specs.Scoring.{AllBelow, keepIf, positionsOfBits, listOfCode}
 
 pub bits-zero : (i k : ℕ) → positionsOfBits i k 0 ≡ []
 unfolding positionsOfBits
@@ -101,11 +101,11 @@ unfolding listOfCode
 code-bits m code h = rw (ne-eqb (code % 65536) 0 h)
 
 -- ---- positions stay below m, and there are at most m
-keep-below : (t : Bool) (n i : ℕ) (l : List ℕ) → i < n → Below n l → Below n (keepIf t i l)
+keep-below : (t : Bool) (n i : ℕ) (l : List ℕ) → i < n → AllBelow n l → AllBelow n (keepIf t i l)
 keep-below true n i l h b = (h, b)
 keep-below false n i l h b = b
 
-pub bits-below : (n k i v : ℕ) → i + k ≤ n → Below n (positionsOfBits i k v)
+pub bits-below : (n k i v : ℕ) → i + k ≤ n → AllBelow n (positionsOfBits i k v)
 unfolding positionsOfBits
 bits-below n zero i v h = tt
 bits-below n (suc k) i v h = keep-below (eqb (v % 2) 1) n i (positionsOfBits (suc i) k (v / 2)) (omega arith) (bits-below n k (suc i) (v / 2) (omega arith))
@@ -119,13 +119,22 @@ unfolding positionsOfBits
 bits-length zero i v = zero-le
 bits-length (suc k) i v = omega (arith, keep-length (eqb (v % 2) 1) i (positionsOfBits (suc i) k (v / 2)), bits-length k (suc i) (v / 2))
 
-positions-below : (m p n : ℕ) → p + n ≤ m → Below m (positionsFrom p n)
+positions-below : (m p n : ℕ) → p + n ≤ m → AllBelow m (positionsFrom p n)
 unfolding positionsFrom
 positions-below m p zero h = tt
 positions-below m p (suc n) h = (omega arith, positions-below m (suc p) n (omega arith))
 
-pub whole-below : (m : ℕ) → Below m (wholeOf m)
+pub whole-below : (m : ℕ) → AllBelow m (wholeOf m)
 whole-below m = positions-below m 0 m (omega arith)
+
+positions-at : (p n i : ℕ) → i < n → getD (positionsFrom p n) i 0 ≡ p + i
+unfolding positionsFrom
+positions-at p zero i h = absurd (omega arith)
+positions-at p (suc n) zero h = omega arith
+positions-at p (suc n) (suc i) h = omega (arith, positions-at (suc p) n i (omega arith))
+
+pub whole-at : (m i : ℕ) → i < m → getD (wholeOf m) i 0 ≡ i
+whole-at m i h = omega (arith, positions-at 0 m i h)
 
 pub positions-length : (p n : ℕ) → length (positionsFrom p n) ≡ n
 unfolding positionsFrom

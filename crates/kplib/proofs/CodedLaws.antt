@@ -12,7 +12,7 @@ use Rattle.params.specs.Numbers.{Parts}
 use Rattle.kplib.specs.Parts.{partLists}
 use Rattle.kplib.specs.Sums.{Total}
 use Rattle.kplib.specs.Score.{afterList, afterLists, totalScore}
-use Rattle.kplib.specs.Scoring.{Below, LaidList, LaidDown, CodedList, Coded, afterCode, afterCodes, codedScore}
+use Rattle.kplib.specs.Scoring.{AllBelow, LaidList, LaidDown, CodedList, Coded, afterCode, afterCodes, codedScore}
 use Rattle.params.specs.declared.Settings.{Settings}
 use Rattle.kplib.specs.declared.pathscore.Scored.{Scored}
 use Rattle.kplib.specs.declared.plan.Plan.{Plan}
@@ -22,7 +22,7 @@ use Rattle.kplib.proofs.SizeSumLaws.{size-le}
 coded-list : {partSizes : List ℤ} {code : ℕ} {size : ℤ} {list : List ℕ} → Sized partSizes → LaidList partSizes code size list → CodedList (length partSizes) code size
 coded-list {partSizes} {code} {size} {list} z e = record {
   count-is = e .count-is ∙ ap length (sym (e .list-is));
-  within = subst (λ (l : List ℕ). Below (length partSizes) l) (sym (e .list-is)) (e .within);
+  within = subst (λ (l : List ℕ). AllBelow (length partSizes) l) (sym (e .list-is)) (e .within);
   most = omega (arith, e .count-is, e .most);
   size-small = subst (λ (x : ℤ). natAbs x ≤ 8388608) (sym (e .size-is)) (size-le partSizes list z (omega (arith, e .most, z .few)));
 }

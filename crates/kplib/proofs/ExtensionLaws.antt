@@ -1,4 +1,5 @@
--- What the loop that queues a chain's extensions knows of a row that extends it: the longer chain's size is small, and its distance is what the key holds. Assumes nothing.
+-- The node at which an entry's chain ends, by its last row; and what the loop that queues a chain's extensions knows of a row that extends it: the longer
+-- chain's size is small, its distance is what the key holds, and its link and key stand behind the others. Assumes nothing.
 use mathlib.Core.Path.{_≡_, refl, sym, ap, _∙_}
 use Prim.Native.Nat.{ℕ, zero, suc, _+_, _-_, _*_, _≤_, _<_}
 use native.Mathlib.Omega.{arith}
@@ -6,20 +7,17 @@ use native.Mathlib.Numerals.{add-one}
 use mathlib.Core.Bool.{Bool, true}
 use mathlib.Core.List.{List, [], _∷_, reverse, reverse-cons}
 use lib.IntN.{ℤ, pos, natAbs, _+ℤ_, _-ℤ_}
-use lib.ListN.{length, getD, set, drop, length-append}
-use lib.Seq.{drop-cons, drop-nil}
+use lib.ListN.{length, getD, set, length-append}
 use mir.Syntax.{w32}
 use mir.Val.{toZ, ofZ, SFits}
-use Rattle.metrics.proofs.Ints.{add-le}
 use Rattle.paths.specs.Chains.{firstAfter, extends, isChain}
 use Rattle.paths.specs.Queue.{chainAt, keyOf}
 use Rattle.paths.proofs.TableLaws.{chain-root, chain-link}
 use Rattle.paths.proofs.QueueLaws.{chain-end, chain-length, chain-longer, Queueing, queueing-more}
-use Rattle.kplib.specs.Scoring.{Below}
-use Rattle.kplib.specs.Sums.{sizeFrom, sizeOf}
+use Rattle.kplib.specs.Sums.{sizeOf}
 use Rattle.kplib.specs.GraphWalk.{extendsAt, flagOf}
 use Rattle.kplib.specs.Search.{distanceTo}
-use Rattle.kplib.specs.SearchSteps.{Extending, Rowed, endAt, parentsOf, lastsOf, chainOf, followsBy}
+use Rattle.kplib.specs.SearchSteps.{Extending, endAt, parentsOf, lastsOf, chainOf, followsBy}
 use Rattle.kplib.specs.declared.plan.Plan.{Plan}
 use Rattle.kplib.proofs.GraphLaws.{extends-found}
 use Rattle.kplib.proofs.LinkLaws.{parents-length, lasts-length, parents-store, lasts-store}
@@ -103,39 +101,3 @@ module _ {plan : Plan} {together : List Bool} {sizes : List ℤ} {links keys : L
 pub end-later : (e r : ℕ) {x : ℕ} → (e ≡ 0 → ⊥) → x ≡ r + 1 → x ≡ endAt e r
 end-later zero r h k = absurd (h refl)
 end-later (suc e) r h k = k
-
-pub below-at : {n : ℕ} (rows : List ℕ) (i : ℕ) → i < length rows → Below n rows → getD rows i 0 < n
-below-at [] i h b = absurd (omega arith)
-below-at (r ∷ rows) zero h b = b .0
-below-at (r ∷ rows) (suc i) h b = below-at rows i (omega arith) (b .1)
-
--- a chain's sizes are summed: `size` is the sum of the first i rows' sizes
-pub record Summing (sizes : List ℤ) (rows : List ℕ) (size : ℤ) (i : ℕ) : Type 0 where
-  pub small : natAbs size ≤ i * 131072
-  pub rest : sizeFrom sizes size (drop i rows) ≡ sizeOf sizes rows
-
-pub summing-begin : (sizes : List ℤ) (rows : List ℕ) → Summing sizes rows (pos 0) 0
-unfolding sizeOf
-summing-begin sizes rows = record { small = omega arith; rest = refl }
-
-module _ {sizes : List ℤ} {rows : List ℕ} {size : ℤ} {i : ℕ} (h : Rowed sizes rows) (v : Summing sizes rows size i) (l : i < length rows) where
-  next-small : natAbs (size +ℤ getD sizes (getD rows i 0) (pos 0)) ≤ (i + 1) * 131072
-  next-small = omega (arith, v .small, add-le size (getD sizes (getD rows i 0) (pos 0)), h .sized .sized (getD rows i 0))
-
-  pub summing-fits : SFits w32 (size +ℤ toZ w32 (ofZ w32 (getD sizes (getD rows i 0) (pos 0))))
-  summing-fits =
-      rw (back (getD sizes (getD rows i 0) (pos 0)) (omega (arith, h .sized .sized (getD rows i 0)))) (fits (size +ℤ getD sizes (getD rows i 0) (pos 0)) (omega (arith, next-small, h .most)))
-
-  pub summing-on : Summing sizes rows (toZ w32 (ofZ w32 (size +ℤ toZ w32 (ofZ w32 (getD sizes (getD rows i 0) (pos 0)))))) (i + 1)
-  unfolding sizeFrom
-  summing-on = rw (back (getD sizes (getD rows i 0) (pos 0)) (omega (arith, h .sized .sized (getD rows i 0))), back (size +ℤ getD sizes (getD rows i 0) (pos 0)) (omega (arith, next-small, h .most)))
-      (record { small = next-small; rest = rw (add-one i) (sym (ap (λ (m : List ℕ). sizeFrom sizes size m) (drop-cons rows i 0 l)) ∙ v .rest) })
-
-pub summing-done : {sizes : List ℤ} {rows : List ℕ} {size : ℤ} {i : ℕ} → Summing sizes rows size i → length rows ≤ i → size ≡ sizeOf sizes rows
-unfolding sizeFrom
-summing-done {sizes} {rows} {size} {i} v h = sym (ap (λ (m : List ℕ). sizeFrom sizes size m) (drop-none rows i h)) ∙ v .rest
-  where
-    drop-none : (l : List ℕ) (i : ℕ) → length l ≤ i → drop i l ≡ []
-    drop-none [] i h = drop-nil i
-    drop-none (x ∷ l) zero h = absurd (omega arith)
-    drop-none (x ∷ l) (suc i) h = drop-none l i (omega arith)

@@ -3,15 +3,16 @@ use mathlib.Core.Path.{_≡_, refl, sym, ap, _∙_}
 use Prim.Native.Nat.{ℕ, zero, suc, _+_, _≤_}
 use native.Mathlib.Omega.{arith}
 use mathlib.Core.Bool.{true, false}
-use mathlib.Core.List.{List, _++_, reverse}
+use mathlib.Core.List.{List, [], _++_, reverse}
 use lib.Dec.{eqb}
 use lib.ListN.{length, drop}
-use Rattle.params.specs.Numbers.{Table, Parts, Call, callOf, firstFault, searchMode}
+use Rattle.params.specs.Numbers.{Table, Parts, Call, tableOf, callOf, firstFault, searchMode}
 use Rattle.kplib.specs.Score.{start}
 use Rattle.kplib.specs.OneToOne.{oneToOne, loneRowsAt}
 use Rattle.kplib.specs.Scoring.{unplaced}
 use Rattle.kplib.specs.Search.{rowsFor}
-use Rattle.kplib.specs.Answer.{searched, matchedAlone, inSearchMode, foundAfter, answerWith, answerOf, rowsOf, placed, queueRoom, searches}
+use Rattle.kplib.specs.Answer.{searched, matchedAlone, inSearchMode, foundAfter, answerWith, answerOf, rowsOf, queueRoom, searches}
+use Rattle.metrics.specs.Placed.{placed}
 use Rattle.kplib.specs.SearchSteps.{chainOf, answerParts, Startable, Searched}
 use Rattle.params.specs.declared.Settings.{Settings}
 use Rattle.kplib.specs.declared.pathscore.Scored.{Scored}
@@ -71,7 +72,6 @@ module _ (c : Call) where
 
   pub refused-answers : {fault : ℕ} → fault ≡ firstFault c → (fault ≡ 0 → ⊥) → {x : Scored} → x ≡ start → {r : Answer} → r ≡ answerParts fault 0 x 0 false → (rows : List ℕ)
       → (r ≡ answerOf c) × (rows ≡ placed rows (rowsOf c))
-  unfolding placed
   refused-answers {fault = zero} e z hx hr rows = absurd (z refl)
   refused-answers {fault = suc n} e z hx hr rows =
       (hr ∙ ap (λ (y : Scored). answerParts (suc n) 0 y 0 false) hx ∙ answer-at (suc n) e, ap (λ (l : List ℕ). l ++ drop (length l) rows) (rows-at (suc n) e))
@@ -86,9 +86,14 @@ module _ (c : Call) where
         → (r ≡ answerOf c) × (rows' ≡ placed rows (rowsOf c))
     searched-accepted rows m h = with-rows rows (rw m h)
 
+    -- one-to-one does not ask where the rows end
+    abbrev endless : Table
+    endless = tableOf (c .table .starts) [] (c .table .sizes) (c .table .features)
+
     pub alone-accepted : {r : Answer} (rows : List ℕ) {rows' : List ℕ} → inSearchMode c ≡ false
-        → (r ≡ answerWith 0 (matchedAlone (c .settings) (c .table) (c .parts))) × (rows' ≡ placed rows (matchedAlone (c .settings) (c .table) (c .parts) .rows))
+        → (r ≡ answerWith 0 (matchedAlone (c .settings) endless (c .parts))) × (rows' ≡ placed rows (matchedAlone (c .settings) endless (c .parts) .rows))
         → (r ≡ answerOf c) × (rows' ≡ placed rows (rowsOf c))
+    unfolding matchedAlone oneToOne
     alone-accepted rows m h = with-rows rows (rw m h)
 
     -- a search is no job without one

@@ -81,7 +81,8 @@ module _ {p n d bits bit at : ℕ} {size : ℤ} {sizes : List ℤ} {codes : List
         laid = rw e (λ i k. absurd (not-suc-le-zero k));
       }
 
-  leaf-entry : n ≡ 0 → at < length codes → LaidList sizes (getD (set codes at (bits + 65536 * d)) at 0) (getD (set listSizes at (toZ w32 (ofZ w32 size))) at (pos 0)) (positionsOfBits 0 (length sizes) bits ++ [])
+  leaf-entry : n ≡ 0 → at < length codes
+      → LaidList sizes (getD (set codes at (bits + 65536 * d)) at 0) (getD (set listSizes at (toZ w32 (ofZ w32 size))) at (pos 0)) (positionsOfBits 0 (length sizes) bits ++ [])
   leaf-entry u h =
       let k = numbers in
       let v : (bits + 65536 * d) % 65536 ≡ bits = omega arith in
@@ -141,7 +142,8 @@ module _ {p n d bits bit at : ℕ} {size : ℤ} {sizes : List ℤ} {codes : List
           some = omega arith;
           less = omega (arith, y .less);
           sized = y .sized;
-          size-is = back more r ∙ g ∙ ap (λ (z : ℤ). z +ℤ getD sizes p (pos 0)) (y .size-is) ∙ sym (size-snoc sizes (positionsOfBits 0 (length sizes) bits) p) ∙ ap (λ (l : List ℕ). sizeOf sizes l) (sym bits-next);
+          size-is = back more r ∙ g ∙ ap (λ (z : ℤ). z +ℤ getD sizes p (pos 0)) (y .size-is)
+              ∙ sym (size-snoc sizes (positionsOfBits 0 (length sizes) bits) p) ∙ ap (λ (l : List ℕ). sizeOf sizes l) (sym bits-next);
           room = omega (arith, split-length (length sizes) p n position-left nz, y .room);
           beside = y .beside;
         }
@@ -176,7 +178,8 @@ module _ {p n d bits bit at : ℕ} {size : ℤ} {sizes : List ℤ} {codes : List
             end = omega (arith, v .end, w .end, split-length (length sizes) p n position-left nz);
             codes-kept = take-shorter at mid codes2 codes1 le (v .codes-kept) ∙ w .codes-kept;
             sizes-kept = take-shorter at mid listSizes2 listSizes1 le (v .sizes-kept) ∙ w .sizes-kept;
-            laid = rw (split-under (length sizes) p n position-left nz (positionsOfBits 0 (length sizes) bits)) (laid-append at mid sizes codes1 codes2 listSizes1 listSizes2 L R g (v .codes-kept) (v .sizes-kept) (rw bits-next at (w .laid)) (v .laid));
+            laid = rw (split-under (length sizes) p n position-left nz (positionsOfBits 0 (length sizes) bits))
+                (laid-append at mid sizes codes1 codes2 listSizes1 listSizes2 L R g (v .codes-kept) (v .sizes-kept) (rw bits-next at (w .laid)) (v .laid));
           }
 
 -- ---- one length after another
@@ -259,7 +262,8 @@ module _ {s : Settings} {sizes : List ℤ} {codes : List ℕ} {listSizes : List 
         beside = simp length-set (omega (arith, y .room, y .beside));
       }
     where
-      go : (size : ℤ) → LaidList sizes (65536 * length sizes) size (wholeOf (length sizes)) → LaidFrom sizes 0 (set codes 0 (65536 * length sizes)) (set listSizes 0 size) (wholeOf (length sizes) ∷ [])
+      go : (size : ℤ) → LaidList sizes (65536 * length sizes) size (wholeOf (length sizes))
+          → LaidFrom sizes 0 (set codes 0 (65536 * length sizes)) (set listSizes 0 size) (wholeOf (length sizes) ∷ [])
       go size x zero k = rw (getD-set-same codes 0 (65536 * length sizes) 0 (omega (arith, y .room)), getD-set-same listSizes 0 size (pos 0) (omega (arith, y .room, y .beside))) x
       go size x (suc i) k = absurd (not-suc-le-zero (le-of-suc-le-suc k))
 

@@ -18,7 +18,7 @@ pub mod LayLaws
 pub mod AttemptLaws
 pub mod ChainScoreLaws
 pub mod AnchorLaws
-pub mod AnswerLaws
+pub mod ScoreFloorLaws
 mod ScanLaws
 mod ExtensionLaws
 mod WeighLaws

@@ -1,24 +1,14 @@
 -- Parents and last rows are read off the links entry by entry: a read, a store and the length go through. Assumes nothing.
-use mathlib.Core.Path.{_≡_, refl, sym, ap, _∙_}
+use mathlib.Core.Path.{_≡_, refl, ap, _∙_}
 use Prim.Native.Nat.{ℕ, zero, suc, _+_, _-_, _*_, _/_, _%_, _<_}
 use native.Mathlib.Omega.{arith}
 use mathlib.Core.List.{List, [], _∷_, map}
-use lib.ListN.{length, getD, set}
+use lib.ListN.{length, getD, set, length-map, List·getD-map}
 use Rattle.paths.specs.Queue.{Links}
 use Rattle.paths.proofs.TableLaws.{Reading, read-on}
 use Rattle.kplib.specs.SearchSteps.{parentsOf, lastsOf}
 
 module _ (f : ℕ → ℕ) where
-  -- past the end stands 0
-  map-at : f 0 ≡ 0 → (l : List ℕ) (i : ℕ) → getD (map f l) i 0 ≡ f (getD l i 0)
-  map-at z [] i = sym z
-  map-at z (x ∷ l) zero = refl
-  map-at z (x ∷ l) (suc i) = map-at z l i
-
-  map-length : (l : List ℕ) → length (map f l) ≡ length l
-  map-length [] = refl
-  map-length (x ∷ l) = ap suc (map-length l)
-
   map-store : (l : List ℕ) (i x : ℕ) → map f (set l i x) ≡ set (map f l) i (f x)
   map-store [] i x = refl
   map-store (y ∷ l) zero x = refl
@@ -26,17 +16,17 @@ module _ (f : ℕ → ℕ) where
 
 module _ (links : List ℕ) where
   pub parents-length : length (parentsOf links) ≡ length links
-  parents-length = map-length (λ l. l / 64) links
+  parents-length = length-map links (λ l. l / 64)
 
   pub lasts-length : length (lastsOf links) ≡ length links
-  lasts-length = map-length (λ l. l % 64) links
+  lasts-length = length-map links (λ l. l % 64)
 
   module _ (i : ℕ) where
     pub parent-at : getD (parentsOf links) i 0 ≡ getD links i 0 / 64
-    parent-at = map-at (λ l. l / 64) refl links i
+    parent-at = List·getD-map (λ l. l / 64) links i 0
 
     pub last-at : getD (lastsOf links) i 0 ≡ getD links i 0 % 64
-    last-at = map-at (λ l. l % 64) refl links i
+    last-at = List·getD-map (λ l. l % 64) links i 0
 
     -- a link is stored
     module _ (parent row : ℕ) (h : row < 64) where

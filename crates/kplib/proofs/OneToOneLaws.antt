@@ -16,7 +16,8 @@ use mir.Syntax.{w32}
 use mir.Val.{toZ, ofZ}
 use Rattle.metrics.specs.Similarity.{whole, sizesimValue, magnitudeSum, partD, sumD}
 use Rattle.metrics.proofs.Rows.{sum-le, d-le}
-use Rattle.params.specs.Numbers.{Table, Parts}
+use Rattle.params.specs.Checked.{Checked}
+use Rattle.params.specs.Numbers.{Table, Parts, tableOf}
 use Rattle.kplib.specs.Parts.{wholeOf}
 use Rattle.kplib.specs.Sums.{zeros, sizeOf, featuresOf, Total}
 use Rattle.kplib.specs.Score.{sign, gapOf, scoreValue, seqsimOfRows, listScore, greaterOf, afterList, start}
@@ -195,31 +196,35 @@ module _ {plan : Plan} {sizes features wholeRow : List ℤ} (y : Matching plan s
     row-scored n f g = g ∙ rw (f, n, r-back, t-back, slice-is (r * width) width features)
 
 -- ---- the whole haplotype, summed or by its parts
-alone-same : (plan : Plan) (p : Parts) {s : Settings} {wholeRow : List ℤ} → plan .s ≡ s → plan .m ≡ length (p .sizes) → plan .target ≡ sizeOf (p .sizes) (wholeOf (length (p .sizes)))
-    → wholeRow ≡ featuresOf (4 ^ s .k) (p .features) (wholeOf (length (p .sizes))) → (node : Total) → scoreAlone plan wholeRow node ≡ aloneScore s p node
+abbrev everyPart : Parts → List ℕ
+everyPart p = wholeOf (length (p .sizes))
+
+alone-same : (plan : Plan) (p : Parts) {s : Settings} {wholeRow : List ℤ} → plan .s ≡ s → plan .m ≡ length (p .sizes) → plan .target ≡ sizeOf (p .sizes) (everyPart p)
+    → wholeRow ≡ featuresOf (4 ^ s .k) (p .features) (everyPart p) → (node : Total) → scoreAlone plan wholeRow node ≡ aloneScore s p node
 unfolding scoreAlone aloneScore afterList
 alone-same plan p es em et er node =
     let z : length (p .sizes) - length (p .sizes) ≡ 0 = omega arith in
     rw (es, em, et, er, whole-length (length (p .sizes)), z)
 
+-- what an accepted job gives one-to-one, wherever its rows stand
+pub tables-of : {s : Settings} {t : Table} {p : Parts} (starts ends : List ℕ) → Checked s t p → Tables s (tableOf starts ends (t .sizes) (t .features)) p
+tables-of starts ends c = record { minkfreq = c .minkfreq; sized = c .sized; rows = c .rows; part-sized = c .part-sized; part-rows = c .part-rows }
+
 module _ {s : Settings} {t : Table} {p : Parts} (y : Tables s t p) where
-  abbrev all : List ℕ
-  all = wholeOf (length (p .sizes))
-
   abbrev wholePlan : Plan
-  wholePlan = record { s = s; width = 4 ^ s .k; m = length (p .sizes); target = sizeOf (p .sizes) all }
+  wholePlan = record { s = s; width = 4 ^ s .k; m = length (p .sizes); target = sizeOf (p .sizes) (everyPart p) }
 
-  all-few : length all ≤ 64
+  all-few : length (everyPart p) ≤ 64
   all-few = omega (arith, whole-length (length (p .sizes)), y .part-sized .few)
 
-  whole-sum : Summable (4 ^ s .k) (p .features) all
-  whole-sum = summable (length (p .sizes)) (4 ^ s .k) (p .features) all (y .part-rows) (whole-below (length (p .sizes))) all-few
+  whole-sum : Summable (4 ^ s .k) (p .features) (everyPart p)
+  whole-sum = summable (length (p .sizes)) (4 ^ s .k) (p .features) (everyPart p) (y .part-rows) (whole-below (length (p .sizes))) all-few
 
   pub anchor-low : isCandidate (aloneScore s p (anchorTotal (4 ^ s .k))) ≡ false
   anchor-low =
-      let row = featuresOf (4 ^ s .k) (p .features) all in
+      let row = featuresOf (4 ^ s .k) (p .features) (everyPart p) in
       subst (λ (x : Scored). isCandidate x ≡ false) (alone-same wholePlan p refl refl refl refl (anchorTotal (4 ^ s .k)))
-      (anchor-none wholePlan row (4 ^ s .k) (features-sum (4 ^ s .k) (p .features) all whole-sum))
+      (anchor-none wholePlan row (4 ^ s .k) (features-sum (4 ^ s .k) (p .features) (everyPart p) whole-sum))
 
   -- source and sink may be left out
   pub rows-only : overNodes (nodeStep (aloneScore s p) (4 ^ s .k) (t .sizes) (t .features)) noLone 1 (length (t .sizes)) ≡ oneToOne s t p
@@ -228,27 +233,24 @@ module _ {s : Settings} {t : Table} {p : Parts} (y : Tables s t p) where
 
 -- ---- the whole haplotype summed
 module _ {s : Settings} {t : Table} {p : Parts} {chosen : List ℕ} {wholeRow : List ℤ} (y : Matchable s t p chosen wholeRow)
-    {list : List ℕ} (f : list ≡ wholeOf (length (p .sizes))) where
+    {list : List ℕ} (f : list ≡ everyPart p) where
   pub whole-ok : Summable (length wholeRow) (p .features) list
   whole-ok = rw (f, y .whole-row) (whole-sum (y .tables))
 
-  module _ {row : List ℤ} (g : row ≡ featuresOf (length wholeRow) (p .features) list) {size : ℤ} (h : size ≡ sizeOf (p .sizes) (wholeOf (length (p .sizes)))) where
-    abbrev everyPart : List ℕ
-    everyPart = wholeOf (length (p .sizes))
-
+  module _ {row : List ℤ} (g : row ≡ featuresOf (length wholeRow) (p .features) list) {size : ℤ} (h : size ≡ sizeOf (p .sizes) (everyPart p)) where
     abbrev plan : Plan
     plan = record { s = s; width = length row; m = length (p .sizes); target = toZ w32 (ofZ w32 size) }
 
-    row-is : row ≡ featuresOf (4 ^ s .k) (p .features) everyPart
+    row-is : row ≡ featuresOf (4 ^ s .k) (p .features) (everyPart p)
     row-is = g ∙ rw (f, y .whole-row)
 
     width-is : length row ≡ 4 ^ s .k
-    width-is = ap length row-is ∙ features-length (4 ^ s .k) (p .features) everyPart (whole-sum (y .tables))
+    width-is = ap length row-is ∙ features-length (4 ^ s .k) (p .features) (everyPart p) (whole-sum (y .tables))
 
     size-small : natAbs size ≤ 8388608
-    size-small = rw h (size-le (p .sizes) everyPart (y .tables .part-sized) (all-few (y .tables)))
+    size-small = rw h (size-le (p .sizes) (everyPart p) (y .tables .part-sized) (all-few (y .tables)))
 
-    target-is : toZ w32 (ofZ w32 size) ≡ sizeOf (p .sizes) everyPart
+    target-is : toZ w32 (ofZ w32 size) ≡ sizeOf (p .sizes) (everyPart p)
     target-is = back size (omega (arith, size-small)) ∙ h
 
     pub matching : Matching plan (t .sizes) (t .features) row
@@ -258,7 +260,7 @@ module _ {s : Settings} {t : Table} {p : Parts} {chosen : List ℕ} {wholeRow : 
       sized = y .tables .sized;
       rows = rw width-is (y .tables .rows);
       width-is = refl;
-      whole-sum = omega (arith, ap magnitudeSum row-is, features-sum (4 ^ s .k) (p .features) everyPart (whole-sum (y .tables)));
+      whole-sum = omega (arith, ap magnitudeSum row-is, features-sum (4 ^ s .k) (p .features) (everyPart p) (whole-sum (y .tables)));
     }
 
     pub matched : {r : Lone} → r ≡ bestAlone plan (t .sizes) (t .features) row → r ≡ oneToOne s t p

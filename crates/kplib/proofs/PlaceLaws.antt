@@ -9,7 +9,7 @@ use lib.ListN.{length, getD, set, take, drop}
 use lib.Seq.{take-length}
 use Rattle.kplib.specs.OneToOne.{loneRowsAt}
 use Rattle.kplib.specs.Search.{rowsFor}
-use Rattle.kplib.specs.Answer.{placed}
+use Rattle.metrics.specs.Placed.{placed}
 use Rattle.kplib.specs.SearchSteps.{matchedBy}
 use Rattle.kplib.specs.declared.pathscore.Target.{Target}
 use Rattle.kplib.specs.declared.pathscore.Target.the-variants.{Nothing, Whole, Partial}
@@ -25,12 +25,10 @@ put-on i from rows p q = go i from rows p q ∙ rw (add-one i)
     go (suc i) (x ∷ from) (y ∷ rows) p q = ap (λ (l : List ℕ). x ∷ l) (go i from rows (omega arith) (omega arith))
 
 pub put-done : (i : ℕ) (from rows : List ℕ) → i ≡ length from → take i from ++ drop i rows ≡ placed rows from
-unfolding placed
 put-done i from rows e = rw (e, take-length from)
 
 -- nothing is written where nothing matched
 pub placed-none : (t : Target) (rows l : List ℕ) → matchedBy t ≡ false → (0 ≡ length (rowsFor t l)) × (rows ≡ placed rows (rowsFor t l))
-unfolding placed
 placed-none Nothing rows l e = (refl, refl)
 placed-none Whole rows l e = let z : _≡_ {A = ℕ} 0 1 = cc in absurd (omega arith)
 placed-none (Partial n) rows l e = let z : _≡_ {A = ℕ} 0 1 = cc in absurd (omega arith)
@@ -46,14 +44,12 @@ pub placed-all : (t : Target) (l rows : List ℕ) {n : ℕ} {rows' : List ℕ} �
 placed-all t l rows e h = rw (rows-matched t l e) h
 
 pub placed-row : (t : Target) (r : ℕ) (rows : List ℕ) → matchedBy t ≡ true → 1 ≤ length rows → (1 ≡ length (loneRowsAt t r)) × (set rows 0 r ≡ placed rows (loneRowsAt t r))
-unfolding placed
 placed-row t r [] e h = absurd (omega arith)
 placed-row Nothing r (x ∷ rows) e h = let z : _≡_ {A = ℕ} 0 1 = cc in absurd (omega arith)
 placed-row Whole r (x ∷ rows) e h = (refl, refl)
 placed-row (Partial n) r (x ∷ rows) e h = (refl, refl)
 
 pub placed-no-row : (t : Target) (r : ℕ) (rows : List ℕ) → matchedBy t ≡ false → (0 ≡ length (loneRowsAt t r)) × (rows ≡ placed rows (loneRowsAt t r))
-unfolding placed
 placed-no-row Nothing r rows e = (refl, refl)
 placed-no-row Whole r rows e = let z : _≡_ {A = ℕ} 0 1 = cc in absurd (omega arith)
 placed-no-row (Partial n) r rows e = let z : _≡_ {A = ℕ} 0 1 = cc in absurd (omega arith)

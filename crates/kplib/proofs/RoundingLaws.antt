@@ -371,7 +371,8 @@ half-kept f (fin s m e) nan h = absurd h
 half-kept f (fin s m e) (inf true) h = absurd h
 half-kept f (fin s m e) (inf false) h = kept (subst (λ (z : Float). Le z (inf false)) (sym (half-fin f s m e)) (round-top f s (m * up e * 1) (1 * 2 * down e)))
 half-kept f (fin s m e) (fin s' m' e') h =
-    kept (subst (λ (z : Float). Le (div f (fin s m e) (fin false 1 (pos 1))) z) (sym (half-fin f s' m' e')) (subst (λ (z : Float). Le z (round f s' (m' * up e' * 1) (1 * 2 * down e'))) (sym (half-fin f s m e))
+    kept (subst (λ (z : Float). Le (div f (fin s m e) (fin false 1 (pos 1))) z) (sym (half-fin f s' m' e'))
+    (subst (λ (z : Float). Le z (round f s' (m' * up e' * 1) (1 * 2 * down e'))) (sym (half-fin f s m e))
     (round-sides f s (m * up e * 1) (1 * 2 * down e) s' (m' * up e' * 1) (1 * 2 * down e') (half-pos (down e) (down-pos e)) (half-pos (down e') (down-pos e'))
     (half-sides s (m * up e) (down e) s' (m' * up e') (down e') h))))
 
@@ -408,7 +409,8 @@ div-up f (inf s) (fin t n d) u v = rw (u, v)
 div-up f (fin s m e) nan u v = absurd v
 div-up f (fin s m e) (inf t) u v = rw (u, v)
 div-up f (fin s m e) (fin t n d) u v =
-    rw (u, v) (div-cond f (eqb n 0) (eqb m 0) (round f false (m * up e * down d) (n * up d * down e)) (up-upn (round f false (m * up e * down d) (n * up d * down e)) (round-up f (m * up e * down d) (n * up d * down e))))
+    rw (u, v) (div-cond f (eqb n 0) (eqb m 0) (round f false (m * up e * down d) (n * up d * down e))
+    (up-upn (round f false (m * up e * down d) (n * up d * down e)) (round-up f (m * up e * down d) (n * up d * down e))))
 
 one-fin : whole 1 ≡ fin false 1 (pos 0)
 unfolding ofInt
@@ -450,7 +452,8 @@ seq-safe d n = rw one-fin (go (eqb d 0) (eqb n 0))
     go : (t u : Bool) → Safe (cond t (whole 0) (cond u (fin false 1 (pos 0)) (sub binary32 (fin false 1 (pos 0)) (div binary32 (whole n) (whole d))))) (fin false 1 (pos 0))
     go true u = rw zero-fin (kept zero-one)
     go false true = kept one-one
-    go false false = one-less (div binary32 (whole n) (whole d)) (unfold ofInt in div-up binary32 (round binary32 false n 1) (round binary32 false d 1) (round-up binary32 n 1) (round-up binary32 d 1))
+    go false false = one-less (div binary32 (whole n) (whole d))
+        (unfold ofInt in div-up binary32 (round binary32 false n 1) (round binary32 false d 1) (round-up binary32 n 1) (round-up binary32 d 1))
 
 -- ---- what is at most a number that is at most the best does not beat the best
 nothing-beats : (x : Float) → lt x nan ≡ false

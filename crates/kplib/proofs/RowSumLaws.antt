@@ -16,7 +16,7 @@ use Rattle.metrics.proofs.Ints.{add-le}
 use Rattle.params.specs.Checked.{Flat}
 use Rattle.params.specs.Numbers.{rowAt}
 use Rattle.kplib.specs.Sums.{rowPlus, featuresFrom, featuresOf, zeros}
-use Rattle.kplib.specs.Scoring.{Below, Inside, Summable, Ready}
+use Rattle.kplib.specs.Scoring.{AllBelow, Inside, Summable, Ready}
 use Rattle.kplib.proofs.WordLaws.{add-fits, add-back}
 
 -- a row with another added to its first i entries
@@ -102,11 +102,11 @@ row-fits n e r h = omega (arith, mul-le-mul-right e h, suc-mul r e)
 pub row-length : (e : ℕ) (table : List ℤ) (r : ℕ) → r * e + e ≤ length table → length (rowAt e table r) ≡ e
 row-length e table r h = simp (length-take, length-drop) (omega arith)
 
-inside-of : (n e : ℕ) (rows : List ℕ) → Below n rows → Inside (n * e) e rows
+inside-of : (n e : ℕ) (rows : List ℕ) → AllBelow n rows → Inside (n * e) e rows
 inside-of n e [] b = tt
 inside-of n e (r ∷ rows) b = (row-fits n e r (b .0), inside-of n e rows (b .1))
 
-pub summable : (n e : ℕ) (table : List ℤ) (rows : List ℕ) → Flat n e table → Below n rows → length rows ≤ 64 → Summable e table rows
+pub summable : (n e : ℕ) (table : List ℤ) (rows : List ℕ) → Flat n e table → AllBelow n rows → length rows ≤ 64 → Summable e table rows
 summable n e table rows f b h = record {
   entries = omega (arith, f .flat, mul-le-mul-right e (f .few), f .short);
   inside = subst (λ (x : ℕ). Inside x e rows) (sym (f .flat)) (inside-of n e rows b);

@@ -63,7 +63,8 @@ module _ (a b : ℤ) (p : natAbs a ≤ 8388608) (q : natAbs b ≤ 8388608) where
   minus = ap natAbs minus-back ∙ abs-minus (a -ℤ b)
 
   pub minus-cast : ltZ (toZ w32 (ofZ w32 (toZ w32 (ofZ w32 a) -ℤ toZ w32 (ofZ w32 b)))) (pos 0) ≡ true
-      → T (nonNeg (toZ w32 (ofZ w32 (pos 0 -ℤ toZ w32 (ofZ w32 (toZ w32 (ofZ w32 a) -ℤ toZ w32 (ofZ w32 b))))))) × Fits w64 (natAbs (toZ w32 (ofZ w32 (pos 0 -ℤ toZ w32 (ofZ w32 (toZ w32 (ofZ w32 a) -ℤ toZ w32 (ofZ w32 b)))))))
+      → T (nonNeg (toZ w32 (ofZ w32 (pos 0 -ℤ toZ w32 (ofZ w32 (toZ w32 (ofZ w32 a) -ℤ toZ w32 (ofZ w32 b)))))))
+      × Fits w64 (natAbs (toZ w32 (ofZ w32 (pos 0 -ℤ toZ w32 (ofZ w32 (toZ w32 (ofZ w32 a) -ℤ toZ w32 (ofZ w32 b)))))))
   minus-cast t = (rw minus-back (minus-nonneg (a -ℤ b) (rw difference at t)), record { fits = omega (arith, minus, small) })
 
   pub same-cast : ltZ (toZ w32 (ofZ w32 (toZ w32 (ofZ w32 a) -ℤ toZ w32 (ofZ w32 b)))) (pos 0) ≡ false

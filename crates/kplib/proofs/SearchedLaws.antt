@@ -4,11 +4,14 @@ use mathlib.Core.Path.{_≡_, refl, ap, _∙_}
 use Prim.Native.Nat.{ℕ, _+_, _*_, _^_, _≤_}
 use native.Mathlib.Omega.{arith}
 use mathlib.Core.Bool.{Bool}
-use mathlib.Core.List.{List, [], _∷_, map, reverse}
+use mathlib.Core.List.{List, [], reverse}
 use lib.IntN.{ℤ, natAbs}
 use lib.ListN.{length, take}
 use lib.Seq.{length-take-le}
+use Rattle.paths.specs.Demand.{scoredChains}
 use Rattle.paths.specs.Queue.{Ended}
+use Rattle.paths.proofs.PickLaws.{all-from}
+use Rattle.paths.proofs.QueueLaws.{map-same}
 use Rattle.params.specs.Checked.{Sized}
 use Rattle.params.specs.Numbers.{Table, Parts}
 use Rattle.kplib.specs.Parts.{wholeOf}
@@ -32,13 +35,12 @@ pub haplotype-small : (sizes : List ℤ) → Sized sizes → natAbs (haplotypeSi
 haplotype-small sizes h = size-le sizes (wholeOf (length sizes)) h (omega (arith, positions-length 0 (length sizes), h .few))
 
 -- scores that agree on every chain have one best
-map-alike : {R : Type 0} {f g : List ℕ → R} → ((c : List ℕ) → f c ≡ g c) → (l : List (List ℕ)) → map f l ≡ map g l
-map-alike same [] = refl
-map-alike same (c ∷ l) = let e = same c in let k = map-alike same l in cc
-
 ended-alike : {R : Type 0} {le : R → R → Bool} {start : R} {f g : List ℕ → R} {follows : List ℕ → ℕ → Bool} {v : ℕ} {D : List ℕ → ℕ} {steps k : ℕ} {b : R} {complete : Bool}
     → ((c : List ℕ) → f c ≡ g c) → Ended le start f follows v D steps k b complete → Ended le start g follows v D steps k b complete
-ended-alike {f = f} {g = g} same e = record { best-is = rw (map-alike {f = f} {g = g} same) at (e .best-is); count-is = e .count-is; complete-is = e .complete-is }
+ended-alike {f = f} {g = g} {follows = follows} {v = v} {D = D} {steps = steps} same e =
+    let l = scoredChains follows v D steps in
+    let any = all-from (λ (c : List ℕ). Unit {0}) [] l (λ i h. tt) in
+    record { best-is = rw (map-same f g (λ (c : List ℕ). Unit {0}) (λ c u. same c) l any) at (e .best-is); count-is = e .count-is; complete-is = e .complete-is }
 
 -- the plan of a job
 pub plan-is : (s : Settings) (sizes : List ℤ) {width : ℕ} {target : ℤ} → width ≡ 4 ^ s .k → target ≡ haplotypeSize sizes

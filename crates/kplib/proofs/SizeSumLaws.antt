@@ -1,17 +1,20 @@
--- Sums of sizes: the loop over the whole haplotype, one more position, and how large a sum grows. Assumes nothing.
+-- Sums of sizes: how large a sum grows, one more row, and the loop that adds up the rows of a list or the whole haplotype. Assumes nothing.
 use mathlib.Core.Path.{_≡_, refl, sym, ap, _∙_}
 use mathlib.Core.List.{List, [], _∷_, _++_}
-use Prim.Native.Nat.{ℕ, suc, _+_, _-_, _*_, _≤_, _<_}
+use Prim.Native.Nat.{ℕ, _+_, _*_, _≤_, _<_}
 use native.Mathlib.Omega.{arith}
 use native.Mathlib.Numerals.{add-one}
 use lib.IntN.{ℤ, pos, natAbs, _+ℤ_}
-use lib.ListN.{length, getD}
+use lib.ListN.{length, getD, drop, drop-of-length-le}
+use lib.Seq.{drop-cons}
 use mir.Syntax.{w32}
 use mir.Val.{toZ, ofZ, SFits}
 use Rattle.metrics.proofs.Ints.{add-le}
 use Rattle.params.specs.Checked.{Sized}
-use Rattle.kplib.specs.Parts.{positionsFrom, wholeOf}
+use Rattle.kplib.specs.Parts.{wholeOf}
 use Rattle.kplib.specs.Sums.{sizeFrom, sizeOf}
+use Rattle.kplib.specs.SearchSteps.{Rowed}
+use Rattle.kplib.proofs.CodeLaws.{whole-below, whole-length, whole-at}
 use Rattle.kplib.proofs.WordLaws.{fits, back}
 
 size-from-le : (sizes : List ℤ) (z : ℤ) (rows : List ℕ) → ((r : ℕ) → natAbs (getD sizes r (pos 0)) ≤ 131072) → natAbs (sizeFrom sizes z rows) ≤ natAbs z + length rows * 131072
@@ -32,33 +35,53 @@ pub size-snoc : (sizes : List ℤ) (rows : List ℕ) (r : ℕ) → sizeOf sizes 
 unfolding sizeOf
 size-snoc sizes rows r = size-from-snoc sizes (pos 0) rows r
 
-size-step : (sizes : List ℤ) (z : ℤ) (p n n' : ℕ) → n ≡ suc n' → sizeFrom sizes z (positionsFrom p n) ≡ sizeFrom sizes (z +ℤ getD sizes p (pos 0)) (positionsFrom (p + 1) n')
-unfolding sizeFrom positionsFrom
-size-step sizes z p n n' e = rw (add-one, e)
+-- ---- the loop over the rows of a list: the first i sizes are added up, and the rest added to their sum is the whole
+pub record Summing (sizes : List ℤ) (rows : List ℕ) (size : ℤ) (i : ℕ) : Type 0 where
+  pub small : natAbs size ≤ i * 131072
+  pub rest : sizeFrom sizes size (drop i rows) ≡ sizeOf sizes rows
 
-size-none : (sizes : List ℤ) (z : ℤ) (p n : ℕ) → n ≡ 0 → sizeFrom sizes z (positionsFrom p n) ≡ z
-unfolding sizeFrom positionsFrom
-size-none sizes z p n e = rw e
-
--- z is the sum of the first p sizes: the rest added to it gives the size of the whole
-abbrev pub Sizing : List ℤ → ℤ → ℕ → Type 0
-Sizing sizes z p = (p ≤ length sizes) × (natAbs z ≤ p * 131072) × (sizeFrom sizes z (positionsFrom p (length sizes - p)) ≡ sizeOf sizes (wholeOf (length sizes)))
-
-pub sizing-starts : (sizes : List ℤ) → Sizing sizes (pos 0) 0
+pub summing-begin : (sizes : List ℤ) (rows : List ℕ) → Summing sizes rows (pos 0) 0
 unfolding sizeOf
-sizing-starts sizes = let z : length sizes - 0 ≡ length sizes = omega arith in (omega arith, omega arith, ap (λ (n : ℕ). sizeFrom sizes (pos 0) (positionsFrom 0 n)) z)
+summing-begin sizes rows = record { small = omega arith; rest = refl }
 
-module _ (sizes : List ℤ) (z : ℤ) (p : ℕ) (s : Sized sizes) (h : p < length sizes) (v : Sizing sizes z p) where
-  pub sizing-fits : SFits w32 (z +ℤ toZ w32 (ofZ w32 (getD sizes p (pos 0))))
-  sizing-fits =
-      let y = getD sizes p (pos 0) in
-      rw (back y (omega (arith, s .sized p))) (fits (z +ℤ y) (omega (arith, add-le z y, s .sized p, s .few)))
+module _ {sizes : List ℤ} {rows : List ℕ} {size : ℤ} {i : ℕ} (h : Rowed sizes rows) (v : Summing sizes rows size i) (l : i < length rows) where
+  abbrev next : ℤ
+  next = getD sizes (getD rows i 0) (pos 0)
 
-  pub sizing-turn : Sizing sizes (toZ w32 (ofZ w32 (z +ℤ toZ w32 (ofZ w32 (getD sizes p (pos 0)))))) (p + 1)
-  sizing-turn =
-      let y = getD sizes p (pos 0) in
-      rw (back y (omega (arith, s .sized p)), back (z +ℤ y) (omega (arith, add-le z y, s .sized p, s .few)))
-      (omega arith, omega (arith, add-le z y, s .sized p), sym (size-step sizes z p (length sizes - p) (length sizes - (p + 1)) (omega arith)) ∙ v .2)
+  next-back : toZ w32 (ofZ w32 next) ≡ next
+  next-back = back next (omega (arith, h .sized .sized (getD rows i 0)))
 
-pub sizing-done : (sizes : List ℤ) (z : ℤ) (p : ℕ) → length sizes ≤ p → Sizing sizes z p → z ≡ sizeOf sizes (wholeOf (length sizes))
-sizing-done sizes z p h v = sym (size-none sizes z p (length sizes - p) (omega arith)) ∙ v .2
+  next-small : natAbs (size +ℤ next) ≤ (i + 1) * 131072
+  next-small = omega (arith, v .small, add-le size next, h .sized .sized (getD rows i 0))
+
+  pub summing-fits : SFits w32 (size +ℤ toZ w32 (ofZ w32 (getD sizes (getD rows i 0) (pos 0))))
+  summing-fits = rw next-back (fits (size +ℤ next) (omega (arith, next-small, h .most)))
+
+  pub summing-on : Summing sizes rows (toZ w32 (ofZ w32 (size +ℤ toZ w32 (ofZ w32 (getD sizes (getD rows i 0) (pos 0)))))) (i + 1)
+  unfolding sizeFrom
+  summing-on = rw (next-back, back (size +ℤ next) (omega (arith, next-small, h .most)))
+      (record { small = next-small; rest = rw (add-one i) (sym (ap (λ (m : List ℕ). sizeFrom sizes size m) (drop-cons rows i 0 l)) ∙ v .rest) })
+
+pub summing-done : {sizes : List ℤ} {rows : List ℕ} {size : ℤ} {i : ℕ} → Summing sizes rows size i → length rows ≤ i → size ≡ sizeOf sizes rows
+unfolding sizeFrom
+summing-done {sizes} {rows} {size} v h = sym (ap (λ (m : List ℕ). sizeFrom sizes size m) (drop-of-length-le rows h)) ∙ v .rest
+
+-- ---- and over the whole haplotype, whose p-th position is p
+module _ {sizes : List ℤ} {size : ℤ} {p : ℕ} (s : Sized sizes) (v : Summing sizes (wholeOf (length sizes)) size p) (l : p < length sizes) where
+  rowed : Rowed sizes (wholeOf (length sizes))
+  rowed = record { sized = s; within = whole-below (length sizes); most = omega (arith, whole-length (length sizes), s .few) }
+
+  position : getD (wholeOf (length sizes)) p 0 ≡ p
+  position = whole-at (length sizes) p l
+
+  inside : p < length (wholeOf (length sizes))
+  inside = omega (arith, whole-length (length sizes))
+
+  pub whole-fits : SFits w32 (size +ℤ toZ w32 (ofZ w32 (getD sizes p (pos 0))))
+  whole-fits = rw position at (summing-fits rowed v inside)
+
+  pub whole-on : Summing sizes (wholeOf (length sizes)) (toZ w32 (ofZ w32 (size +ℤ toZ w32 (ofZ w32 (getD sizes p (pos 0)))))) (p + 1)
+  whole-on = rw position at (summing-on rowed v inside)
+
+pub whole-done : {sizes : List ℤ} {size : ℤ} {p : ℕ} → Summing sizes (wholeOf (length sizes)) size p → length sizes ≤ p → size ≡ sizeOf sizes (wholeOf (length sizes))
+whole-done {sizes} v h = summing-done v (omega (arith, whole-length (length sizes)))

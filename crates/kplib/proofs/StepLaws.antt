@@ -1,10 +1,11 @@
--- What a step of the search asks of its callees follows from where the search stands; and what they promise is where it stands after the step. Assumes nothing.
+-- Where a search stands, from its begin to its end: what a step asks of its callees follows from it, and what they promise is where the search stands after
+-- the step; it begins with the empty chain queued, and ends where no chain is queued or all steps are made. Assumes nothing.
 use mathlib.Core.Path.{_≡_, refl, ap, _∙_}
 use Prim.Native.Nat.{ℕ, _+_, _-_, _*_, _≤_, _<_}
 use native.Mathlib.Omega.{arith}
 use native.Mathlib.Nat.{mul-le-mul-right}
 use mathlib.Core.Bool.{Bool, true, false, cond}
-use mathlib.Core.List.{List, [], _∷_, _++_, reverse, reverse-cons}
+use mathlib.Core.List.{List, [], _∷_, reverse, reverse-cons}
 use lib.Dec.{eqb}
 use lib.IntN.{ℤ, pos, natAbs, _-ℤ_}
 use lib.ListN.{length, getD, set, take}
@@ -15,10 +16,10 @@ use mir.Syntax.{w32}
 use mir.Val.{toZ, ofZ}
 use Rattle.paths.specs.Chains.{isChain}
 use Rattle.paths.specs.Queue.{keyOf, Walk, Taken, Queued, Ended}
-use Rattle.paths.proofs.QueueLaws.{chain-parts, chain-end, chain-length}
+use Rattle.paths.proofs.QueueLaws.{all-append, chain-parts, chain-end, chain-length}
 use Rattle.paths.proofs.RunLaws.{taken-in, taken-queue, begin, step-on, end-empty, end-steps}
 use Rattle.kplib.specs.Sums.{sizeFrom, sizeOf}
-use Rattle.kplib.specs.Scoring.{Below}
+use Rattle.kplib.specs.Scoring.{AllBelow}
 use Rattle.kplib.specs.Search.{distanceTo, resultWith, startResult, noLower}
 use Rattle.kplib.specs.SearchSteps.{laterOf, advanced, notBegun, endAt, parentsOf, lastsOf, chainOf, Told, followsTold, distanceTold, resultTold}
 use Rattle.kplib.specs.SearchSteps.{Extending, Weighable, WeighedAs, Searchable, bestAt, Going, Gone}
@@ -30,15 +31,11 @@ use Rattle.kplib.proofs.SizeSumLaws.{size-le}
 use Rattle.kplib.proofs.LinkLaws.{parents-length, lasts-length}
 use Rattle.kplib.proofs.ExtensionLaws.{reverse-length, end-at}
 
-below-end : (n : ℕ) (l : List ℕ) (r : ℕ) → Below n l → r < n → Below n (l ++ (r ∷ []))
-below-end n [] r b h = (h, tt)
-below-end n (x ∷ l) r b h = (b .0, below-end n l r (b .1) h)
-
-chain-below : (follows : List ℕ → ℕ → Bool) (v : ℕ) (c : List ℕ) → isChain follows v c ≡ true → Below v (reverse c)
+chain-below : (follows : List ℕ → ℕ → Bool) (v : ℕ) (c : List ℕ) → isChain follows v c ≡ true → AllBelow v (reverse c)
 chain-below follows v [] h = tt
 chain-below follows v (r ∷ c) h =
     let p = chain-parts follows v r c h in
-    rw (reverse-cons r c) (below-end v (reverse c) r (chain-below follows v c (p .0)) (p .1))
+    rw (reverse-cons r c) (all-append (λ i. i < v) (reverse c) (r ∷ []) (chain-below follows v c (p .0)) (p .1, tt))
 
 later-result : (r x y : Leader) (t : Bool) (f : ℕ → List ℕ) → r ≡ cond t y x
     → resultWith (reverse (f (r .entry))) (r .scored) ≡ cond t (resultWith (reverse (f (y .entry))) (y .scored)) (resultWith (reverse (f (x .entry))) (x .scored))

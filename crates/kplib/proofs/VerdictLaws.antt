@@ -24,21 +24,21 @@ use Rattle.kplib.proofs.RoundingLaws.{beaten, score-safe}
 
 -- ---- the sizes as the machine reads them
 module _ {c : ℤ} {chainLen : ℕ} {l : ℤ} {listLen partial : ℕ} (y : Testable c chainLen l listLen partial) where
-  c-back : toZ w32 (ofZ w32 c) ≡ c
-  c-back = back c (omega (arith, y .chain-size))
+  pub chain-as-read : toZ w32 (ofZ w32 c) ≡ c
+  chain-as-read = back c (omega (arith, y .chain-size))
 
-  l-back : toZ w32 (ofZ w32 l) ≡ l
-  l-back = back l (omega (arith, y .list-size))
+  pub list-as-read : toZ w32 (ofZ w32 l) ≡ l
+  list-as-read = back l (omega (arith, y .list-size))
 
   module _ {a b : ℕ} (f : a ≡ sign (toZ w32 (ofZ w32 c))) (g : b ≡ sign (toZ w32 (ofZ w32 l))) where
     same-sign : a ≡ b → eqb (sign c) (sign l) ≡ true
-    same-sign h = eq-eqb (sign c) (sign l) (ap sign (sym c-back) ∙ sym f ∙ h ∙ g ∙ ap sign l-back)
+    same-sign h = eq-eqb (sign c) (sign l) (ap sign (sym chain-as-read) ∙ sym f ∙ h ∙ g ∙ ap sign list-as-read)
 
     other-sign : (a ≡ b → ⊥) → eqb (sign c) (sign l) ≡ false
-    other-sign h = ne-eqb (sign c) (sign l) (λ k. h (f ∙ ap sign c-back ∙ k ∙ ap sign (sym l-back) ∙ sym g))
+    other-sign h = ne-eqb (sign c) (sign l) (λ k. h (f ∙ ap sign chain-as-read ∙ k ∙ ap sign (sym list-as-read) ∙ sym g))
 
   size-is : {z : Float} → z ≡ sizesimValue (natAbs (toZ w32 (ofZ w32 c))) (natAbs (toZ w32 (ofZ w32 l))) → z ≡ sizesimValue (natAbs c) (natAbs l)
-  size-is e = e ∙ rw (c-back, l-back)
+  size-is e = e ∙ rw (chain-as-read, list-as-read)
 
 -- ---- the score of a list
 module _ {s : Settings} {c : ℤ} {chainRow : List ℤ} {chainLen : ℕ} {l : ℤ} {listRow : List ℤ} {listLen partial : ℕ} (y : Comparable s c chainRow chainLen l listRow listLen partial)

@@ -8,7 +8,7 @@ use lib.ListN.{length, take, drop, length-drop}
 use lib.Seq.{take-all}
 use Rattle.kplib.specs.Sums.{sizeOf}
 use Rattle.kplib.specs.Scoring.{chainTotal, codedScore, Scorable}
-use Rattle.kplib.specs.Answer.{placed}
+use Rattle.metrics.specs.Placed.{placed}
 use Rattle.kplib.specs.SearchSteps.{chainOf, scoreBy, Rowed, Weighable, WeighedAs}
 use Rattle.kplib.specs.declared.plan.Plan.{Plan}
 use Rattle.kplib.specs.declared.steps.Weighed.{Weighed}

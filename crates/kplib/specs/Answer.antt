@@ -1,9 +1,9 @@
 -- The answer of a call: what `apply_haplotype` returns, and what it writes.
 use Prim.Native.Nat.{ℕ, zero, suc, _+_, min}
 use mathlib.Core.Bool.{Bool, true, false, cond, _&&_}
-use mathlib.Core.List.{List, [], _++_}
+use mathlib.Core.List.{List, []}
 use lib.Dec.{eqb}
-use lib.ListN.{length, drop}
+use lib.ListN.{length}
 use Rattle.paths.specs.Search.{none}
 use Rattle.params.specs.Numbers.{Table, Parts, Call, firstFault, searchMode}
 use Rattle.kplib.specs.Score.{start}
@@ -65,10 +65,6 @@ answerOf c = answerWith (firstFault c) (foundAfter (firstFault c) c)
 
 unfoldable pub rowsOf : Call → List ℕ
 rowsOf c = foundAfter (firstFault c) c .rows
-
--- rows at the front of a buffer, its rest unchanged
-unfoldable pub placed : List ℕ → List ℕ → List ℕ
-placed buffer rows = rows ++ drop (length rows) buffer
 
 -- queue room is the shorter of the queue's slices
 abbrev pub queueRoom : List ℕ → List ℕ → ℕ

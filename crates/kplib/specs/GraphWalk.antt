@@ -8,8 +8,8 @@ use lib.ListN.{length, getD}
 
 -- whether row s extends a chain that ends at this node, 0 being the source
 unfoldable pub extendsAt : (ℕ → ℕ → Bool) → Bool → ℕ → ℕ → Bool
-extendsAt edge full zero s = leb 0 s && full
-extendsAt edge full (suc r) s = leb (suc r) s && (full && edge r s)
+extendsAt joins full zero s = leb 0 s && full
+extendsAt joins full (suc r) s = leb (suc r) s && (full && joins r s)
 
 -- the flag of rows r and s, the later last: whether they may stand together
 abbrev pub flagOf : List Bool → ℕ → ℕ → Bool
@@ -17,27 +17,27 @@ flagOf together r s = getD together (64 * r + s) false
 
 -- the flag of each pair of the v rows is the graph's edge
 abbrev pub Together : (ℕ → ℕ → Bool) → ℕ → List Bool → Type 0
-Together edge v together = (r s : ℕ) → r < s → s < v → flagOf together r s ≡ edge r s
+Together joins v together = (r s : ℕ) → r < s → s < v → flagOf together r s ≡ joins r s
 
 -- from t to u: the flags of row r and each later row of the v are laid, and those of the rows before r are as they were
-pub record RowLaid (edge : ℕ → ℕ → Bool) (v r : ℕ) (t u : List Bool) : Type 0 where
+pub record RowLaid (joins : ℕ → ℕ → Bool) (v r : ℕ) (t u : List Bool) : Type 0 where
   pub long : length u ≡ length t
-  pub laid : (s : ℕ) → r < s → s < v → flagOf u r s ≡ edge r s
+  pub laid : (s : ℕ) → r < s → s < v → flagOf u r s ≡ joins r s
   pub kept : (i : ℕ) → i < 64 * r → getD u i false ≡ getD t i false
 
 -- from this row on none of the v rows extends a chain that ends at this node
-pub record Stop (linked : ℕ → ℕ → Bool) (v end stop : ℕ) : Type 0 where
+pub record Stop (joins : ℕ → ℕ → Bool) (v end stop : ℕ) : Type 0 where
   pub within : stop ≤ v
-  pub none : (s : ℕ) → stop ≤ s → s < v → extendsAt linked true end s ≡ false
+  pub none : (s : ℕ) → stop ≤ s → s < v → extendsAt joins true end s ≡ false
 
 -- the stop of each node; the source's is the number of rows
-pub record Stopping (linked : ℕ → ℕ → Bool) (v : ℕ) (stops : List ℕ) : Type 0 where
+pub record Stopping (joins : ℕ → ℕ → Bool) (v : ℕ) (stops : List ℕ) : Type 0 where
   pub source : getD stops 0 0 ≡ v
-  pub each : (end : ℕ) → end ≤ v → Stop linked v end (getD stops end 0)
+  pub each : (end : ℕ) → end ≤ v → Stop joins v end (getD stops end 0)
 
 -- a count of the chains that go on by this row or a later one from a chain that ends at this node
-pub record Counting (linked : ℕ → ℕ → Bool) (stops : List ℕ) (end row : ℕ) : Type 0 where
-  pub stopping : Stopping linked (getD stops 0 0) stops
+pub record Counting (joins : ℕ → ℕ → Bool) (stops : List ℕ) (end row : ℕ) : Type 0 where
+  pub stopping : Stopping joins (getD stops 0 0) stops
   pub few : getD stops 0 0 ≤ 64
   pub end-in : end ≤ row
   pub row-in : row ≤ getD stops 0 0

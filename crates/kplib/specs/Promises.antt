@@ -9,7 +9,8 @@ use lib.ListN.{length}
 use Rattle.params.specs.declared.Settings.{Settings}
 use Rattle.params.specs.Numbers.{Call, tableOf, partsOf, callOf}
 use Rattle.kplib.specs.Graph.{cappedCount}
-use Rattle.kplib.specs.Answer.{answerOf, rowsOf, placed, queueRoom, searches}
+use Rattle.kplib.specs.Answer.{answerOf, rowsOf, queueRoom, searches}
+use Rattle.metrics.specs.Placed.{placed}
 use Rattle.kplib.specs.declared.vargraph.ChainCount.{ChainCount}
 use Rattle.kplib.specs.declared.traverse.Answer.{Answer}
 

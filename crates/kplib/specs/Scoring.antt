@@ -8,6 +8,7 @@ use lib.IntN.{ℤ, pos, natAbs}
 use lib.ListN.{length, getD, take, drop}
 use lib.Ieee.{Float, lt, le}
 use Rattle.metrics.specs.Similarity.{whole, sizesimValue, magnitudeSum}
+use Rattle.paths.specs.Best.{All}
 use Rattle.params.specs.Checked.{Flat, Sized}
 use Rattle.params.specs.Numbers.{Table, Parts, tableOf, rowAt}
 use Rattle.kplib.specs.Parts.{positionsFrom, wholeOf, choices, fallingLists, partLists}
@@ -33,9 +34,8 @@ pub record Tables (s : Settings) (t : Table) (p : Parts) : Type 0 where
   pub part-rows : Flat (length (p .sizes)) (4 ^ s .k) (p .features)
 
 -- every row of the list is below n
-abbrev pub Below : ℕ → List ℕ → Type 0
-Below n [] = Unit {0}
-Below n (r ∷ rows) = (r < n) × Below n rows
+abbrev pub AllBelow : ℕ → List ℕ → Type 0
+AllBelow n rows = All (λ r. r < n) rows
 
 -- ---- part lists as codes
 
@@ -58,7 +58,7 @@ pub record LaidList (partSizes : List ℤ) (code : ℕ) (size : ℤ) (list : Lis
   pub list-is : listOfCode (length partSizes) code ≡ list
   pub count-is : code / 65536 ≡ length list
   pub size-is : size ≡ sizeOf partSizes list
-  pub within : Below (length partSizes) list
+  pub within : AllBelow (length partSizes) list
   pub most : length list ≤ length partSizes
 
 -- the lists, one after another from `at` on
@@ -158,11 +158,11 @@ pub record Comparable (s : Settings) (chainSize : ℤ) (chainRow : List ℤ) (ch
   pub tests : Testable chainSize chainLen listSize listLen partial
 
 -- a summed chain and a summed list of so many parts in one slice, the chain's row in front
-pub record Paired (plan : Plan) (chainSize : ℤ) (chainLen : ℕ) (listSize : ℤ) (listLen : ℕ) (rows : List ℤ) : Type 0 where
+pub record Paired (plan : Plan) (chainSize : ℤ) (chainLen : ℕ) (listSize : ℤ) (listLen : ℕ) (scratch : List ℤ) : Type 0 where
   pub short : plan .width ≤ 4096
-  pub rows-are : length rows ≡ plan .width + plan .width
+  pub scratch-is : length scratch ≡ plan .width + plan .width
   pub most : listLen ≤ plan .m
-  pub comparable : Comparable (plan .s) chainSize (take (plan .width) rows) chainLen listSize (drop (plan .width) rows) listLen (plan .m - listLen)
+  pub comparable : Comparable (plan .s) chainSize (take (plan .width) scratch) chainLen listSize (drop (plan .width) scratch) listLen (plan .m - listLen)
 
 -- whether a list passes the sign and size tests and, were its seqsim 1.0, would score above the best
 unfoldable pub mayWin : Settings → ℤ → ℕ → ℤ → ℕ → ℕ → Float → Bool
@@ -182,7 +182,7 @@ pub record Planned (plan : Plan) : Type 0 where
 -- what a code and a size say of a list of m parts
 pub record CodedList (m code : ℕ) (size : ℤ) : Type 0 where
   pub count-is : code / 65536 ≡ length (listOfCode m code)
-  pub within : Below m (listOfCode m code)
+  pub within : AllBelow m (listOfCode m code)
   pub most : code / 65536 ≤ m
   pub size-small : natAbs size ≤ 8388608
 
@@ -230,7 +230,8 @@ abbrev pub noneTried : Best
 noneTried = record { scored = start; summed = false }
 
 -- what scoring a chain asks: its rows and size, the parts' rows, the lists laid down, and the scratch
-pub record Scorable (plan : Plan) (features : List ℤ) (chain : List ℕ) (chainSize : ℤ) (partFeatures : List ℤ) (codes : List ℕ) (listSizes : List ℤ) (chosen : List ℕ) (scratch : List ℤ) : Type 0 where
+pub record Scorable (plan : Plan) (features : List ℤ) (chain : List ℕ) (chainSize : ℤ) (partFeatures : List ℤ) (codes : List ℕ)
+    (listSizes : List ℤ) (chosen : List ℕ) (scratch : List ℤ) : Type 0 where
   pub planned : Planned plan
   pub chained : Summable (plan .width) features chain
   pub chain-size : natAbs chainSize ≤ 8388608

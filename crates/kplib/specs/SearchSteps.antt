@@ -14,7 +14,7 @@ use Rattle.params.specs.Checked.{Flat, Sized, Checked}
 use Rattle.params.specs.Numbers.{Table, Parts}
 use Rattle.kplib.specs.Sums.{sizeOf, featuresOf, totalOf}
 use Rattle.kplib.specs.Score.{start}
-use Rattle.kplib.specs.Scoring.{Below, Planned, Coded, codedScore}
+use Rattle.kplib.specs.Scoring.{AllBelow, Planned, Coded, codedScore}
 use Rattle.kplib.specs.GraphWalk.{flagOf}
 use Rattle.kplib.specs.Search.{Result, distanceTo, resultWith, startResult, noLower, followsIn, distanceIn, resultOf}
 use Rattle.params.specs.declared.Settings.{Settings}
@@ -67,7 +67,7 @@ endAt (suc e) r = r + 1
 -- rows of a table whose sizes are to be summed
 pub record Rowed (sizes : List ℤ) (rows : List ℕ) : Type 0 where
   pub sized : Sized sizes
-  pub within : Below (length sizes) rows
+  pub within : AllBelow (length sizes) rows
   pub most : length rows ≤ 64
 
 -- ---- the queue's links
@@ -143,7 +143,7 @@ pub record Weighable (plan : Plan) (sizes features partFeatures : List ℤ) (cod
   pub part-rows : Flat (plan .m) (plan .width) partFeatures
   pub coded : Coded (plan .m) codes listSizes
   pub walk : Walk (parentsOf links) (lastsOf links) entry 64
-  pub within : Below (length sizes) (reverse (chainOf links entry))
+  pub within : AllBelow (length sizes) (reverse (chainOf links entry))
   pub most : length (reverse (chainOf links entry)) ≤ 64
   pub scratch-is : length scratch ≡ plan .width + plan .width
 

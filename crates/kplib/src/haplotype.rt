@@ -1,6 +1,6 @@
 // The part lists of a haplotype, laid down once a search as codes and sizes (haplotype.rs).
 ghost use mathlib.Core.Path.{_≡_};
-ghost use Prim.Native.Nat.{_-_, _/_, _≤_, _<_, max};
+ghost use Prim.Native.Nat.{_/_, _≤_, _<_};
 ghost use lib.IntN.{pos, natAbs, _+ℤ_};
 ghost use lib.ListN.{length, getD, take};
 ghost use Rattle.params.specs.Checked.{Sized};
@@ -9,24 +9,13 @@ ghost use Rattle.kplib.specs.Sums.{sizeOf};
 ghost use Rattle.kplib.specs.Scoring.{positionsOfBits, listOfCode, Choosing, Chosen, LayingLengths, LaidLengths, Layable, LaidDown};
 use params::Settings;
 
-fn larger(a: usize, b: usize) -> usize
-    ensures { λ r. ⌜ r ≡ max a b ⌝ }
-{
-    if a < b { b } else { a }
-}
-
-fn less(a: usize, b: usize) -> usize
-    ensures { λ r. ⌜ r ≡ a - b ⌝ }
-{
-    if a < b { 0 } else { a - b }
-}
-
 // How many lengths of part lists there are, where there are more than the whole haplotype.
 fn lengths_of(m: usize, fnmax: u32) -> usize
     requires { ⌜ m ≤ 64 ⌝ }
     ensures { λ r. ⌜ (r ≡ lengthsOf m fnmax) × (r ≤ m) ⌝ }
 {
-    m + 1 - larger(1, less(m, fnmax as usize))
+    let n = fnmax as usize;
+    if n < m { n + 1 } else { m }
 }
 
 // A list's size with position p's added.

@@ -6,12 +6,13 @@ ghost use lib.Dec.{eqb};
 ghost use lib.IntN.{natAbs};
 ghost use lib.ListN.{length, take, drop};
 ghost use Rattle.metrics.specs.Similarity.{sizesimValue, magnitudeSum};
-ghost use Rattle.kplib.specs.Sums.{rowPlus, zeros, featuresFrom, featuresOf};
+ghost use Rattle.kplib.specs.Sums.{rowPlus, featuresFrom, featuresOf};
 ghost use Rattle.kplib.specs.Score.{sign, seqsimOfRows, gapOf, scoreValue, listScore, start, targetOf, greaterOf};
 ghost use Rattle.kplib.specs.Scoring.{Summable, Ready, Testable, Comparable, Paired, mayWin, total, chainTotal, codedScore, Attempt, Attempted, noneTried, Scorable};
 use crate::haplotype::positions;
 use crate::plan::Plan;
 use metrics::Sim;
+use metrics::kmer::clear_row;
 use metrics::lanes::magnitude;
 use params::Settings;
 
@@ -187,16 +188,6 @@ fn add_row(acc: &mut [i32], row: &[i32])
     }
 }
 
-fn clear_row(row: &mut [i32])
-    ensures { λ _. ⌜ now (row .exit) ≡ zeros (length (now (row .entry))) ⌝ }
-{
-    let mut i: usize = 0;
-    while i < row.len() {
-        row[i] = 0;
-        i += 1;
-    }
-}
-
 // Adds the rows of a table that a list names.
 fn add_rows(table: &[i32], rows: &[u32], out: &mut [i32])
     requires { ⌜ (Summable (length (now out)) (now table) (now rows)) × (magnitudeSum (now out) ≡ 0) ⌝ }
@@ -255,19 +246,19 @@ fn may_win(
     !(score_value(s, 1.0, size, partial, g) <= best)
 }
 
-// A list's score against a chain. The front of `rows` is the chain's row, its rest the list's.
+// A list's score against a chain. The front of `scratch` is the chain's row, its rest the list's.
 fn score_rows(
     plan: Plan,
     chain_size: i32,
     chain_len: usize,
     list_size: i32,
     list_len: usize,
-    rows: &[i32],
+    scratch: &[i32],
 ) -> Verdict
-    requires { ⌜ Paired plan «chain_size» «chain_len» «list_size» «list_len» (now rows) ⌝ }
+    requires { ⌜ Paired plan «chain_size» «chain_len» «list_size» «list_len» (now scratch) ⌝ }
     ensures { λ r.
-        let chain = total «chain_size» (take (plan .width) (now (rows .entry))) «chain_len» in
-        let list = total «list_size» (drop (plan .width) (now (rows .entry))) «list_len» in
+        let chain = total «chain_size» (take (plan .width) (now (scratch .entry))) «chain_len» in
+        let list = total «list_size» (drop (plan .width) (now (scratch .entry))) «list_len» in
         ⌜ r ≡ listScore (plan .s) chain list (plan .m - «list_len») ⌝ }
 {
     let w = plan.width;
@@ -275,10 +266,10 @@ fn score_rows(
     list_score(
         plan.s,
         chain_size,
-        &rows[..w],
+        &scratch[..w],
         chain_len,
         list_size,
-        &rows[w..],
+        &scratch[w..],
         list_len,
         partial,
     )

@@ -1,4 +1,4 @@
-// What the steps of a search are told once.
+// What a search or a one-to-one match is told once.
 use params::Settings;
 
 // `width` is how many entries a feature row has, `m` how many parts the haplotype has, `target` its size.

@@ -6,12 +6,10 @@ ghost use Prim.Native.Nat.{ℕ, _+_, _-_, _<_, _≤_};
 ghost use lib.ListN.{length, getD, take, drop};
 ghost use lib.IntN.{natAbs, _-ℤ_};
 ghost use mathlib.Core.List.{reverse};
-ghost use Rattle.paths.specs.Count.{mayFollow};
 ghost use Rattle.paths.specs.Queue.{Least, Taken, Walk, Queued, keyOf, without};
 ghost use Rattle.kplib.specs.Sums.{sizeOf};
-ghost use Rattle.kplib.specs.GraphWalk.{flagOf};
 ghost use Rattle.kplib.specs.Search.{distanceTo};
-ghost use Rattle.kplib.specs.SearchSteps.{parentsOf, lastsOf, chainOf, Rowed, Extending, endAt};
+ghost use Rattle.kplib.specs.SearchSteps.{parentsOf, lastsOf, chainOf, Rowed, Extending, followsBy, endAt};
 use crate::plan::Plan;
 use crate::vargraph::Node;
 use crate::vargraph::Row;
@@ -163,7 +161,7 @@ pub(crate) fn queue_extensions(
 ) -> usize
     requires { ⌜ Extending plan (now together) (now sizes) (now links) (now keys) used queued entry (end .0) size ⌝ }
     ensures { λ r.
-        let follows = mayFollow (flagOf (now (together .entry))) (plan .s .full) in
+        let follows = followsBy plan (now (together .entry)) in
         let distance = distanceTo (now (sizes .entry)) (plan .target) in
         ⌜ Queued follows (length (now (sizes .entry))) distance (parentsOf (now (links .entry))) (lastsOf (now (links .entry))) (take queued (now (keys .entry))) used entry
         (parentsOf (now (links .exit))) (lastsOf (now (links .exit))) (take (queued + r) (now (keys .exit))) r ⌝ }

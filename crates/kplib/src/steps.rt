@@ -214,7 +214,7 @@ pub(crate) fn entries(k: u8) -> usize
     metrics::kmer::entries(k)
 }
 
-// The search, with its scratch: codes and sizes of at most 2,047 part lists and the flags of all pairs, laid down once, and two feature rows.
+// The search, with the room that it asks: codes and sizes of at most 2,047 part lists and the flags of all pairs, laid down once, and two feature rows.
 pub(crate) fn search(
     s: Settings,
     starts: &[u64],

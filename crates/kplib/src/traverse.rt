@@ -1,15 +1,15 @@
 // The answer of a call: the search's, or the one-to-one match's (traverse.rs).
 ghost use mathlib.Core.Path.{_≡_};
-ghost use mathlib.Core.List.{reverse};
+ghost use mathlib.Core.List.{[], reverse};
 ghost use Prim.Native.Nat.{_≤_, min};
 ghost use lib.ListN.{length};
 ghost use Rattle.paths.specs.Queue.{Walk};
-ghost use Rattle.params.specs.Checked.{Checked};
 ghost use Rattle.params.specs.Numbers.{tableOf, partsOf};
 ghost use Rattle.kplib.specs.OneToOne.{oneToOne, loneRowsAt};
 ghost use Rattle.kplib.specs.Scoring.{unplaced, Tables};
 ghost use Rattle.kplib.specs.Search.{rowsFor};
-ghost use Rattle.kplib.specs.Answer.{searched, matchedAlone, answerWith, placed};
+ghost use Rattle.kplib.specs.Answer.{searched, matchedAlone, answerWith};
+ghost use Rattle.metrics.specs.Placed.{placed};
 ghost use Rattle.kplib.specs.SearchSteps.{parentsOf, lastsOf, chainOf, answerParts, matchedBy, Startable};
 ghost use Rattle.kplib.specs.Promises.{ApplyHaplotypePromise};
 use crate::onetoone::Lone;
@@ -154,7 +154,7 @@ fn answer_search(
     answer_with(0, n, scored, end.count, end.queued == 0)
 }
 
-// The one-to-one match, with its scratch.
+// The one-to-one match, with the room that it asks.
 fn alone(
     s: Settings,
     sizes: &[i32],
@@ -183,17 +183,16 @@ fn alone(
 fn answer_alone(
     s: Settings,
     starts: &[u64],
-    ends: &[u64],
     sizes: &[i32],
     features: &[i32],
     part_sizes: &[i32],
     part_features: &[i32],
     rows: &mut [u32],
 ) -> Answer
-    requires { ⌜ Checked s (tableOf (now starts) (now ends) (now sizes) (now features)) (partsOf (now «part_sizes») (now «part_features»)) ⌝ }
-    requires { ⌜ length (now starts) ≤ length (now rows) ⌝ }
+    requires { ⌜ (1 ≤ s .k) × (s .k ≤ 6) × (Tables s (unplaced (now sizes) (now features)) (partsOf (now «part_sizes») (now «part_features»))) ⌝ }
+    requires { ⌜ (length (now starts) ≤ 64) × (1 ≤ length (now rows)) ⌝ }
     ensures { λ r.
-        let t = tableOf (now (starts .entry)) (now (ends .entry)) (now (sizes .entry)) (now (features .entry)) in
+        let t = tableOf (now (starts .entry)) [] (now (sizes .entry)) (now (features .entry)) in
         let p = partsOf (now («part_sizes» .entry)) (now («part_features» .entry)) in
         ⌜ (r ≡ answerWith 0 (matchedAlone s t p)) × (now (rows .exit) ≡ placed (now (rows .entry)) (matchedAlone s t p .rows)) ⌝ }
 {
@@ -204,10 +203,11 @@ fn answer_alone(
     answer_with(0, n, scored, starts.len() + 2, true)
 }
 
-fn smaller(a: usize, b: usize) -> usize
-    ensures { λ r. ⌜ r ≡ min a b ⌝ }
+// The queue holds as many entries as both of its slices have.
+fn queue_room(links: usize, keys: usize) -> usize
+    ensures { λ r. ⌜ r ≡ min links keys ⌝ }
 {
-    if a < b { a } else { b }
+    if links < keys { links } else { keys }
 }
 
 // The best chain of a table for a haplotype, or the best node alone. `links` and `keys` are the queue's room.
@@ -234,7 +234,7 @@ pub fn apply_haplotype(
         features,
         part_sizes,
         part_features,
-        smaller(links.len(), keys.len()),
+        queue_room(links.len(), keys.len()),
         rows.len(),
     );
     if refusal != 0 {
@@ -254,14 +254,5 @@ pub fn apply_haplotype(
             rows,
         );
     }
-    answer_alone(
-        s,
-        starts,
-        ends,
-        sizes,
-        features,
-        part_sizes,
-        part_features,
-        rows,
-    )
+    answer_alone(s, starts, sizes, features, part_sizes, part_features, rows)
 }

@@ -1,4 +1,4 @@
-// The graph of a table of variants (vargraph.rs): an edge is a test of two rows, asked once a search for each pair.
+// The graph of a table of variants (vargraph.rs): an edge is a test of two rows, asked once a search and once a count for each pair.
 use metrics::overlaps;
 use metrics::refusals::ACCEPTED;
 use params::checks::count_fault;
@@ -110,9 +110,9 @@ fn stops_of(together: &[bool; 4096], v: usize) -> [u32; 65]
 fn count_rows(together: &[bool; 4096], stops: &[u32; 65], end: Node, row: Row, cap: u32) -> u32
     requires { ⌜ Counting (flagOf (now together)) (now stops) (end .0) (row .0) ⌝ }
     ensures { λ left.
-        let linked = flagOf (now (together .entry)) in
+        let joins = flagOf (now (together .entry)) in
         let v = getD (now (stops .entry)) 0 0 in
-        ⌜ left ≡ cap - sumRowsFrom (extendsAt linked true (end .0)) (rowCount linked v) (v - row .0) (row .0) ⌝ }
+        ⌜ left ≡ cap - sumRowsFrom (extendsAt joins true (end .0)) (rowCount joins v) (v - row .0) (row .0) ⌝ }
 {
     if cap == 0 {
         return 0;

@@ -5,7 +5,8 @@ use mathlib.Core.Path.{_≡_}
 use mathlib.Core.Bool.{Bool}
 use mathlib.Core.List.{List}
 use lib.Dec.{ltb}
-use lib.IntN.{ℤ, natAbs}
+use lib.IntN.{ℤ, pos, natAbs}
+use lib.ListN.{length, replicate}
 use lib.Ieee.{Float, binary32, toBits}
 use Rattle.metrics.specs.Letters.{countsOf, entryCount, counterAnswer, rowAfter}
 use Rattle.metrics.specs.Similarity.{sizesimOf, seqsimOf, overlapsOf, magnitudeSum}
@@ -23,6 +24,9 @@ OverlapsPromise s1 e1 s2 e2 r = r ≡ overlapsOf s1 e1 s2 e2
 
 abbrev pub SeqToKmerPromise : List ℕ → ℕ → Bool → List ℤ → List ℤ → Counted → Type 0
 SeqToKmerPromise seq k negative out out' r = (r ≡ counterAnswer k seq out) × (out' ≡ rowAfter r (countsOf k negative seq) out)
+
+abbrev pub ClearRowPromise : List ℤ → List ℤ → Type 0
+ClearRowPromise row row' = row' ≡ replicate (length row) (pos 0)
 
 abbrev pub EntriesPromise : ℕ → ℕ → Type 0
 EntriesPromise k r = r ≡ entryCount k

@@ -6,7 +6,7 @@ ghost use lib.IntN.{pos, natAbs, sucℤ, predℤ};
 ghost use lib.ListN.{length, replicate};
 ghost use Rattle.metrics.specs.Letters.{codeOf, countsOf};
 ghost use Rattle.metrics.specs.Lanes.{Coded};
-ghost use Rattle.metrics.specs.Promises.{EntriesPromise, SeqToKmerPromise};
+ghost use Rattle.metrics.specs.Promises.{ClearRowPromise, EntriesPromise, SeqToKmerPromise};
 use crate::refusals::BAD_K;
 use crate::refusals::BAD_LENGTHS;
 use crate::refusals::TOO_MANY_LETTERS;
@@ -86,12 +86,13 @@ fn counted_once_more(x: i32, negative: bool) -> i32
     if negative { x - 1 } else { x + 1 }
 }
 
-fn clear_row(out: &mut [i32])
-    ensures { λ _. ⌜ now (out .exit) ≡ replicate (length (now (out .entry))) (pos 0) ⌝ }
+// A row of zeros, whatever it held.
+pub fn clear_row(row: &mut [i32])
+    ensures { λ _. ⌜ ClearRowPromise (now (row .entry)) (now (row .exit)) ⌝ }
 {
     let mut i = 0;
-    while i < out.len() {
-        out[i] = 0;
+    while i < row.len() {
+        row[i] = 0;
         i += 1;
     }
 }

@@ -9,14 +9,12 @@ use mathlib.Core.Bool.{Bool, true, false, not, cond, _&&_, _||_}
 use mathlib.Core.List.{List, [], _∷_, _++_}
 use borrow.Author.Tests.{ltb-true, ltb-false, lt-ltb, le-ltb, le-leb, lt-leb, eq-eqb, ne-eqb}
 use lib.Dec.{leb, ltb, eqb}
+use Rattle.paths.proofs.BooleanLaws.{clash, and-both}
 use Rattle.params.specs.Numbers.{Rule, firstOf, anyBelow}
 
 or-true : (a : Bool) → (a || true) ≡ true
 or-true true = refl
 or-true false = refl
-
-clash : (t : Bool) → t ≡ true → t ≡ false → ⊥
-clash t p q = let z : _≡_ {A = ℕ} 0 1 = cc in omega arith
 
 -- a limit asked of a number that was computed
 pub over : (limit asked n : ℕ) → asked ≡ n → limit < asked → ltb limit n ≡ true
@@ -65,12 +63,8 @@ abbrev pub Passed : List Rule → Type 0
 Passed [] = Unit {0}
 Passed (r ∷ rows) = (r .given ≡ false) × Passed rows
 
-pub and-yes : (a b : Bool) → (a && b) ≡ true → (a ≡ true) × (b ≡ true)
-and-yes true b h = (refl, h)
-and-yes false b h = absurd (clash false h refl)
-
 pub or-no : (a b : Bool) → (a || b) ≡ false → (a ≡ false) × (b ≡ false)
-or-no true b h = absurd (clash true refl h)
+or-no true b h = absurd (clash true h refl)
 or-no false b h = (refl, h)
 
 -- two groups of rows: the first finds one, or hands on to the second
@@ -91,7 +85,7 @@ goes-on (r ∷ rows) later found p h = passed (r .given) (r .number) (firstOf (r
 pub none-given : (rows : List Rule) → numbered rows ≡ true → firstOf rows ≡ 0 → Passed rows
 none-given [] n e = tt
 none-given (r ∷ rows) n e =
-    let both = and-yes (ltb 0 (r .number)) (numbered rows) n in
+    let both = and-both (ltb 0 (r .number)) (numbered rows) n in
     go (r .given) refl e (ltb-true 0 (r .number) (both .0)) (λ f. none-given rows (both .1) f)
   where
     go : (t : Bool) → r .given ≡ t → cond t (r .number) (firstOf rows) ≡ 0 → 0 < r .number → (firstOf rows ≡ 0 → Passed rows) → (r .given ≡ false) × Passed rows
@@ -142,5 +136,5 @@ module _ (test : ℕ → Bool) where
   any-where n none i h = go (test i) refl
     where
       go : (b : Bool) → test i ≡ b → test i ≡ false
-      go true e = absurd (clash (anyBelow n test) (any-here n i h e) none)
+      go true e = absurd (clash (anyBelow n test) none (any-here n i h e))
       go false e = e

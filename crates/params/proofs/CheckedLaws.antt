@@ -10,12 +10,14 @@ use borrow.Author.Tests.{ltb-true, ltb-false, leb-true, eqb-true, eqb-false, not
 use lib.Dec.{leb, ltb, eqb}
 use lib.IntN.{ℤ, pos, natAbs}
 use lib.ListN.{length, getD, take, drop-of-length-le}
+use Rattle.paths.proofs.BooleanLaws.{and-both}
 use Rattle.metrics.specs.Similarity.{magnitudeSum}
 use Rattle.metrics.proofs.Entries.{few-entries}
 use Rattle.params.specs.declared.Settings.{Settings}
 use Rattle.params.specs.Checked.{Flat, Checked}
-use Rattle.params.specs.Numbers.{Table, Parts, Call, badK, badNumber, badSize, badRow, searchMode, queueNeeds, littleQueueRoom, settingsRules, lengthRules, roomRules, callRules, firstFault, rowAt}
-use Rattle.params.proofs.CheckLaws.{Passed, none-given, or-no, and-yes, any-where}
+use Rattle.params.specs.Numbers.{Table, Parts, Call, badK, badNumber, badSize, badRow, searchMode, queueNeeds, littleQueueRoom}
+use Rattle.params.specs.Numbers.{settingsRules, lengthRules, roomRules, callRules, firstFault, rowAt}
+use Rattle.params.proofs.CheckLaws.{Passed, none-given, or-no, any-where}
 
 agreed : (a b : ℕ) → not (eqb a b) ≡ false → a ≡ b
 agreed a b e = eqb-true a b (not-false (eqb a b) e)
@@ -30,7 +32,7 @@ pub record Settled (s : Settings) : Type 0 where
 pub settled : (s : Settings) → Passed (settingsRules s) → Settled s
 unfolding badK badNumber
 settled s p =
-    let k = and-yes (leb 1 (s .k)) (leb (s .k) 6) (not-false (leb 1 (s .k) && leb (s .k) 6) (p .0)) in
+    let k = and-both (leb 1 (s .k)) (leb (s .k) 6) (not-false (leb 1 (s .k) && leb (s .k) 6) (p .0)) in
     let a = or-no (ltb 4095 (s .maxpaths)) _ (p .1 .1 .0) in
     let b = or-no (ltb 65535 (s .maxnodes)) _ (a .1) in
     let c = or-no (ltb 65535 (s .fnmax)) _ (b .1) in

@@ -111,7 +111,7 @@ fallingStart starts = anyBelow (length starts - 1) (λ r. ltb (getD starts (r + 
 unfoldable pub badSize : List ℤ → Bool
 badSize sizes = anyBelow (length sizes) (λ r. ltb 131072 (natAbs (getD sizes r (pos 0))))
 
--- 10: one of n feature rows, of e entries each, over its limit
+-- 10: a feature row over its limit, of n rows of e entries each
 unfoldable pub badRow : ℕ → ℕ → List ℤ → Bool
 badRow e n features = anyBelow n (λ r. ltb 131072 (magnitudeSum (rowAt e features r)))
 

@@ -1,4 +1,4 @@
--- The fold gives the latest of the best, and there is one only. Assumes nothing.
+-- What holds of each element of a list; and the fold gives the latest of the best. Assumes nothing.
 use Prim.Native.Nat.{ℕ, _≤_, _+_}
 use native.Mathlib.Omega.{arith}
 use mathlib.Core.Path.{_≡_, refl, sym, _∙_}
@@ -28,9 +28,6 @@ all-timesIn P x (y ∷ l) h o = go (sameRows x y) refl o (λ k. all-timesIn P x 
     go : (t : Bool) → sameRows x y ≡ t → 1 ≤ bit t + timesIn x l → (1 ≤ timesIn x l → P x) → P x
     go true e o ih = rw (sameRows-eq x y e) (h .0)
     go false e o ih = ih (omega arith)
-
-pub clash : (t : Bool) → t ≡ false → t ≡ true → ⊥
-clash t p q = let z : _≡_ {A = ℕ} 0 1 = cc in omega arith
 
 module _ {R : Type 0} (P : R → Type 0) (le : R → R → Bool) (ord : Order P le) where
   le-refl : (a : R) → P a → le a a ≡ true
@@ -66,18 +63,6 @@ module _ {R : Type 0} (P : R → Type 0) (le : R → R → Bool) (ord : Order P 
       go : (t : Bool) → le b r ≡ t → Latest le (best le r l) (r ∷ l) → Latest le (best le b l) (b ∷ l) → Latest le (best le (cond t r b) l) (b ∷ (r ∷ l))
       go true e k q = there (ord .trans b r (best le r l) p (a .0) (latest-good k a) e (upper k a .0)) k
       go false e k q = skip b r (best le b l) l p (a .0) (latest-good q (p, a .1)) e q
-
--- two results that are the latest of the best coincide
-module _ {R : Type 0} (le : R → R → Bool) where
-  lower : {m : R} {l : List R} (d : R) → Latest le m l → All (λ k. le d k ≡ false) l → le d m ≡ false
-  lower d (here h) a = a .0
-  lower d (there e t) a = lower d t (a .1)
-
-  pub latest-unique : {m k : R} {l : List R} → Latest le m l → Latest le k l → m ≡ k
-  latest-unique (here h) (here h′) = refl
-  latest-unique (here {m = m} h) (there {m = k} e t) = absurd (clash (le m k) (lower m t h) e)
-  latest-unique (there {m = m} e t) (here {m = k} h) = absurd (clash (le k m) (lower k t h) e)
-  latest-unique (there e t) (there e′ t′) = latest-unique t t′
 
 -- a start that the first one replaces leaves no trace: `start` is the scoring's start, 0.0, and each chain's score is at least that
 pub best-first : {R : Type 0} (P : R → Type 0) (le : R → R → Bool) (ord : Order P le) (start r : R) (l : List R) → le start r ≡ true → P r → All P l

@@ -8,18 +8,15 @@ use lib.Dec.{leb, ltb, eqb}
 use borrow.Author.Tests.{leb-true}
 use Rattle.paths.specs.Sums.{sumBy, bit, sameRows}
 use Rattle.paths.specs.Chains.{firstAfter, extends, extensions, isChain, chainsWithin, chainsFrom}
+use Rattle.paths.proofs.BooleanLaws.{and-both}
 use Rattle.paths.proofs.SumLaws.{bit-and, sameRows-eq}
 use Rattle.paths.proofs.OrderLaws.{sum-next, hits, hits-suc, hits-none}
-
-and-left : (a b : Bool) → (a && b) ≡ true → a ≡ true
-and-left true b h = refl
-and-left false b h = h
 
 module _ (follows : List ℕ → ℕ → Bool) where
   -- an extending row is later
   pub extends-firstAfter : (c : List ℕ) (s : ℕ) → extends follows c s ≡ true → firstAfter c ≤ s
   unfolding extends
-  extends-firstAfter c s h = leb-true (firstAfter c) s (and-left (leb (firstAfter c) s) (follows c s) h)
+  extends-firstAfter c s h = leb-true (firstAfter c) s (and-both (leb (firstAfter c) s) (follows c s) h .0)
 
   -- two weights that agree on c's extensions have one sum there
   pub sum-extensions : (w w′ : List ℕ → ℕ) (c : List ℕ) (k : ℕ) → ((s : ℕ) → s < k → extends follows c s ≡ true → w (s ∷ c) ≡ w′ (s ∷ c))
@@ -49,14 +46,16 @@ module _ (follows : List ℕ → ℕ → Bool) where
     enough zero (suc g) c p q = omega (arith, no-extensions (λ e. chainsWithin follows n g e) c n (omega arith))
     enough (suc f) zero c p q = omega (arith, no-extensions (λ e. chainsWithin follows n f e) c n (omega arith))
     enough (suc f) (suc g) c p q =
-        ap suc (sum-extensions (λ e. chainsWithin follows n f e) (λ e. chainsWithin follows n g e) c n (λ s l e. enough f g (s ∷ c) (omega (arith, extends-firstAfter c s e)) (omega (arith, extends-firstAfter c s e))))
+        ap suc (sum-extensions (λ e. chainsWithin follows n f e) (λ e. chainsWithin follows n g e) c n
+        (λ s l e. enough f g (s ∷ c) (omega (arith, extends-firstAfter c s e)) (omega (arith, extends-firstAfter c s e))))
 
     -- document 01's recursion: c itself, and the counts of its extensions
     pub chainsFrom-step : (c : List ℕ) → chainsFrom follows n c ≡ 1 + sumBy (λ e. chainsFrom follows n e) (extensions follows n c)
     unfolding chainsFrom chainsWithin
     chainsFrom-step c =
         let a : chainsWithin follows n (n - firstAfter c) c ≡ chainsWithin follows n (suc (n - firstAfter c)) c = enough (n - firstAfter c) (suc (n - firstAfter c)) c (omega arith) (omega arith) in
-        let b = sum-extensions (λ e. chainsWithin follows n (n - firstAfter c) e) (λ e. chainsFrom follows n e) c n (λ s l e. enough (n - firstAfter c) (n - suc s) (s ∷ c) (omega (arith, extends-firstAfter c s e)) (omega arith)) in
+        let b = sum-extensions (λ e. chainsWithin follows n (n - firstAfter c) e) (λ e. chainsFrom follows n e) c n
+        (λ s l e. enough (n - firstAfter c) (n - suc s) (s ∷ c) (omega (arith, extends-firstAfter c s e)) (omega arith)) in
         omega (arith, a, b)
 
     -- 1 if s is a row that extends c, 0 else

@@ -13,7 +13,7 @@ use Rattle.paths.specs.Sums.{sumBy, bit, sameRows, timesIn}
 use Rattle.paths.specs.Chains.{extensions, isChain, chainsFrom}
 use Rattle.paths.specs.Count.{mayFollow, chainCount}
 use Rattle.paths.specs.Search.{none, pick, after, scored, left}
-use Rattle.paths.specs.Demand.{scoredChains, leftChains, Lists, Counted, Demand3}
+use Rattle.paths.specs.Demand.{scoredChains, leftChains, Lists, NumberOfChains, SearchDemand}
 use Rattle.paths.specs.Best.{Order, best, Latest}
 use Rattle.paths.proofs.SumLaws.{sum-one, bit-le, sameRows-eq, sameRows-refl}
 use Rattle.paths.proofs.SearchLaws.{conserve}
@@ -131,7 +131,7 @@ lists-agree follows n a b p q = same-length a b (λ x. go x (isChain follows n x
     go x true e = omega (arith, p .each-chain x e, q .each-chain x e)
     go x false e = omega (arith, p .nothing-else x e, q .nothing-else x e)
 
-chains-counted : (follows : List ℕ → ℕ → Bool) (n : ℕ) → Counted follows n (chainsFrom follows n [])
+chains-counted : (follows : List ℕ → ℕ → Bool) (n : ℕ) → NumberOfChains follows n (chainsFrom follows n [])
 chains-counted follows n =
     let chains = scoredChains follows n (λ c. 0) (chainsFrom follows n []) in
     let listed : Lists follows n chains = lists follows n (λ c. 0) (chainsFrom follows n []) (omega arith) in
@@ -139,7 +139,7 @@ chains-counted follows n =
     record { chains = chains; listed = listed; number = number; every = λ l h. lists-agree follows n l chains h listed ∙ number }
 
 -- document 01's N is the number of chains
-pub count-counts : (edge : ℕ → ℕ → Bool) (n : ℕ) (full : Bool) → Counted (mayFollow edge full) n (chainCount edge n full)
+pub count-counts : (edge : ℕ → ℕ → Bool) (n : ℕ) (full : Bool) → NumberOfChains (mayFollow edge full) n (chainCount edge n full)
 count-counts edge n true = rw (← doc-full edge n) (chains-counted (mayFollow edge true) n)
 count-counts edge n false = rw (← doc-bare edge n) (chains-counted (mayFollow edge false) n)
 
@@ -161,7 +161,7 @@ module _ {R : Type 0} (P : R → Type 0) (le : R → R → Bool) (ord : Order P 
       go zero h = absurd (omega arith)
       go (suc f) h = from-first P le ord start score good first dist (λ c. extensions follows n c) f
 
-  pub demand3 : 1 ≤ steps → Demand3 le start score follows n dist steps
+  pub demand3 : 1 ≤ steps → SearchDemand le start score follows n dist steps
   demand3 h =
       let done : none (leftChains follows n dist steps) ≡ true → chainsFrom follows n [] ≤ steps = λ e. left-complete follows n dist steps (none-true (leftChains follows n dist steps) e) in
       record {

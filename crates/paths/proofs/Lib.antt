@@ -1,4 +1,5 @@
 -- What the proofs of several functions use.
+pub mod BooleanLaws
 pub mod OrderLaws
 pub mod SumLaws
 pub mod SearchLaws

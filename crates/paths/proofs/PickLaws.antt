@@ -11,21 +11,23 @@ use Rattle.paths.specs.Search.{before, choose, pick}
 use Rattle.paths.specs.Best.{All}
 use Rattle.paths.specs.Queue.{keyOf, entryOf, without, Rising, Least}
 
-module _ {A : Type 0} (dist : A → ℕ) where
-  pick-all : (P : A → Type 0) (x : A) (q : List A) → P x → All P q → P (pick dist x q .0)
+module _ {A : Type 0} (dist : A → ℕ) (P : A → Type 0) where
+  -- what holds of each entry of a queue holds of the one that is picked and of the others
+  pub picked-all : (x : A) (q : List A) → P x → All P q → P (pick dist x q .0) × All P (pick dist x q .1)
   unfolding pick
-  pick-all P x [] h a = h
-  pick-all P x (y ∷ q) h a = go (before dist x (pick dist y q .0)) (pick-all P y q (a .0) (a .1))
+  picked-all x [] h a = (h, tt)
+  picked-all x (y ∷ q) h a = go (before dist x (pick dist y q .0)) (pick dist y q) (picked-all y q (a .0) (a .1))
     where
-      go : (t : Bool) → P (pick dist y q .0) → P (choose t x (y ∷ q) (pick dist y q) .0)
-      go true k = h
-      go false k = k
+      go : (t : Bool) (p : A × List A) → P (p .0) × All P (p .1) → P (choose t x (y ∷ q) p .0) × All P (choose t x (y ∷ q) p .1)
+      go true p k = (h, a)
+      go false p k = (k .0, (h, k .1))
 
+module _ {A : Type 0} (dist : A → ℕ) where
   -- none is nearer: the first is picked
   pick-head : (x : A) (q : List A) → All (λ b. dist x ≤ dist b) q → pick dist x q ≡ (x, q)
   unfolding pick
   pick-head x [] a = refl
-  pick-head x (y ∷ q) a = rw (le-leb (dist x) (dist (pick dist y q .0)) (pick-all (λ b. dist x ≤ dist b) y q (a .0) (a .1)))
+  pick-head x (y ∷ q) a = rw (le-leb (dist x) (dist (pick dist y q .0)) (picked-all dist (λ b. dist x ≤ dist b) y q (a .0) (a .1) .0))
 
   -- the first is farther than what the rest picks
   pick-tail : (x y : A) (q : List A) → dist (pick dist y q .0) < dist x → pick dist x (y ∷ q) ≡ (pick dist y q .0, (x ∷ pick dist y q .1))

@@ -11,7 +11,8 @@ use lib.Seq.{take-suc-set, append-snoc, getD-set-same, getD-set-other, length-ta
 use borrow.Author.Tests.{eqb-true, eqb-false, lt-ltb, ltb-true}
 use Rattle.paths.specs.Chains.{firstAfter, extends, extensions, isChain}
 use Rattle.paths.specs.Best.{All}
-use Rattle.paths.specs.Queue.{chainAt, keyOf, entryOf, without, Rising, Key, chainsOf, Queue, Queued}
+use Rattle.paths.specs.Queue.{chainAt, keyOf, entryOf, without, Rising, Key, queuedChains, Queue, Queued}
+use Rattle.paths.proofs.BooleanLaws.{and-both}
 use Rattle.paths.proofs.BestLaws.{all-map}
 use Rattle.paths.proofs.ChainLaws.{extends-firstAfter}
 use Rattle.paths.proofs.TableLaws.{chain-frame, chain-push, chain-root}
@@ -26,17 +27,13 @@ map-append f [] m = refl
 map-append f (x ∷ l) m = let h = map-append f l m in cc
 
 -- two functions that agree on a list's elements map it alike
-map-same : {A B : Type 0} (f g : A → B) (P : A → Type 0) → ((a : A) → P a → f a ≡ g a) → (l : List A) → All P l → map f l ≡ map g l
+pub map-same : {A B : Type 0} (f g : A → B) (P : A → Type 0) → ((a : A) → P a → f a ≡ g a) → (l : List A) → All P l → map f l ≡ map g l
 map-same f g P h [] a = refl
 map-same f g P h (x ∷ l) a = let e = h x (a .0) in let k = map-same f g P h l (a .1) in cc
 
 rising-end : (q : List ℕ) (k : ℕ) → Rising q → All (λ j. entryOf j < entryOf k) q → Rising (q ++ (k ∷ []))
 rising-end [] k u a = (tt, tt)
 rising-end (j ∷ q) k u a = (all-append (λ i. entryOf j < entryOf i) q (k ∷ []) (u .0) (a .0, tt), rising-end q k (u .1) (a .1))
-
-and-both : (a b : Bool) → (a && b) ≡ true → (a ≡ true) × (b ≡ true)
-and-both true b h = (refl, h)
-and-both false b h = let z : _≡_ {A = ℕ} 0 1 = cc in absurd (omega arith)
 
 module _ (follows : List ℕ → ℕ → Bool) (v : ℕ) where
   pub chain-parts : (s : ℕ) (c : List ℕ) → isChain follows v (s ∷ c) ≡ true → (isChain follows v c ≡ true) × (s < v) × (firstAfter c ≤ s)
@@ -124,14 +121,15 @@ module _ {follows : List ℕ → ℕ → Bool} {v : ℕ} {D : List ℕ → ℕ} 
         (all-map (λ k. Key D par row m k) (λ k. entryOf k < entryOf (keyOf (D (s ∷ chainAt par row e)) m)) (λ k h. omega (arith, h .within)) keys (q .keyed));
   }
 
-  chains-push : chainsOf (set par m e) (set row m s) (keys ++ (keyOf (D (s ∷ chainAt par row e)) m ∷ [])) ≡ chainsOf par row keys ++ ((s ∷ chainAt par row e) ∷ [])
+  chains-push : queuedChains (set par m e) (set row m s) (keys ++ (keyOf (D (s ∷ chainAt par row e)) m ∷ [])) ≡ queuedChains par row keys ++ ((s ∷ chainAt par row e) ∷ [])
   chains-push =
       let z : entryOf (keyOf (D (s ∷ chainAt par row e)) m) ≡ m = omega arith in
       map-append (λ k. chainAt (set par m e) (set row m s) (entryOf k)) keys (keyOf (D (s ∷ chainAt par row e)) m ∷ [])
       ∙ rw (
         z,
         chain-push par row m e s lp lr le,
-        map-same (λ k. chainAt (set par m e) (set row m s) (entryOf k)) (λ k. chainAt par row (entryOf k)) (λ k. Key D par row m k) (λ k h. chain-frame par row m e s (entryOf k) (h .within)) keys (q .keyed),
+        map-same (λ k. chainAt (set par m e) (set row m s) (entryOf k)) (λ k. chainAt par row (entryOf k)) (λ k. Key D par row m k)
+            (λ k h. chain-frame par row m e s (entryOf k) (h .within)) keys (q .keyed),
       )
 
 module _ (follows : List ℕ → ℕ → Bool) where
@@ -150,7 +148,7 @@ pub record Queueing (follows : List ℕ → ℕ → Bool) (v : ℕ) (D : List �
   pub most : added + s ≤ v
   pub kept : (i : ℕ) → i < n → chainAt par row i ≡ chainAt par₀ row₀ i
   pub queue : Queue follows v D par row (take (q + added) keys) (n + added)
-  pub chains : chainsOf par row (take (q + added) keys) ++ extensions follows s (chainAt par₀ row₀ e) ≡ chainsOf par₀ row₀ (take q keys₀) ++ extensions follows v (chainAt par₀ row₀ e)
+  pub chains : queuedChains par row (take (q + added) keys) ++ extensions follows s (chainAt par₀ row₀ e) ≡ queuedChains par₀ row₀ (take q keys₀) ++ extensions follows v (chainAt par₀ row₀ e)
 
 pub queueing-begin : {follows : List ℕ → ℕ → Bool} {v : ℕ} {D : List ℕ → ℕ} {n q e : ℕ} {par row keys : List ℕ} → Queue follows v D par row (take q keys) n
     → Queueing follows v D n q e par row keys par row keys 0 v
@@ -186,7 +184,13 @@ module _ {follows : List ℕ → ℕ → Bool} {v : ℕ} {D : List ℕ → ℕ} 
         most = omega (arith, h .most);
         kept = λ i l. chain-frame par row (n + added) e (s - 1) i (omega arith) ∙ h .kept i l;
         queue = rw (nm, keys-are) (queue-push (h .queue) e (s - 1) lp lr (omega arith) (omega (arith, h .most)) good);
-        chains = rw (keys-are, chains-push (h .queue) e (s - 1) lp lr (omega arith) (omega (arith, h .most)) good, append-snoc, same, ← extensions-yes follows s (chainAt par₀ row₀ e) p x) (h .chains);
+        chains = rw (
+          keys-are,
+          chains-push (h .queue) e (s - 1) lp lr (omega arith) (omega (arith, h .most)) good,
+          append-snoc,
+          same,
+          ← extensions-yes follows s (chainAt par₀ row₀ e) p x,
+        ) (h .chains);
       }
 
   -- nothing is left

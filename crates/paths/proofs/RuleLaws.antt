@@ -10,31 +10,22 @@ use borrow.Author.Tests.{ltb-true}
 use Rattle.paths.specs.Best.{All}
 use Rattle.paths.specs.Chains.{extends, extensions, isChain}
 use Rattle.paths.specs.Count.{sumRows, rowCountWithin, rowCount, chainCount}
-use Rattle.paths.specs.Search.{before, choose, pick, after, scored, left}
+use Rattle.paths.specs.Search.{pick, after, scored, left}
 use Rattle.paths.specs.Demand.{scoredChains, leftChains}
+use Rattle.paths.proofs.PickLaws.{picked-all}
 use Rattle.paths.proofs.QueueLaws.{all-append, chain-longer}
 
 -- ---- the search
 module _ {A : Type 0} (dist : A → ℕ) (P : A → Type 0) where
-  -- what holds of each entry of a queue holds of the one that is picked and of the others
-  picked-all : (x : A) (q : List A) → P x → All P q → P (pick dist x q .0) × All P (pick dist x q .1)
-  unfolding pick
-  picked-all x [] h a = (h, tt)
-  picked-all x (y ∷ q) h a = go (before dist x (pick dist y q .0)) (pick dist y q) (picked-all y q (a .0) (a .1))
-    where
-      go : (t : Bool) (p : A × List A) → P (p .0) × All P (p .1) → P (choose t x (y ∷ q) p .0) × All P (choose t x (y ∷ q) p .1)
-      go true p k = (h, a)
-      go false p k = (k .0, (h, k .1))
-
   module _ (ext ext′ : A → List A) (same : (a : A) → P a → ext a ≡ ext′ a) (next : (a : A) → P a → All P (ext a)) where
     after-same : (x : A) (q : List A) → P x → All P q → after dist ext x q ≡ after dist ext′ x q
     unfolding after
-    after-same x q h a = ap (λ (l : List A). pick dist x q .1 ++ l) (same (pick dist x q .0) (picked-all x q h a .0))
+    after-same x q h a = ap (λ (l : List A). pick dist x q .1 ++ l) (same (pick dist x q .0) (picked-all dist P x q h a .0))
 
     after-all : (x : A) (q : List A) → P x → All P q → All P (after dist ext x q)
     unfolding after
     after-all x q h a =
-        let p = picked-all x q h a in
+        let p = picked-all dist P x q h a in
         all-append P (pick dist x q .1) (ext (pick dist x q .0)) (p .1) (next (pick dist x q .0) (p .0))
 
     all-scored-same : (f : ℕ) (q : List A) → All P q → scored dist ext f q ≡ scored dist ext′ f q

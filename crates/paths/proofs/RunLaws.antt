@@ -9,7 +9,7 @@ use lib.Seq.{length-take-le, getD-take}
 use Rattle.paths.specs.Chains.{extensions}
 use Rattle.paths.specs.Search.{none, pick, after, scored, left}
 use Rattle.paths.specs.Best.{best}
-use Rattle.paths.specs.Queue.{chainAt, keyOf, entryOf, Key, chainsOf, Taken, Queue, Queued, Running, Ended}
+use Rattle.paths.specs.Queue.{chainAt, keyOf, entryOf, Key, queuedChains, Taken, Queue, Queued, Running, Ended}
 use Rattle.paths.proofs.BestLaws.{all-map}
 use Rattle.paths.proofs.TableLaws.{chain-root}
 use Rattle.paths.proofs.PickLaws.{all-at, pick-least, least-all, length-without}
@@ -47,7 +47,7 @@ module _ {R : Type 0} (le : R → R → Bool) (start : R) (score : List ℕ → 
   begin par row =
       let s : steps - 0 ≡ steps = omega arith in
       let z : entryOf (keyOf (D []) 0) ≡ 0 = omega arith in
-      let q : chainsOf par row (keyOf (D []) 0 ∷ []) ≡ [] ∷ [] = rw (z, chain-root par row) in
+      let q : queuedChains par row (keyOf (D []) 0 ∷ []) ≡ [] ∷ [] = rw (z, chain-root par row) in
       record {
         queue = queue-begin follows v D par row;
         all = omega arith;
@@ -83,7 +83,7 @@ module _ {R : Type 0} {le : R → R → Bool} {start : R} {score : List ℕ → 
         complete-is = some keys p ∙ ap none (rw z at (h .lefts));
       }
     where
-      some : (l : List ℕ) → 0 < length l → false ≡ none (chainsOf par row l)
+      some : (l : List ℕ) → 0 < length l → false ≡ none (queuedChains par row l)
       some [] p = absurd (omega arith)
       some (x ∷ l) p = refl
 
@@ -102,7 +102,7 @@ module _ {R : Type 0} {le : R → R → Bool} {start : R} {score : List ℕ → 
   pub taken-queue : Queue follows v D par row (take (q - 1) keys') n
   taken-queue = rw (t .rest) (queue-without (t .place) (h .queue))
 
-  picked : (x : List ℕ) × (r : List (List ℕ)) × (chainsOf par row (take q keys) ≡ x ∷ r) × (pick D x r ≡ (chainAt par row e, chainsOf par row (take (q - 1) keys')))
+  picked : (x : List ℕ) × (r : List (List ℕ)) × (queuedChains par row (take q keys) ≡ x ∷ r) × (pick D x r ≡ (chainAt par row e, queuedChains par row (take (q - 1) keys')))
   picked =
       let len = length-take-le q keys l in
       let i = t .place in
@@ -112,15 +112,18 @@ module _ {R : Type 0} {le : R → R → Bool} {start : R} {score : List ℕ → 
       (p .0, p .1, p .2, rw (same, t .rest) (p .3))
 
   module _ {par' row' keys'' : List ℕ} {added : ℕ} (less : k < steps) (p : Queued follows v D par row (take (q - 1) keys') n e par' row' keys'' added) where
-    next-scored : scored D (λ c. extensions follows v c) (steps - k) (chainsOf par row (take q keys)) ≡ chainAt par row e ∷ scored D (λ c. extensions follows v c) (steps - (k + 1)) (chainsOf par' row' keys'')
+    next-scored : scored D (λ c. extensions follows v c) (steps - k) (queuedChains par row (take q keys))
+        ≡ chainAt par row e ∷ scored D (λ c. extensions follows v c) (steps - (k + 1)) (queuedChains par' row' keys'')
     next-scored =
         let z : steps - k ≡ suc (steps - (k + 1)) = omega arith in
-        rw (z, p .chains) (one-scored D (λ c. extensions follows v c) (steps - (k + 1)) (chainsOf par row (take q keys)) (picked .0) (picked .1) (chainAt par row e) (chainsOf par row (take (q - 1) keys')) (picked .2) (picked .3))
+        rw (z, p .chains) (one-scored D (λ c. extensions follows v c) (steps - (k + 1)) (queuedChains par row (take q keys)) (picked .0) (picked .1)
+        (chainAt par row e) (queuedChains par row (take (q - 1) keys')) (picked .2) (picked .3))
 
-    next-left : left D (λ c. extensions follows v c) (steps - k) (chainsOf par row (take q keys)) ≡ left D (λ c. extensions follows v c) (steps - (k + 1)) (chainsOf par' row' keys'')
+    next-left : left D (λ c. extensions follows v c) (steps - k) (queuedChains par row (take q keys)) ≡ left D (λ c. extensions follows v c) (steps - (k + 1)) (queuedChains par' row' keys'')
     next-left =
         let z : steps - k ≡ suc (steps - (k + 1)) = omega arith in
-        rw (z, p .chains) (one-left D (λ c. extensions follows v c) (steps - (k + 1)) (chainsOf par row (take q keys)) (picked .0) (picked .1) (chainAt par row e) (chainsOf par row (take (q - 1) keys')) (picked .2) (picked .3))
+        rw (z, p .chains) (one-left D (λ c. extensions follows v c) (steps - (k + 1)) (queuedChains par row (take q keys)) (picked .0) (picked .1)
+        (chainAt par row e) (queuedChains par row (take (q - 1) keys')) (picked .2) (picked .3))
 
     -- one step: the chain taken is scored, its result replaces the best unless it is lower, and its extensions are queued
     pub step-on : Running le start score follows v D steps par' row' keys'' (n + added) (k + 1) (cond (le b (score (chainAt par row e))) (score (chainAt par row e)) b)
@@ -134,5 +137,6 @@ module _ {R : Type 0} {le : R → R → Bool} {start : R} {score : List ℕ → 
           below = omega arith;
           counted = omega (arith, h .counted, ap length next-scored);
           lefts = sym next-left ∙ h .lefts;
-          bests = sym (best-step le b (score (chainAt par row e)) (map score (scored D (λ c. extensions follows v c) (steps - (k + 1)) (chainsOf par' row' keys'')))) ∙ (rw next-scored at (h .bests));
+          bests = sym (best-step le b (score (chainAt par row e)) (map score (scored D (λ c. extensions follows v c) (steps - (k + 1)) (queuedChains par' row' keys''))))
+              ∙ (rw next-scored at (h .bests));
         }

@@ -25,14 +25,14 @@ pub record Lists (follows : List ℕ → ℕ → Bool) (n : ℕ) (l : List (List
   pub nothing-else : (x : List ℕ) → isChain follows n x ≡ false → timesIn x l ≡ 0
 
 -- so many chains has the graph: some list of that length lists them, and every list that does has that length
-pub record Counted (follows : List ℕ → ℕ → Bool) (n count : ℕ) : Type 0 where
+pub record NumberOfChains (follows : List ℕ → ℕ → Bool) (n count : ℕ) : Type 0 where
   pub chains : List (List ℕ)
   pub listed : Lists follows n chains
   pub number : length chains ≡ count
   pub every : (l : List (List ℕ)) → Lists follows n l → length l ≡ count
 
 module _ {R : Type 0} (le : R → R → Bool) (start : R) (score : List ℕ → R) where
-  pub record Demand3 (follows : List ℕ → ℕ → Bool) (n : ℕ) (dist : List ℕ → ℕ) (steps : ℕ) : Type 0 where
+  pub record SearchDemand (follows : List ℕ → ℕ → Bool) (n : ℕ) (dist : List ℕ → ℕ) (steps : ℕ) : Type 0 where
     -- only chains are scored
     pub only-chains : (x : List ℕ) → 1 ≤ timesIn x (scoredChains follows n dist steps) → isChain follows n x ≡ true
     -- and none twice

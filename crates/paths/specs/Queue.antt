@@ -53,8 +53,8 @@ pub record Key (D : List ℕ → ℕ) (parents rows : List ℕ) (n k : ℕ) : Ty
   pub is : k ≡ keyOf (D (chainAt parents rows (entryOf k))) (entryOf k)
 
 -- the chains that the keys stand for
-abbrev pub chainsOf : List ℕ → List ℕ → List ℕ → List (List ℕ)
-chainsOf parents rows keys = map (λ k. chainAt parents rows (entryOf k)) keys
+abbrev pub queuedChains : List ℕ → List ℕ → List ℕ → List (List ℕ)
+queuedChains parents rows keys = map (λ k. chainAt parents rows (entryOf k)) keys
 
 -- the least of the first n keys stands at place r
 pub record Least (keys : List ℕ) (n r : ℕ) : Type 0 where
@@ -90,7 +90,7 @@ pub record Queued (follows : List ℕ → ℕ → Bool) (v : ℕ) (D : List ℕ 
   pub long : length keys' ≡ length keys + added
   pub kept : (i : ℕ) → i < n → chainAt parents' rows' i ≡ chainAt parents rows i
   pub queue : Queue follows v D parents' rows' keys' (n + added)
-  pub chains : chainsOf parents' rows' keys' ≡ chainsOf parents rows keys ++ extensions follows v (chainAt parents rows e)
+  pub chains : queuedChains parents' rows' keys' ≡ queuedChains parents rows keys ++ extensions follows v (chainAt parents rows e)
 
 -- after k steps: what is done and what is left come to the whole
 pub record Running {R : Type 0} (le : R → R → Bool) (start : R) (score : List ℕ → R) (follows : List ℕ → ℕ → Bool) (v : ℕ) (D : List ℕ → ℕ) (steps : ℕ)
@@ -99,9 +99,9 @@ pub record Running {R : Type 0} (le : R → R → Bool) (start : R) (score : Lis
   pub all : length keys + k ≡ n
   pub room : n ≤ 1 + k * v
   pub below : k ≤ steps
-  pub counted : k + length (scored D (λ c. extensions follows v c) (steps - k) (chainsOf parents rows keys)) ≡ length (scoredChains follows v D steps)
-  pub lefts : left D (λ c. extensions follows v c) (steps - k) (chainsOf parents rows keys) ≡ leftChains follows v D steps
-  pub bests : best le b (map score (scored D (λ c. extensions follows v c) (steps - k) (chainsOf parents rows keys))) ≡ best le start (map score (scoredChains follows v D steps))
+  pub counted : k + length (scored D (λ c. extensions follows v c) (steps - k) (queuedChains parents rows keys)) ≡ length (scoredChains follows v D steps)
+  pub lefts : left D (λ c. extensions follows v c) (steps - k) (queuedChains parents rows keys) ≡ leftChains follows v D steps
+  pub bests : best le b (map score (scored D (λ c. extensions follows v c) (steps - k) (queuedChains parents rows keys))) ≡ best le start (map score (scoredChains follows v D steps))
 
 -- what a search has when it ends
 pub record Ended {R : Type 0} (le : R → R → Bool) (start : R) (score : List ℕ → R) (follows : List ℕ → ℕ → Bool) (v : ℕ) (D : List ℕ → ℕ) (steps k : ℕ) (b : R) (complete : Bool) : Type 0 where

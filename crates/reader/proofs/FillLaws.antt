@@ -4,14 +4,16 @@ use native.Mathlib.Omega.{arith}
 use native.Mathlib.Nat.{add-zero, add-suc, suc-add}
 use mathlib.Core.Path.{_≡_, refl, sym, ap, _∙_}
 use mathlib.Core.List.{List, [], _∷_, _++_}
-use mathlib.Core.Bool.{Bool}
+use mathlib.Core.Bool.{Bool, true, false}
 use lib.IntN.{ℤ}
 use lib.Dec.{eqb}
 use lib.ListN.{length, getD, take, drop, set}
 use lib.Seq.{sets}
-use borrow.Author.Tests.{lt-ltb, le-ltb, eq-eqb, ne-eqb}
+use borrow.Author.Tests.{lt-ltb, le-ltb}
 use Rattle.fields.specs.Fields.{le4, le8, signedOf}
-use Rattle.form.specs.Form.{bodyLen, countOf}
+use Rattle.form.specs.declared.records.Kind.{Kind}
+use Rattle.form.specs.declared.records.Record.{Record}
+use Rattle.form.specs.Form.{isVariant, isPart, countOf, recordAt}
 use Rattle.form.specs.Job.{lettersAfter, variantOf, partOf, variantHere, partHere, gather}
 use Rattle.reader.specs.Steps.{Rows, rows, putRow, PartRows, partRows, putPart, stores, Stored}
 use Rattle.form.proofs.GatherLaws.{gather-here, gather-done, long-letters}
@@ -31,16 +33,16 @@ module _ {T A : Type 0} (put : T → ℕ → A → T) where
   pub stays : (g : T → ℕ) → ((t : T) (v : ℕ) (x : A) → g (put t v x) ≡ g t) → {u : T} (t : T) (v : ℕ) (xs : List A) → u ≡ stores put t v xs → g u ≡ g t
   stays g h t v xs e = ap g e ∙ keeps g h t v xs
 
-  module _ (here : ℕ → List ℕ → List A) (s : List ℕ) (at : ℕ) where
+  module _ (here : Kind → List ℕ → List A) (s : List ℕ) (at : ℕ) where
     pub put-done : (t : T) (v : ℕ) → length s ≤ at → stores put t v (gather here (drop at s) 0) ≡ t
     unfolding stores
     put-done t v h = rw (gather-done here s at h)
 
-    pub put-more : (inside : at < length s) (t u : T) (v r n : ℕ) → n ≡ bodyLen (getD s at 0)
-        → u ≡ stores put t v (here (getD s at 0) (take (length s - (at + 1)) (drop (at + 1) s)))
-        → r ≡ v + length (here (getD s at 0) (take (length s - (at + 1)) (drop (at + 1) s)))
-        → stores put u r (gather here (drop (at + 1 + n) s) 0) ≡ stores put t v (gather here (drop at s) 0)
-    put-more inside t u v r n m f g = rw (f, g, gather-here here s at inside n m, stores-append)
+    pub put-more : (inside : at < length s) (k : Record) → k ≡ recordAt s at → (t u : T) (v r : ℕ)
+        → u ≡ stores put t v (here (k .kind) (take (length s - (at + 1)) (drop (at + 1) s)))
+        → r ≡ v + length (here (k .kind) (take (length s - (at + 1)) (drop (at + 1) s)))
+        → stores put u r (gather here (drop (k .next) s) 0) ≡ stores put t v (gather here (drop at s) 0)
+    put-more inside k is t u v r f g = rw (f, g, gather-here here s at inside k is, stores-append)
 
 pub stores-sets : {A : Type 0} (l : List A) (i : ℕ) (xs : List A) → stores set l i xs ≡ sets l i xs
 unfolding stores
@@ -70,27 +72,27 @@ module _ {T A : Type 0} (put : T → ℕ → A → T) (t : T) (v : ℕ) where
   unfolding stores
   adds-one x e w = rw e (record { is = w; next = refl; one = omega arith })
 
-module _ (k : ℕ) (b : List ℕ) where
-  pub no-variant : (k ≡ 2 → ⊥) → variantHere k b ≡ []
+module _ (kind : Kind) (b : List ℕ) where
+  pub no-variant : isVariant kind ≡ false → variantHere kind b ≡ []
   unfolding variantHere
-  no-variant h = rw (ne-eqb k 2 h)
+  no-variant h = rw h
 
-  pub cut-variant : k ≡ 2 → length b < 25 → variantHere k b ≡ []
+  pub cut-variant : isVariant kind ≡ true → length b < 25 → variantHere kind b ≡ []
   unfolding variantHere
-  cut-variant h g = rw (eq-eqb k 2 h, lt-ltb (length b) 25 g)
+  cut-variant h g = rw (h, lt-ltb (length b) 25 g)
 
-  pub one-variant : k ≡ 2 → 25 ≤ length b → variantHere k b ≡ variantOf b ∷ []
+  pub one-variant : isVariant kind ≡ true → 25 ≤ length b → variantHere kind b ≡ variantOf b ∷ []
   unfolding variantHere
-  one-variant h g = rw (eq-eqb k 2 h, le-ltb (length b) 25 g)
+  one-variant h g = rw (h, le-ltb (length b) 25 g)
 
-  pub no-part : (k ≡ 3 → ⊥) → partHere k b ≡ []
+  pub no-part : isPart kind ≡ false → partHere kind b ≡ []
   unfolding partHere
-  no-part h = rw (ne-eqb k 3 h)
+  no-part h = rw h
 
-  pub cut-part : k ≡ 3 → length b < 9 → partHere k b ≡ []
+  pub cut-part : isPart kind ≡ true → length b < 9 → partHere kind b ≡ []
   unfolding partHere
-  cut-part h g = rw (eq-eqb k 3 h, lt-ltb (length b) 9 g)
+  cut-part h g = rw (h, lt-ltb (length b) 9 g)
 
-  pub one-part : k ≡ 3 → 9 ≤ length b → partHere k b ≡ partOf b ∷ []
+  pub one-part : isPart kind ≡ true → 9 ≤ length b → partHere kind b ≡ partOf b ∷ []
   unfolding partHere
-  one-part h g = rw (eq-eqb k 3 h, le-ltb (length b) 9 g)
+  one-part h g = rw (h, le-ltb (length b) 9 g)

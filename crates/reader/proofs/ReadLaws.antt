@@ -11,39 +11,49 @@ use lib.ListN.{length, take, drop, set, length-drop, length-map}
 use lib.Seq.{take-all, sets-eq}
 use borrow.Author.Tests.{le-leb, lt-leb, leb-true, eqb-true}
 use Rattle.params.specs.declared.Settings.{Settings}
+use Rattle.form.specs.declared.records.Kind.{Kind}
+use Rattle.form.specs.declared.records.Kind.the-variants.{End, Settings as SettingsRecord, Variant as VariantRecord, Part as PartRecord, Letters, Unknown}
 use Rattle.form.specs.declared.records.Counts.{Counts}
 use Rattle.form.specs.declared.records.Scan.{Scan}
 use Rattle.form.specs.declared.records.Scan.the-variants.{Good, Refused}
 use Rattle.reader.specs.declared.Reading.the-variants.{Refused as Declined, Job as Given}
 use Rattle.form.specs.Settings40.{settingsIn}
-use Rattle.form.specs.Form.{bodyLen, inPlace, faultOf, run, judge, outset}
+use Rattle.form.specs.Form.{kindOf, bodyLen, inPlace, faultOf, run, judge, outset}
 use Rattle.form.specs.Job.{Variant, Part, variantHere, partHere, gather, jobOf, readOf, readJob}
 use Rattle.form.specs.Lent.{Lent, lettersOf, jobCounts}
 use Rattle.reader.specs.Reading.{five, three, hasRoom, lentWith, readingOf, lentAfter}
 use Rattle.metrics.specs.Placed.{placed}
 use Rattle.reader.specs.Steps.{Rows, rows, putRow, PartRows, partRows, putPart, stores}
-use Rattle.form.specs.Steps.{lettersHere, lettersWalk}
-use Rattle.form.proofs.FormLaws.{split, long, both}
+use Rattle.form.specs.Steps.{variantLettersHere, partLettersHere, lettersWalk}
+use Rattle.form.proofs.FormLaws.{split, both, mixed}
 use Rattle.reader.proofs.FillLaws.{stores-sets}
 use Rattle.form.proofs.OrderLaws.{in-order}
 use Rattle.form.proofs.CountLaws.{none-placed, none-whole, counts-are, letters-of-variants, letters-of-parts}
 
 -- ---- a good form begins with a whole settings record
-first-kind : (k : ℕ) (b : List ℕ) (c : Counts) (rest : Scan) → judge (faultOf outset k b) k outset rest ≡ Good c → 40 ≤ length b
+first-kind : (kind : Kind) (b : List ℕ) → inPlace outset kind ≡ true → bodyLen kind ≤ length b → 40 ≤ length b
 unfolding inPlace bodyLen
-first-kind k b c rest e = ⊎-elim
-    (λ (f : eqb (faultOf outset k b) 0 ≡ true).
-    let z : faultOf outset k b ≡ 0 = eqb-true _ _ f in
-    long (eqb-true k 1 (none-placed outset k b z)) (none-whole outset k b z))
-    (λ (f : eqb (faultOf outset k b) 0 ≡ false).
-    let w : Refused (faultOf outset k b) ≡ Good c = simp f at e in
+first-kind End b h w = mixed (sym h)
+first-kind SettingsRecord b h w = w
+first-kind VariantRecord b h w = mixed (sym h)
+first-kind PartRecord b h w = mixed (sym h)
+first-kind Letters b h w = mixed (sym h)
+first-kind Unknown b h w = mixed (sym h)
+
+first-whole : (kind : Kind) (b : List ℕ) (c : Counts) (rest : Scan) → judge (faultOf outset kind b) kind outset rest ≡ Good c → 40 ≤ length b
+first-whole kind b c rest e = ⊎-elim
+    (λ (f : eqb (faultOf outset kind b) 0 ≡ true).
+    let z : faultOf outset kind b ≡ 0 = eqb-true _ _ f in
+    first-kind kind b (none-placed outset kind b z) (none-whole outset kind b z))
+    (λ (f : eqb (faultOf outset kind b) 0 ≡ false).
+    let w : Refused (faultOf outset kind b) ≡ Good c = simp f at e in
     let z : _≡_ {A = ℕ} 0 1 = cc in omega arith)
-    (split (eqb (faultOf outset k b) 0))
+    (split (eqb (faultOf outset kind b) 0))
 
 good-long : (s : List ℕ) (c : Counts) → run s 0 outset ≡ Good c → 41 ≤ length s
 unfolding run
 good-long [] c e = let z : _≡_ {A = ℕ} 0 1 = cc in omega arith
-good-long (k ∷ b) c e = let h : 40 ≤ length b = first-kind k b c _ e in omega arith
+good-long (k ∷ b) c e = let h : 40 ≤ length b = first-whole (kindOf k) b c _ e in omega arith
 
 -- ---- columns
 laid : {A : Type 0} (l ys : List A) → length ys ≤ length l → stores set l 0 ys ≡ placed l ys
@@ -130,13 +140,13 @@ module _ (s : List ℕ) {c : Counts} (at : run s 0 outset ≡ Good c) where
           has-room = rw (rows-room, parts-room, le-leb _ _ enough)
 
           kinds : List ℕ
-          kinds = gather (lettersHere 2) s 0 ++ gather (lettersHere 3) s 0
+          kinds = gather variantLettersHere s 0 ++ gather partLettersHere s 0
 
           kinds-are : lettersOf (jobOf s) ≡ kinds
           unfolding jobOf kinds
           kinds-are = rw (letters-of-variants s 0, letters-of-parts s 0)
 
-          letters-fit : length (gather (lettersHere 2) s 0 ++ gather (lettersHere 3) s 0) ≤ length (t .letters)
+          letters-fit : length (gather variantLettersHere s 0 ++ gather partLettersHere s 0) ≤ length (t .letters)
           unfolding jobCounts kinds
           letters-fit =
               let h : c .letters ≡ length (lettersOf (jobOf s)) = ap (λ (d : Counts). d .letters) are in

@@ -3,46 +3,52 @@ use Prim.Native.Nat.{ℕ, zero, suc, _+_, _-_, _≤_, _<_, _/_, zero-le}
 use native.Mathlib.Omega.{arith}
 use native.Mathlib.Numerals.{add-one}
 use mathlib.Core.Path.{_≡_, refl, sym, ap, subst, _∙_}
+use mathlib.Core.Bool.{true, false}
 use mathlib.Core.List.{List, [], _∷_, _++_}
-use lib.ListN.{length, getD, take, drop, set, length-drop, drop-of-length-le}
-use lib.Seq.{drop-cons, drop-nil, take-all, drop-drop}
-use borrow.Author.Tests.{le-leb, lt-leb, eq-eqb, ne-eqb}
-use Rattle.form.specs.Form.{bodyLen, countOf}
+use lib.ListN.{length, getD, take, drop, set, drop-of-length-le}
+use lib.Seq.{drop-cons, drop-nil, drop-drop}
+use borrow.Author.Tests.{le-leb, lt-leb}
+use Rattle.form.specs.declared.records.Kind.{Kind}
+use Rattle.form.specs.declared.records.Record.{Record}
+use Rattle.form.specs.Form.{isLetters, bodyLen, countOf, recordAt}
 use Rattle.form.specs.Job.{lettersIn}
 use Rattle.form.specs.Steps.{lettersGiven, lettersOwed, lettersWalk}
+use Rattle.form.proofs.FormLaws.{letters-kind, rest-is, record-kind, record-count, record-next}
 use Rattle.form.proofs.GatherLaws.{long-letters}
 use Rattle.reader.specs.Steps.{stores}
 use Rattle.reader.proofs.FillLaws.{stores-append}
 
 -- ---- what a record gives, and what is owed behind it
-module _ (k left : ℕ) where
-  pub gives-none : (k ≡ 4 → ⊥) → (0 ≡ lettersGiven k left) × ((0 ≤ 16) × (0 ≤ bodyLen k))
+module _ (kind : Kind) (left : ℕ) where
+  pub gives-none : isLetters kind ≡ false → (0 ≡ lettersGiven kind left) × ((0 ≤ 16) × (0 ≤ bodyLen kind))
   unfolding lettersGiven
-  gives-none h = (sym (rw (ne-eqb k 4 h)), (zero-le, zero-le))
+  gives-none h = (sym (rw h), (zero-le, zero-le))
 
-  module _ (h : k ≡ 4) where
-    pub gives-all : left ≤ 16 → (left ≡ lettersGiven k left) × ((left ≤ 16) × (left ≤ bodyLen k))
-    unfolding lettersGiven bodyLen
-    gives-all g = (sym (rw (eq-eqb k 4 h, le-leb left 16 g)), (g, subst (λ (j : ℕ). left ≤ bodyLen j) (sym h) g))
+  module _ (h : isLetters kind ≡ true) where
+    sixteen : {n : ℕ} → n ≤ 16 → n ≤ bodyLen kind
+    unfolding bodyLen
+    sixteen {n} g = subst (λ (k : Kind). n ≤ bodyLen k) (sym (letters-kind kind h)) g
 
-    pub gives-sixteen : 16 < left → (16 ≡ lettersGiven k left) × ((16 ≤ 16) × (16 ≤ bodyLen k))
-    unfolding lettersGiven bodyLen
-    gives-sixteen g =
-        let s : 16 ≤ 16 = omega arith in
-        (sym (rw (eq-eqb k 4 h, lt-leb left 16 g)), (s, subst (λ (j : ℕ). 16 ≤ bodyLen j) (sym h) s))
+    pub gives-all : left ≤ 16 → (left ≡ lettersGiven kind left) × ((left ≤ 16) × (left ≤ bodyLen kind))
+    unfolding lettersGiven
+    gives-all g = (sym (rw (h, le-leb left 16 g)), (g, sixteen g))
 
-  module _ (b : List ℕ) where
-    pub owes-count : (k ≡ 4 → ⊥) → countOf k b ≡ lettersOwed k b left
+    pub gives-sixteen : 16 < left → (16 ≡ lettersGiven kind left) × ((16 ≤ 16) × (16 ≤ bodyLen kind))
+    unfolding lettersGiven
+    gives-sixteen g = let s : 16 ≤ 16 = omega arith in (sym (rw (h, lt-leb left 16 g)), (s, sixteen s))
+
+  module _ (count : ℕ) where
+    pub owes-count : isLetters kind ≡ false → count ≡ lettersOwed kind count left
     unfolding lettersOwed
-    owes-count h = sym (rw (ne-eqb k 4 h))
+    owes-count h = sym (rw h)
 
-    pub owes-none : k ≡ 4 → left ≤ 16 → 0 ≡ lettersOwed k b left
+    pub owes-none : isLetters kind ≡ true → left ≤ 16 → 0 ≡ lettersOwed kind count left
     unfolding lettersOwed
-    owes-none h g = sym (rw (eq-eqb k 4 h, le-leb left 16 g))
+    owes-none h g = sym (rw (h, le-leb left 16 g))
 
-    pub owes-rest : k ≡ 4 → 16 < left → left - 16 ≡ lettersOwed k b left
+    pub owes-rest : isLetters kind ≡ true → 16 < left → left - 16 ≡ lettersOwed kind count left
     unfolding lettersOwed
-    owes-rest h g = sym (rw (eq-eqb k 4 h, lt-leb left 16 g))
+    owes-rest h g = sym (rw (h, lt-leb left 16 g))
 
 -- ---- the letters of one record, one by one
 module _ (b : List ℕ) (n at : ℕ) (out : List ℕ) where
@@ -81,27 +87,25 @@ module _ (s : List ℕ) (at : ℕ) where
   unfolding stores lettersWalk
   walk-done t l left h = rw (drop-of-length-le s {i = at} h)
 
-  module _ (inside : at < length s) where
+  module _ (inside : at < length s) (here : Record) (is : here ≡ recordAt s at) where
     -- the part of the slice that the code takes
-    abbrev kind : ℕ
-    kind = getD s at 0
-
     abbrev body : List ℕ
     body = take (length s - (at + 1)) (drop (at + 1) s)
 
-    rest-is : body ≡ drop (suc at) s
-    rest-is = take-all (length s - (at + 1)) (drop (at + 1) s) (simp length-drop (omega arith)) ∙ rw add-one
-
-    walk-here : (left n : ℕ) → n ≡ bodyLen kind
-        → lettersWalk (drop at s) 0 left ≡ lettersIn (4 ∷ body) 0 (lettersGiven kind left) ++ lettersWalk (drop (at + 1 + n) s) 0 (lettersOwed kind body left)
+    walk-here : (left : ℕ)
+        → lettersWalk (drop at s) 0 left ≡ lettersIn (4 ∷ body) 0 (lettersGiven (here .kind) left) ++ lettersWalk (drop (here .next) s) 0 (lettersOwed (here .kind) (here .count) left)
     unfolding lettersWalk
-    walk-here left n m =
-        let h : suc at + bodyLen kind ≡ at + 1 + bodyLen kind = omega arith in
-        rw (drop-cons s at 0 inside, rest-is, m) (ap (λ (l : List ℕ). lettersIn (4 ∷ drop (suc at) s) 0 (lettersGiven kind left) ++ l)
-        (walk-skip (drop (suc at) s) (bodyLen kind) (lettersOwed kind (drop (suc at) s) left)
-        ∙ ap (λ (l : List ℕ). lettersWalk l 0 (lettersOwed kind (drop (suc at) s) left)) (drop-drop (bodyLen kind) (suc at) s ∙ ap (λ (j : ℕ). drop j s) h)))
+    walk-here left =
+        let h : suc at + bodyLen (here .kind) ≡ here .next = omega (arith, record-next s at inside here is) in
+        let rest : List ℕ = drop (suc at) s in
+        let c : here .count ≡ countOf (here .kind) rest = record-count s at inside here is ∙ ap (countOf (here .kind)) (rest-is s at inside) in
+        ap (λ (l : List ℕ). lettersWalk l 0 left) (drop-cons s at 0 inside)
+        ∙ ap (λ (k : Kind). lettersIn (4 ∷ rest) 0 (lettersGiven k left) ++ lettersWalk rest (bodyLen k) (lettersOwed k (countOf k rest) left)) (sym (record-kind s at inside here is))
+        ∙ rw (rest-is s at inside, c) (ap (λ (l : List ℕ). lettersIn (4 ∷ rest) 0 (lettersGiven (here .kind) left) ++ l)
+        (walk-skip rest (bodyLen (here .kind)) (lettersOwed (here .kind) (countOf (here .kind) rest) left)
+        ∙ ap (λ (l : List ℕ). lettersWalk l 0 (lettersOwed (here .kind) (countOf (here .kind) rest) left)) (drop-drop (bodyLen (here .kind)) (suc at) s ∙ ap (λ (j : ℕ). drop j s) h)))
 
-    pub walk-more : (t u : List ℕ) (l r left owed n : ℕ) → n ≡ bodyLen kind → owed ≡ lettersOwed kind body left → r ≡ l + lettersGiven kind left
-        → u ≡ stores set t l (lettersIn (4 ∷ body) 0 (lettersGiven kind left))
-        → stores set u r (lettersWalk (drop (at + 1 + n) s) 0 owed) ≡ stores set t l (lettersWalk (drop at s) 0 left)
-    walk-more t u l r left owed n m o g f = rw (f, g, o, walk-here left n m, stores-append, long-letters)
+    pub walk-more : (t u : List ℕ) (l r left owed : ℕ) → owed ≡ lettersOwed (here .kind) (here .count) left → r ≡ l + lettersGiven (here .kind) left
+        → u ≡ stores set t l (lettersIn (4 ∷ body) 0 (lettersGiven (here .kind) left))
+        → stores set u r (lettersWalk (drop (here .next) s) 0 owed) ≡ stores set t l (lettersWalk (drop at s) 0 left)
+    walk-more t u l r left owed o g f = rw (f, g, o, walk-here left, stores-append, long-letters)

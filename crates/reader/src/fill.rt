@@ -4,24 +4,21 @@ use fields::put_u8;
 use fields::u8_at;
 use fields::u32_at;
 use fields::u64_at;
-use form::records::LETTERS;
+use form::records::Kind;
 use form::records::LETTERS_EACH;
-use form::records::PART;
 use form::records::PART_BODY;
 use form::records::PART_COUNT;
 use form::records::PART_FLAG;
-use form::records::VARIANT;
 use form::records::VARIANT_BODY;
 use form::records::VARIANT_COUNT;
 use form::records::VARIANT_FLAG;
-use form::records::body_len;
-use form::records::count_of;
+use form::records::record_at;
 ghost use mathlib.Core.Path.{_≡_};
 ghost use Prim.Native.Nat.{_≤_, _<_, _+_, _^_};
 ghost use mathlib.Core.List.{_∷_};
 ghost use lib.ListN.{length, set};
 ghost use Rattle.form.specs.Job.{variantOf, variantHere, partOf, partHere, lettersIn, gather};
-ghost use Rattle.form.specs.Form.{lettersKind, variantLen, partLen, lettersLen, bodyLen};
+ghost use Rattle.form.specs.Form.{lettersKind, isVariant, isPart, isLetters, variantLen, partLen, lettersLen, bodyLen};
 ghost use Rattle.form.specs.Steps.{lettersGiven, lettersOwed, lettersWalk};
 ghost use Rattle.reader.specs.Steps.{rows, putRow, partRows, putPart, stores, Stored};
 
@@ -79,9 +76,48 @@ fn put_variant(
     set_u32(counts, v, u32_at(b, VARIANT_COUNT));
 }
 
+fn is_variant(kind: Kind) -> bool
+    ensures { λ r. ⌜ r ≡ isVariant kind ⌝ }
+{
+    match kind {
+        Kind::End => false,
+        Kind::Settings => false,
+        Kind::Variant => true,
+        Kind::Part => false,
+        Kind::Letters => false,
+        Kind::Unknown => false,
+    }
+}
+
+fn is_part(kind: Kind) -> bool
+    ensures { λ r. ⌜ r ≡ isPart kind ⌝ }
+{
+    match kind {
+        Kind::End => false,
+        Kind::Settings => false,
+        Kind::Variant => false,
+        Kind::Part => true,
+        Kind::Letters => false,
+        Kind::Unknown => false,
+    }
+}
+
+fn is_letters(kind: Kind) -> bool
+    ensures { λ r. ⌜ r ≡ isLetters kind ⌝ }
+{
+    match kind {
+        Kind::End => false,
+        Kind::Settings => false,
+        Kind::Variant => false,
+        Kind::Part => false,
+        Kind::Letters => true,
+        Kind::Unknown => false,
+    }
+}
+
 // What one record adds, from row v on. Returns the next row.
 fn fill_variant(
-    k: u8,
+    kind: Kind,
     b: &[u8],
     v: usize,
     starts: &mut [u64],
@@ -93,9 +129,9 @@ fn fill_variant(
     requires { ⌜ v < 2 ^ 63 ⌝ }
     ensures { λ r. ⌜ Stored putRow (rows (now (starts .entry)) (now (ends .entry)) (now (sizes .entry)) (now (negatives .entry)) (now (counts .entry)))
         (rows (now (starts .exit)) (now (ends .exit)) (now (sizes .exit)) (now (negatives .exit)) (now (counts .exit)))
-        v r (variantHere k (now (b .entry))) ⌝ }
+        v r (variantHere kind (now (b .entry))) ⌝ }
 {
-    if k != VARIANT {
+    if !is_variant(kind) {
         return v;
     }
     if b.len() < VARIANT_BODY {
@@ -116,7 +152,7 @@ fn put_part(b: &[u8], v: usize, sizes: &mut [i32], negatives: &mut [bool], count
 }
 
 fn fill_part(
-    k: u8,
+    kind: Kind,
     b: &[u8],
     v: usize,
     sizes: &mut [i32],
@@ -125,9 +161,9 @@ fn fill_part(
 ) -> usize
     requires { ⌜ v < 2 ^ 63 ⌝ }
     ensures { λ r. ⌜ Stored putPart (partRows (now (sizes .entry)) (now (negatives .entry)) (now (counts .entry)))
-        (partRows (now (sizes .exit)) (now (negatives .exit)) (now (counts .exit))) v r (partHere k (now (b .entry))) ⌝ }
+        (partRows (now (sizes .exit)) (now (negatives .exit)) (now (counts .exit))) v r (partHere kind (now (b .entry))) ⌝ }
 {
-    if k != PART {
+    if !is_part(kind) {
         return v;
     }
     if b.len() < PART_BODY {
@@ -138,10 +174,10 @@ fn fill_part(
 }
 
 // How many letters the record gives, of those that are owed.
-fn letters_given(k: u8, left: u32) -> u32
-    ensures { λ r. ⌜ (r ≡ lettersGiven k left) × ((r ≤ lettersLen) × (r ≤ bodyLen k)) ⌝ }
+fn letters_given(kind: Kind, left: u32) -> u32
+    ensures { λ r. ⌜ (r ≡ lettersGiven kind left) × ((r ≤ lettersLen) × (r ≤ bodyLen kind)) ⌝ }
 {
-    if k != LETTERS {
+    if !is_letters(kind) {
         return 0;
     }
     if left <= LETTERS_EACH {
@@ -151,12 +187,12 @@ fn letters_given(k: u8, left: u32) -> u32
     }
 }
 
-// How many letters are owed behind the record.
-fn letters_owed(k: u8, b: &[u8], left: u32) -> u32
-    ensures { λ r. ⌜ r ≡ lettersOwed k (now (b .entry)) left ⌝ }
+// How many letters are owed behind a record that announces `count`.
+fn letters_owed(kind: Kind, count: u32, left: u32) -> u32
+    ensures { λ r. ⌜ r ≡ lettersOwed kind count left ⌝ }
 {
-    if k != LETTERS {
-        return count_of(k, b);
+    if !is_letters(kind) {
+        return count;
     }
     if left <= LETTERS_EACH {
         0
@@ -178,12 +214,12 @@ fn copy_letters(out: &mut [u8], at: usize, b: &[u8], n: usize)
 }
 
 // The letters that one record gives, from position `at` on. Returns the position behind them.
-fn fill_letters(k: u8, b: &[u8], at: usize, left: u32, out: &mut [u8]) -> usize
+fn fill_letters(kind: Kind, b: &[u8], at: usize, left: u32, out: &mut [u8]) -> usize
     requires { ⌜ at < 2 ^ 63 ⌝ }
-    ensures is { λ _. ⌜ now (out .exit) ≡ stores set (now (out .entry)) at (lettersIn (lettersKind ∷ now (b .entry)) 0 (lettersGiven k left)) ⌝ }
-    ensures next { λ r. ⌜ (r ≡ at + lettersGiven k left) × (r ≤ at + bodyLen k) ⌝ }
+    ensures is { λ _. ⌜ now (out .exit) ≡ stores set (now (out .entry)) at (lettersIn (lettersKind ∷ now (b .entry)) 0 (lettersGiven kind left)) ⌝ }
+    ensures next { λ r. ⌜ (r ≡ at + lettersGiven kind left) × (r ≤ at + bodyLen kind) ⌝ }
 {
-    let n = letters_given(k, left) as usize;
+    let n = letters_given(kind, left) as usize;
     copy_letters(out, at, b, n);
     at + n
 }
@@ -214,12 +250,13 @@ pub(crate) fn fill(
     let mut l = 0usize;
     let mut left = 0u32;
     while at < s.len() {
-        let k = s[at];
+        let here = record_at(s, at);
+        let kind = here.kind;
         let b = &s[at + 1..];
-        v = fill_variant(k, b, v, starts, ends, sizes, negatives, counts);
-        p = fill_part(k, b, p, part_sizes, part_negatives, part_counts);
-        l = fill_letters(k, b, l, left, letters);
-        left = letters_owed(k, b, left);
-        at = at + 1 + body_len(k);
+        v = fill_variant(kind, b, v, starts, ends, sizes, negatives, counts);
+        p = fill_part(kind, b, p, part_sizes, part_negatives, part_counts);
+        l = fill_letters(kind, b, l, left, letters);
+        left = letters_owed(kind, here.count, left);
+        at = here.next;
     }
 }

@@ -1,38 +1,26 @@
 // Answers a stored list of jobs, each as four bytes of length and its own bytes. Its file 'stdout' is what kanpig's Rust said of them
 // (oracle/README.md).
-ghost use Prim.Native.Nat.{_≤_, _<_};
-
-fn wide(b: u8) -> usize
-    ensures { λ r. ⌜ r < 256 ⌝ }
-{
-    b as usize
-}
-
-// How long the next job is: a number of four bytes, lowest first.
-fn length_of(head: &[u8; 4]) -> usize {
-    wide(head[0]) + 256 * wide(head[1]) + 65536 * wide(head[2]) + 16777216 * wide(head[3])
-}
-
-fn at_most(n: usize, most: usize) -> usize
-    ensures { λ r. ⌜ r ≤ most ⌝ }
-{
-    if n < most { n } else { most }
-}
+use fields::u32_at;
 
 fn read_bytes(into: &mut [u8], length: usize) {
-    let n = at_most(length, into.len());
-    io::read_full(0, &mut into[0..n]);
+    if length <= into.len() {
+        io::read_full(0, &mut into[0..length]);
+    }
 }
 
 fn write_text(text: [u8; 8192], length: usize) -> bool {
-    let n = at_most(length, 8192);
-    io::write_all(1, &text[0..n])
+    if 8192 < length {
+        return false;
+    }
+    io::write_all(1, &text[0..length])
 }
 
 fn print_answer(job: &[u8], length: usize) -> bool {
-    let n = at_most(length, job.len());
+    if job.len() < length {
+        return false;
+    }
     let mut out = [0u8; 8192];
-    let written = desk::answer(&job[0..n], &mut out);
+    let written = desk::answer(&job[0..length], &mut out);
     write_text(out, written)
 }
 
@@ -43,7 +31,7 @@ fn answer_next() -> bool {
     if got < 4 {
         return false;
     }
-    let length = length_of(&head);
+    let length = u32_at(&head, 0) as usize;
     let mut job = [0u8; 32769];
     read_bytes(&mut job, length);
     print_answer(&job, length)

@@ -1,30 +1,26 @@
 // Reads the stored list from standard input (oracle/crates/judge/src/bin/make-lists.rs, `Stored`). What is read is not known to be
 // anything, so every length is held to its slice.
 use fields::i32_of;
+use fields::u32_at;
+use fields::u64_at;
 use metrics::kmer::entries;
 use metrics::kmer::seq_to_kmer;
 use params::Settings;
 use reader::Reading;
 use reader::read_job;
-ghost use Prim.Native.Nat.{_≤_, _<_};
+ghost use Prim.Native.Nat.{_≤_};
 
-fn wide(b: u8) -> u32
-    ensures { λ r. ⌜ r < 256 ⌝ }
-{
-    b as u32
-}
-
-// Four bytes, lowest first; zeros behind the end of the list.
-pub(crate) fn word() -> u32 {
-    let mut b = [0u8; 4];
-    io::read_full(0, &mut b);
-    wide(b[0]) + 256 * wide(b[1]) + 65536 * wide(b[2]) + 16777216 * wide(b[3])
+// The next number of the list; 0 behind its end.
+fn word() -> u32 {
+    let mut bytes = [0u8; 4];
+    io::read_full(0, &mut bytes);
+    u32_at(&bytes, 0)
 }
 
 fn long() -> u64 {
-    let low = word();
-    let high = word();
-    low as u64 + 4294967296 * (high as u64)
+    let mut bytes = [0u8; 8];
+    io::read_full(0, &mut bytes);
+    u64_at(&bytes, 0)
 }
 
 pub(crate) fn at_most(n: u32, most: usize) -> usize

@@ -14,7 +14,7 @@ use Rattle.writer.specs.declared.Left.the-variants.{Short, Enough}
 use Rattle.writer.specs.declared.Writing.the-variants.{Refused, Wrote}
 use Rattle.fields.specs.Fields.{bytes2, bytes4, bytes8}
 use Rattle.form.specs.Settings40.{settingsBytes, numberBytes, floatBytes}
-use Rattle.form.specs.Form.{bodyLen}
+use Rattle.form.specs.Form.{kindOf, bodyLen}
 use Rattle.form.specs.Job.{recordsFor, sequenceBytes, partBody, variantBody, variantBytes, partBytes, variantsBytes, partsBytes, jobBytes}
 use Rattle.form.specs.Lent.{Lent}
 use Rattle.form.specs.Lent.{sum}
@@ -60,7 +60,7 @@ long-body : (size : ℤ) (negative : Bool) (count : ℕ) → length (partBody si
 unfolding partBody bytes4 bytes2
 long-body size negative count = refl
 
-cost-is : (kind c : ℕ) → eqb kind 4 ≡ false → costOf kind c ≡ 1 + bodyLen kind + 17 * recordsFor c
+cost-is : (kind c : ℕ) → eqb kind 4 ≡ false → costOf kind c ≡ 1 + bodyLen (kindOf kind) + 17 * recordsFor c
 unfolding costOf
 cost-is kind c h = rw h
 
@@ -78,7 +78,7 @@ sum-here counts r h = ap sum (drop-cons counts r 0 h)
 
 variants-total : (starts ends : List ℕ) (sizes : List ℤ) (negatives : List Bool) (counts letters : List ℕ) (n r p : ℕ) → r + n ≡ length counts → p + sum (drop r counts) ≤ length letters
     → length (variantsBytes (variantsFrom starts ends sizes negatives counts letters r p n)) ≡ total 2 (drop r counts)
-unfolding variantsBytes variantsFrom variantBytes bodyLen
+unfolding variantsBytes variantsFrom variantBytes kindOf bodyLen
 variants-total starts ends sizes negatives counts letters zero r p h g = sym (total-none 2 counts r (omega arith))
 variants-total starts ends sizes negatives counts letters (suc n) r p h g =
     let c : ℕ = getD counts r 0 in
@@ -99,7 +99,7 @@ variants-total starts ends sizes negatives counts letters (suc n) r p h g =
 
 parts-total : (sizes : List ℤ) (negatives : List Bool) (counts letters : List ℕ) (n r p : ℕ) → r + n ≡ length counts → p + sum (drop r counts) ≤ length letters
     → length (partsBytes (partsFrom sizes negatives counts letters r p n)) ≡ total 3 (drop r counts)
-unfolding partsBytes partsFrom partBytes bodyLen
+unfolding partsBytes partsFrom partBytes kindOf bodyLen
 parts-total sizes negatives counts letters zero r p h g = sym (total-none 3 counts r (omega arith))
 parts-total sizes negatives counts letters (suc n) r p h g =
     let c : ℕ = getD counts r 0 in

@@ -8,7 +8,7 @@ use mathlib.Core.Logic.{⊎-elim}
 use lib.Dec.{ltb, leb}
 use lib.ListN.{length, getD, take, drop, replicate, length-append, length-drop, length-take}
 use lib.Seq.{take-at, drop-at, slice}
-use borrow.Author.Tests.{lt-ltb, le-ltb, ne-eqb, leb-true, ltb-false}
+use borrow.Author.Tests.{lt-ltb, le-ltb, leb-true, ltb-false}
 use Rattle.params.specs.declared.Settings.{Settings}
 use Rattle.form.specs.declared.records.State.{State}
 use Rattle.form.specs.declared.records.Counts.{Counts}
@@ -17,7 +17,9 @@ use Rattle.form.specs.declared.records.Scan.the-variants.{Good, Refused}
 use Rattle.fields.specs.Fields.{le2, le4, bytes2, bytes4, bytes8}
 use Rattle.form.specs.Settings40.{flag}
 use Rattle.form.specs.Settings40.{settingsIn, settingsBytes, numberBytes, floatBytes}
-use Rattle.form.specs.Form.{bodyLen, inPlace, flagsOk, countOf, padOk, allZero, faultOf, after, run, outset, counted}
+use Rattle.form.specs.declared.records.Kind.{Kind}
+use Rattle.form.specs.declared.records.Kind.the-variants.{End, Settings as SettingsRecord, Variant as VariantRecord, Part as PartRecord, Letters}
+use Rattle.form.specs.Form.{kindOf, isEnd, bodyLen, inPlace, flagsOk, countOf, padOk, allZero, faultOf, after, run, outset, counted}
 use Rattle.form.specs.Job.{Variant, Part, Job, Read, Held, variantHere, partHere, gather, jobOf, readOf, readJob}
 use Rattle.form.specs.Job.{padded, lettersRecords, recordsFor, sequenceBytes, partBody, variantBody, variantBytes, partBytes, variantsBytes, partsBytes, jobBytes}
 use Rattle.writer.specs.declared.Writing.the-variants.{Refused as Declined, Wrote}
@@ -36,19 +38,19 @@ use Rattle.writer.proofs.BackLaws.{settings-back, variant-back, part-ba
 use Rattle.writer.proofs.SlicesBack.{slices-back, counts-back}
 
 -- ---- one record
-run-record : (st : State) (k n : ℕ) (body rest : List ℕ) → (k ≡ 0 → ⊥) → n ≡ bodyLen k → length body ≡ n → faultOf st k (body ++ rest) ≡ 0
-    → run (k ∷ (body ++ rest)) 0 st ≡ run rest 0 (after st k (body ++ rest))
+run-record : (st : State) (k n : ℕ) (kind : Kind) (body rest : List ℕ) → kindOf k ≡ kind → isEnd kind ≡ false → n ≡ bodyLen kind → length body ≡ n → faultOf st kind (body ++ rest) ≡ 0
+    → run (k ∷ (body ++ rest)) 0 st ≡ run rest 0 (after st kind (body ++ rest))
 unfolding run
-run-record st k n body rest other e l f =
-    judge-more (faultOf st k (body ++ rest)) k st (run (body ++ rest) (bodyLen k) (after st k (body ++ rest))) f other
-    ∙ skip (body ++ rest) (bodyLen k) (after st k (body ++ rest))
-    ∙ ap (λ (q : List ℕ). run q 0 (after st k (body ++ rest))) (drop-at body rest (bodyLen k) (l ∙ e))
+run-record st k n kind body rest is other e l f =
+    rw is (judge-more (faultOf st kind (body ++ rest)) kind st (run (body ++ rest) (bodyLen kind) (after st kind (body ++ rest))) f other
+    ∙ skip (body ++ rest) (bodyLen kind) (after st kind (body ++ rest))
+    ∙ ap (λ (q : List ℕ). run q 0 (after st kind (body ++ rest))) (drop-at body rest (bodyLen kind) (l ∙ e)))
 
-gather-record : {A : Type 0} (here : ℕ → List ℕ → List A) (k n : ℕ) (body rest : List ℕ) → n ≡ bodyLen k → length body ≡ n
-    → gather here (k ∷ (body ++ rest)) 0 ≡ here k (body ++ rest) ++ gather here rest 0
+gather-record : {A : Type 0} (here : Kind → List ℕ → List A) (k n : ℕ) (kind : Kind) (body rest : List ℕ) → kindOf k ≡ kind → n ≡ bodyLen kind → length body ≡ n
+    → gather here (k ∷ (body ++ rest)) 0 ≡ here kind (body ++ rest) ++ gather here rest 0
 unfolding gather
-gather-record {A} here k n body rest e l = ap (λ (q : List A). here k (body ++ rest) ++ q)
-    (gather-skip here (body ++ rest) (bodyLen k) ∙ ap (λ (q : List ℕ). gather here q 0) (drop-at body rest (bodyLen k) (l ∙ e)))
+gather-record {A} here k n kind body rest is e l = rw is (ap (λ (q : List A). here kind (body ++ rest) ++ q)
+    (gather-skip here (body ++ rest) (bodyLen kind) ∙ ap (λ (q : List ℕ). gather here q 0) (drop-at body rest (bodyLen kind) (l ∙ e))))
 
 flag-low : (t : Bool) → ltb (flag t) 2 ≡ true
 flag-low true = refl
@@ -63,30 +65,30 @@ module _ (s : Settings) (rest : List ℕ) where
   settings-whole : 40 ≤ length (settingsBytes s ++ rest)
   settings-whole = let e = length-append (settingsBytes s) rest in let f = long-settings in omega (arith, e, f)
 
-  settings-flags : flagsOk 1 (settingsBytes s ++ rest) ≡ true
+  settings-flags : flagsOk SettingsRecord (settingsBytes s ++ rest) ≡ true
   unfolding flagsOk settingsBytes
   settings-flags = rw (flag-low (s .squish), flag-low (s .«one_to_one»), flag-low (s .full))
 
-  settings-few : countOf 1 (settingsBytes s ++ rest) ≤ 131072
+  settings-few : countOf SettingsRecord (settingsBytes s ++ rest) ≤ 131072
   unfolding countOf
   settings-few = omega arith
 
-  settings-placed : inPlace outset 1 ≡ true
+  settings-placed : inPlace outset SettingsRecord ≡ true
   unfolding inPlace
   settings-placed = refl
 
-  settings-sound : faultOf outset 1 (settingsBytes s ++ rest) ≡ 0
-  unfolding bodyLen
-  settings-sound = sym (fault-none outset 1 (settingsBytes s ++ rest) (omega arith) 40 refl settings-whole settings-placed settings-flags settings-few
-      (sym (pad-rest outset 1 (settingsBytes s ++ rest) (λ e. omega arith))) (λ e. omega arith))
+  settings-sound : faultOf outset SettingsRecord (settingsBytes s ++ rest) ≡ 0
+  unfolding kindOf bodyLen
+  settings-sound = sym (fault-none outset SettingsRecord (settingsBytes s ++ rest) refl 40 refl settings-whole settings-placed settings-flags settings-few
+      (sym (pad-rest outset SettingsRecord (settingsBytes s ++ rest) refl)) refl)
 
 -- the state behind the settings
 abbrev begun : State
 begun = record { phase = 1; left = 0; variants = 0; parts = 0; letters = 0 }
 
 settings-step : (s : Settings) (rest : List ℕ) → run (1 ∷ (settingsBytes s ++ rest)) 0 outset ≡ run rest 0 begun
-unfolding bodyLen after countOf
-settings-step s rest = run-record outset 1 40 (settingsBytes s) rest (λ e. omega arith) refl (long-settings s rest) (settings-sound s rest)
+unfolding kindOf bodyLen after countOf
+settings-step s rest = run-record outset 1 40 SettingsRecord (settingsBytes s) rest refl refl refl (long-settings s rest) (settings-sound s rest)
 
 -- ---- letters records
 zeros : (n m : ℕ) → allZero (take n (replicate m 0)) ≡ true
@@ -104,39 +106,39 @@ unfolding padded
 padded-tail l = tail-zero l 16 16
 
 module _ (l : List ℕ) (some : 0 < length l) (rest : List ℕ) (st : State) (left : st .left ≡ length l) where
-  letters-placed : inPlace st 4 ≡ true
+  letters-placed : inPlace st Letters ≡ true
   unfolding inPlace
   letters-placed = rw left (simp (lt-ltb _ _ some))
 
-  letters-flags : flagsOk 4 (padded l ++ rest) ≡ true
+  letters-flags : flagsOk Letters (padded l ++ rest) ≡ true
   unfolding flagsOk
   letters-flags = refl
 
-  letters-few : countOf 4 (padded l ++ rest) ≤ 131072
+  letters-few : countOf Letters (padded l ++ rest) ≤ 131072
   unfolding countOf
   letters-few = omega arith
 
-  letters-padded : padOk st 4 (padded l ++ rest) ≡ true
+  letters-padded : padOk st Letters (padded l ++ rest) ≡ true
   unfolding padOk
   letters-padded = rw (take-at (padded l) rest 16 (long-padded l), left) (padded-tail l)
 
   letters-whole : 16 ≤ length (padded l ++ rest)
   letters-whole = let e = length-append (padded l) rest in let f = long-padded l in omega (arith, e, f)
 
-  letters-sound : faultOf st 4 (padded l ++ rest) ≡ 0
-  unfolding bodyLen
-  letters-sound = sym (fault-none st 4 (padded l ++ rest) (omega arith) 16 refl letters-whole letters-placed letters-flags letters-few letters-padded (λ e. omega arith))
+  letters-sound : faultOf st Letters (padded l ++ rest) ≡ 0
+  unfolding kindOf bodyLen
+  letters-sound = sym (fault-none st Letters (padded l ++ rest) refl 16 refl letters-whole letters-placed letters-flags letters-few letters-padded refl)
 
-  letters-step : run (4 ∷ (padded l ++ rest)) 0 st ≡ run rest 0 (after st 4 (padded l ++ rest))
-  unfolding bodyLen
-  letters-step = run-record st 4 16 (padded l) rest (λ e. omega arith) refl (long-padded l) letters-sound
+  letters-step : run (4 ∷ (padded l ++ rest)) 0 st ≡ run rest 0 (after st Letters (padded l ++ rest))
+  unfolding kindOf bodyLen
+  letters-step = run-record st 4 16 Letters (padded l) rest refl refl refl (long-padded l) letters-sound
 
 -- what is known behind a letters record: the phase, and the letters that are owed
 record Owes (st : State) (phase left : ℕ) : Type 0 where
   phase-is : st .phase ≡ phase
   left-is : st .left ≡ left
 
-owed-less : (st : State) (b l : List ℕ) (phase : ℕ) → Owes st phase (length l) → Owes (after st 4 b) phase (length (drop 16 l))
+owed-less : (st : State) (b l : List ℕ) (phase : ℕ) → Owes st phase (length l) → Owes (after st Letters b) phase (length (drop 16 l))
 unfolding after
 owed-less st b l phase o = record { phase-is = o .phase-is; left-is = ap (λ (n : ℕ). cond (leb n 16) 0 (n - 16)) (o .left-is) ∙ go }
   where
@@ -162,7 +164,7 @@ records-good (suc n) l rest phase a b next st o =
     let h : 0 < length l = omega arith in
     let d = length-drop 16 l in
     let r : List ℕ = lettersRecords n (drop 16 l) ++ rest in
-    let g = records-good n (drop 16 l) rest phase (omega (arith, d)) (omega (arith, d)) next (after st 4 (padded l ++ r)) (owed-less st (padded l ++ r) l phase o) in
+    let g = records-good n (drop 16 l) rest phase (omega (arith, d)) (omega (arith, d)) next (after st Letters (padded l ++ r)) (owed-less st (padded l ++ r) l phase o) in
     (g .0, ap (λ (q : List ℕ). run (4 ∷ q) 0 st) (append-assoc (padded l) (lettersRecords n (drop 16 l)) rest) ∙ letters-step l h r st (o .left-is) ∙ g .1)
 
 sequence-good : (l rest : List ℕ) (phase : ℕ) → GoodFrom rest phase → (st : State) → Owes st phase (length l) → IsGood (run (sequenceBytes l ++ rest) 0 st)
@@ -170,13 +172,13 @@ unfolding sequenceBytes
 sequence-good l rest phase next st o = records-good (recordsFor (length l)) l rest phase
     (let k : length l ≤ 16 * ((length l + 15) / 16) = omega arith in k) (let k : 16 * ((length l + 15) / 16) < length l + 16 = omega arith in k) next st o
 
-gather-letters : {A : Type 0} (here : ℕ → List ℕ → List A) → ((b : List ℕ) → here 4 b ≡ []) → (n : ℕ) (l rest : List ℕ) → gather here (lettersRecords n l ++ rest) 0 ≡ gather here rest 0
-unfolding lettersRecords bodyLen
+gather-letters : {A : Type 0} (here : Kind → List ℕ → List A) → ((b : List ℕ) → here Letters b ≡ []) → (n : ℕ) (l rest : List ℕ) → gather here (lettersRecords n l ++ rest) 0 ≡ gather here rest 0
+unfolding lettersRecords kindOf bodyLen
 gather-letters here none zero l rest = refl
 gather-letters {A} here none (suc n) l rest =
     let r : List ℕ = lettersRecords n (drop 16 l) ++ rest in
     ap (λ (q : List ℕ). gather here (4 ∷ q) 0) (append-assoc (padded l) (lettersRecords n (drop 16 l)) rest)
-    ∙ gather-record here 4 16 (padded l) r refl (long-padded l)
+    ∙ gather-record here 4 16 Letters (padded l) r refl refl (long-padded l)
     ∙ ap (λ (q : List A). q ++ gather here r 0) (none (padded l ++ r))
     ∙ gather-letters here none n (drop 16 l) rest
 
@@ -195,49 +197,49 @@ module _ (x : Variant) (h : VariantHolds x) (rest : List ℕ) where
   v-whole : 25 ≤ length (vbody ++ vrest)
   v-whole = let e = length-append vbody vrest in let f = long-vbody in omega (arith, e, f)
 
-  v-flags : flagsOk 2 (vbody ++ vrest) ≡ true
+  v-flags : flagsOk VariantRecord (vbody ++ vrest) ≡ true
   unfolding flagsOk variantBody partBody bytes8 bytes4 bytes2
   v-flags = rw (flag-low (x .negative))
 
-  v-count : countOf 2 (vbody ++ vrest) ≡ length (x .letters)
+  v-count : countOf VariantRecord (vbody ++ vrest) ≡ length (x .letters)
   unfolding countOf variantBody partBody bytes8 bytes4 bytes2 le4 le2
   v-count = let n : length (x .letters) < 4294967296 = omega (arith, h .letters) in four-back (length (x .letters)) n
 
   module _ (st : State) (o : Owes st 1 0) where
-    v-placed : inPlace st 2 ≡ true
+    v-placed : inPlace st VariantRecord ≡ true
     unfolding inPlace
     v-placed = rw (o .left-is, o .phase-is)
 
-    v-sound : faultOf st 2 (vbody ++ vrest) ≡ 0
-    unfolding bodyLen
-    v-sound = sym (fault-none st 2 (vbody ++ vrest) (omega arith) 25 refl v-whole v-placed v-flags (rw v-count (h .letters))
-        (sym (pad-rest st 2 (vbody ++ vrest) (λ e. omega arith))) (λ e. omega arith))
+    v-sound : faultOf st VariantRecord (vbody ++ vrest) ≡ 0
+    unfolding kindOf bodyLen
+    v-sound = sym (fault-none st VariantRecord (vbody ++ vrest) refl 25 refl v-whole v-placed v-flags (rw v-count (h .letters))
+        (sym (pad-rest st VariantRecord (vbody ++ vrest) refl)) refl)
 
-    v-owes : Owes (after st 2 (vbody ++ vrest)) 1 (length (x .letters))
+    v-owes : Owes (after st VariantRecord (vbody ++ vrest)) 1 (length (x .letters))
     unfolding after
     v-owes = record { phase-is = o .phase-is; left-is = v-count }
 
     variant-good : GoodFrom rest 1 → IsGood (run (variantBytes x ++ rest) 0 st)
-    unfolding variantBytes bodyLen IsGood
+    unfolding variantBytes kindOf bodyLen IsGood
     variant-good next =
-        let g = sequence-good (x .letters) rest 1 next (after st 2 (vbody ++ vrest)) v-owes in (
+        let g = sequence-good (x .letters) rest 1 next (after st VariantRecord (vbody ++ vrest)) v-owes in (
           g .0,
           ap (λ (q : List ℕ). run (2 ∷ q) 0 st) (append-assoc vbody (sequenceBytes (x .letters)) rest)
-              ∙ run-record st 2 25 vbody vrest (λ e. omega arith) refl long-vbody v-sound ∙ g .1,
+              ∙ run-record st 2 25 VariantRecord vbody vrest refl refl refl long-vbody v-sound ∙ g .1,
         )
 
-  gather-variant : {A : Type 0} (here : ℕ → List ℕ → List A) → ((b : List ℕ) → here 4 b ≡ []) → gather here (variantBytes x ++ rest) 0 ≡ here 2 (vbody ++ vrest) ++ gather here rest 0
-  unfolding variantBytes bodyLen sequenceBytes
+  gather-variant : {A : Type 0} (here : Kind → List ℕ → List A) → ((b : List ℕ) → here Letters b ≡ []) → gather here (variantBytes x ++ rest) 0 ≡ here VariantRecord (vbody ++ vrest) ++ gather here rest 0
+  unfolding variantBytes kindOf bodyLen sequenceBytes
   gather-variant {A} here none =
       ap (λ (q : List ℕ). gather here (2 ∷ q) 0) (append-assoc vbody (sequenceBytes (x .letters)) rest)
-      ∙ gather-record here 2 25 vbody vrest refl long-vbody
-      ∙ ap (λ (q : List A). here 2 (vbody ++ vrest) ++ q) (gather-letters here none (recordsFor (length (x .letters))) (x .letters) rest)
+      ∙ gather-record here 2 25 VariantRecord vbody vrest refl refl long-vbody
+      ∙ ap (λ (q : List A). here VariantRecord (vbody ++ vrest) ++ q) (gather-letters here none (recordsFor (length (x .letters))) (x .letters) rest)
 
-  variant-is : variantHere 2 (vbody ++ vrest) ≡ x ∷ []
+  variant-is : variantHere VariantRecord (vbody ++ vrest) ≡ x ∷ []
   unfolding variantHere
   variant-is = rw (le-ltb (length (vbody ++ vrest)) 25 v-whole, variant-back x h rest)
 
-  no-part-here : partHere 2 (vbody ++ vrest) ≡ []
+  no-part-here : partHere VariantRecord (vbody ++ vrest) ≡ []
   unfolding partHere
   no-part-here = refl
 
@@ -256,73 +258,73 @@ module _ (x : Part) (h : PartHolds x) (rest : List ℕ) where
   p-whole : 9 ≤ length (pbody ++ prest)
   p-whole = let e = length-append pbody prest in let f = long-pbody in omega (arith, e, f)
 
-  p-flags : flagsOk 3 (pbody ++ prest) ≡ true
+  p-flags : flagsOk PartRecord (pbody ++ prest) ≡ true
   unfolding flagsOk partBody bytes4 bytes2
   p-flags = rw (flag-low (x .negative))
 
-  p-count : countOf 3 (pbody ++ prest) ≡ length (x .letters)
+  p-count : countOf PartRecord (pbody ++ prest) ≡ length (x .letters)
   unfolding countOf partBody bytes4 bytes2 le4 le2
   p-count = let n : length (x .letters) < 4294967296 = omega (arith, h .letters) in four-back (length (x .letters)) n
 
   module _ (phase : ℕ) (later : phase ≡ 0 → ⊥) (st : State) (o : Owes st phase 0) where
-    p-placed : inPlace st 3 ≡ true
+    p-placed : inPlace st PartRecord ≡ true
     unfolding inPlace
-    p-placed = rw (o .left-is, o .phase-is, ne-eqb phase 0 later)
+    p-placed = let h : 0 < phase = omega arith in rw (o .left-is, o .phase-is, lt-ltb 0 phase h)
 
-    p-sound : faultOf st 3 (pbody ++ prest) ≡ 0
-    unfolding bodyLen
-    p-sound = sym (fault-none st 3 (pbody ++ prest) (omega arith) 9 refl p-whole p-placed p-flags (rw p-count (h .letters))
-        (sym (pad-rest st 3 (pbody ++ prest) (λ e. omega arith))) (λ e. omega arith))
+    p-sound : faultOf st PartRecord (pbody ++ prest) ≡ 0
+    unfolding kindOf bodyLen
+    p-sound = sym (fault-none st PartRecord (pbody ++ prest) refl 9 refl p-whole p-placed p-flags (rw p-count (h .letters))
+        (sym (pad-rest st PartRecord (pbody ++ prest) refl)) refl)
 
-    p-owes : Owes (after st 3 (pbody ++ prest)) 2 (length (x .letters))
+    p-owes : Owes (after st PartRecord (pbody ++ prest)) 2 (length (x .letters))
     unfolding after
     p-owes = record { phase-is = refl; left-is = p-count }
 
     part-good : GoodFrom rest 2 → IsGood (run (partBytes x ++ rest) 0 st)
-    unfolding partBytes bodyLen IsGood
+    unfolding partBytes kindOf bodyLen IsGood
     part-good next =
-        let g = sequence-good (x .letters) rest 2 next (after st 3 (pbody ++ prest)) p-owes in (
+        let g = sequence-good (x .letters) rest 2 next (after st PartRecord (pbody ++ prest)) p-owes in (
           g .0,
           ap (λ (q : List ℕ). run (3 ∷ q) 0 st) (append-assoc pbody (sequenceBytes (x .letters)) rest)
-              ∙ run-record st 3 9 pbody prest (λ e. omega arith) refl long-pbody p-sound ∙ g .1,
+              ∙ run-record st 3 9 PartRecord pbody prest refl refl refl long-pbody p-sound ∙ g .1,
         )
 
-  gather-part : {A : Type 0} (here : ℕ → List ℕ → List A) → ((b : List ℕ) → here 4 b ≡ []) → gather here (partBytes x ++ rest) 0 ≡ here 3 (pbody ++ prest) ++ gather here rest 0
-  unfolding partBytes bodyLen sequenceBytes
+  gather-part : {A : Type 0} (here : Kind → List ℕ → List A) → ((b : List ℕ) → here Letters b ≡ []) → gather here (partBytes x ++ rest) 0 ≡ here PartRecord (pbody ++ prest) ++ gather here rest 0
+  unfolding partBytes kindOf bodyLen sequenceBytes
   gather-part {A} here none =
       ap (λ (q : List ℕ). gather here (3 ∷ q) 0) (append-assoc pbody (sequenceBytes (x .letters)) rest)
-      ∙ gather-record here 3 9 pbody prest refl long-pbody
-      ∙ ap (λ (q : List A). here 3 (pbody ++ prest) ++ q) (gather-letters here none (recordsFor (length (x .letters))) (x .letters) rest)
+      ∙ gather-record here 3 9 PartRecord pbody prest refl refl long-pbody
+      ∙ ap (λ (q : List A). here PartRecord (pbody ++ prest) ++ q) (gather-letters here none (recordsFor (length (x .letters))) (x .letters) rest)
 
-  part-is : partHere 3 (pbody ++ prest) ≡ x ∷ []
+  part-is : partHere PartRecord (pbody ++ prest) ≡ x ∷ []
   unfolding partHere
   part-is = rw (le-ltb (length (pbody ++ prest)) 9 p-whole, part-back x h rest)
 
-  no-variant-here : variantHere 3 (pbody ++ prest) ≡ []
+  no-variant-here : variantHere PartRecord (pbody ++ prest) ≡ []
   unfolding variantHere
   no-variant-here = refl
 
 -- ---- the end
 module _ (phase : ℕ) (later : phase ≡ 0 → ⊥) (st : State) (o : Owes st phase 0) where
-  end-placed : inPlace st 0 ≡ true
+  end-placed : inPlace st End ≡ true
   unfolding inPlace
-  end-placed = rw (o .left-is, o .phase-is, ne-eqb phase 0 later)
+  end-placed = let h : 0 < phase = omega arith in rw (o .left-is, o .phase-is, lt-ltb 0 phase h)
 
-  end-flags : flagsOk 0 [] ≡ true
+  end-flags : flagsOk End [] ≡ true
   unfolding flagsOk
   end-flags = refl
 
-  end-few : countOf 0 [] ≤ 131072
+  end-few : countOf End [] ≤ 131072
   unfolding countOf
   end-few = omega arith
 
-  end-sound : faultOf st 0 [] ≡ 0
-  unfolding bodyLen
-  end-sound = sym (fault-none-end st 0 [] (omega arith) 0 refl (omega arith) end-placed end-flags end-few (sym (pad-rest st 0 [] (λ e. omega arith))) refl (omega arith))
+  end-sound : faultOf st End [] ≡ 0
+  unfolding kindOf bodyLen
+  end-sound = sym (fault-none-end st End [] refl 0 refl (omega arith) end-placed end-flags end-few (sym (pad-rest st End [] refl)) refl (omega arith))
 
   end-step : run (0 ∷ []) 0 st ≡ Good (counted st)
-  unfolding run bodyLen
-  end-step = judge-done (faultOf st 0 []) 0 st (Refused 21) end-sound refl
+  unfolding run kindOf bodyLen
+  end-step = judge-done (faultOf st End []) End st (Refused 21) end-sound refl
 
 end-good : (phase : ℕ) → (phase ≡ 0 → ⊥) → GoodFrom (0 ∷ []) phase
 unfolding GoodFrom IsGood
@@ -343,11 +345,11 @@ variants-good (x ∷ xs) rest h next st o =
     subst (λ (q : List ℕ). IsGood (run q 0 st)) (sym (append-assoc (variantBytes x) (variantsBytes xs) rest))
     (variant-good x (h .0) (variantsBytes xs ++ rest) st o (variants-good xs rest (h .1) next))
 
-no-variant-4 : (b : List ℕ) → variantHere 4 b ≡ []
+no-variant-4 : (b : List ℕ) → variantHere Letters b ≡ []
 unfolding variantHere
 no-variant-4 b = refl
 
-no-part-4 : (b : List ℕ) → partHere 4 b ≡ []
+no-part-4 : (b : List ℕ) → partHere Letters b ≡ []
 unfolding partHere
 no-part-4 b = refl
 
@@ -383,8 +385,8 @@ parts-there (x ∷ xs) rest h =
     ∙ gather-part x (h .0) (partsBytes xs ++ rest) partHere no-part-4
     ∙ rw (part-is x (h .0) (partsBytes xs ++ rest)) (ap (λ (q : List Part). x ∷ q) (parts-there xs rest (h .1)))
 
-end-empty : {A : Type 0} (here : ℕ → List ℕ → List A) → here 0 [] ≡ [] → gather here (0 ∷ []) 0 ≡ []
-unfolding gather
+end-empty : {A : Type 0} (here : Kind → List ℕ → List A) → here End [] ≡ [] → gather here (0 ∷ []) 0 ≡ []
+unfolding gather kindOf
 end-empty here e = rw e
 
 -- ---- the job
@@ -399,15 +401,15 @@ module _ (job : Job) (h : JobHolds job) where
       (g .0, settings-step (job .settings) tail ∙ g .1)
 
   variants-are : gather variantHere (jobBytes job) 0 ≡ job .variants
-  unfolding jobBytes bodyLen variantHere
-  variants-are = gather-record variantHere 1 40 (settingsBytes (job .settings)) tail refl (long-settings (job .settings) tail)
+  unfolding jobBytes kindOf bodyLen variantHere
+  variants-are = gather-record variantHere 1 40 SettingsRecord (settingsBytes (job .settings)) tail refl refl (long-settings (job .settings) tail)
       ∙ variants-there (job .variants) (partsBytes (job .parts) ++ (0 ∷ [])) (h .variants)
       ∙ ap (λ (q : List Variant). job .variants ++ q) (no-variants (job .parts) (0 ∷ []) (h .parts) ∙ end-empty variantHere refl)
       ∙ append-nil (job .variants)
 
   parts-are : gather partHere (jobBytes job) 0 ≡ job .parts
-  unfolding jobBytes bodyLen partHere
-  parts-are = gather-record partHere 1 40 (settingsBytes (job .settings)) tail refl (long-settings (job .settings) tail)
+  unfolding jobBytes kindOf bodyLen partHere
+  parts-are = gather-record partHere 1 40 SettingsRecord (settingsBytes (job .settings)) tail refl refl (long-settings (job .settings) tail)
       ∙ no-parts (job .variants) (partsBytes (job .parts) ++ (0 ∷ [])) (h .variants)
       ∙ parts-there (job .parts) (0 ∷ []) (h .parts)
       ∙ ap (λ (q : List Part). job .parts ++ q) (end-empty partHere refl)

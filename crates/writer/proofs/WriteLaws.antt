@@ -17,7 +17,7 @@ use Rattle.writer.specs.declared.Left.{Left}
 use Rattle.writer.specs.declared.Left.the-variants.{Short, Enough}
 use Rattle.fields.specs.Fields.{bytes4, wordOf}
 use Rattle.form.specs.Settings40.{flag}
-use Rattle.form.specs.Form.{bodyLen}
+use Rattle.form.specs.Form.{kindOf, bodyLen}
 use Rattle.form.specs.Job.{padded, lettersRecords, recordsFor, sequenceBytes, partBody}
 use Rattle.form.specs.Lent.{sum}
 use Rattle.writer.specs.Writing.{anyOver}
@@ -48,7 +48,7 @@ pub cost-letters : (kind n : ℕ) → kind ≡ 4 → n ≡ costOf kind n
 unfolding costOf
 cost-letters kind n h = sym (rw (eq-eqb kind 4 h))
 
-pub cost-bytes : (kind n m : ℕ) → (kind ≡ 4 → ⊥) → m ≡ bodyLen kind → 1 + m + 17 * ((n + 15) / 16) ≡ costOf kind n
+pub cost-bytes : (kind n m : ℕ) → (kind ≡ 4 → ⊥) → m ≡ bodyLen (kindOf kind) → 1 + m + 17 * ((n + 15) / 16) ≡ costOf kind n
 unfolding costOf
 cost-bytes kind n m h e = sym (rw (ne-eqb kind 4 h, sym e))
 

@@ -8,7 +8,7 @@ use lib.ListN.{length}
 use lib.Seq.{sets}
 use lib.Dec.{leb, eqb}
 use Rattle.params.specs.declared.Settings.{Settings}
-use Rattle.form.specs.Form.{lettersKind, lettersLen, bodyLen}
+use Rattle.form.specs.Form.{lettersKind, lettersLen, kindOf, bodyLen}
 use Rattle.form.specs.Job.{recordsFor, variantsBytes, partsBytes, jobBytes}
 use Rattle.form.specs.Lent.{Lent, sum}
 use Rattle.writer.specs.Writing.{variantsFrom, partsFrom, agree, jobFrom}
@@ -17,7 +17,7 @@ use Rattle.writer.specs.declared.Left.the-variants.{Short, Enough}
 
 -- what one sequence takes: of the letters (kind 4), or of a form's bytes behind its own record
 unfoldable pub costOf : ℕ → ℕ → ℕ
-costOf kind n = cond (eqb kind lettersKind) n (1 + bodyLen kind + suc lettersLen * recordsFor n)
+costOf kind n = cond (eqb kind lettersKind) n (1 + bodyLen (kindOf kind) + suc lettersLen * recordsFor n)
 
 unfoldable pub total : ℕ → List ℕ → ℕ
 total kind [] = 0

@@ -16,6 +16,7 @@ use form::records::SETTINGS_RECORD;
 use form::records::VARIANT;
 use form::records::VARIANT_RECORD;
 use form::records::body_len;
+use form::records::kind_of;
 use form::settings::write_settings;
 use metrics::refusals::BAD_LENGTHS;
 use metrics::refusals::LITTLE_ROOM;
@@ -83,7 +84,7 @@ fn cost(kind: u8, count: u32) -> usize
     if kind == LETTERS {
         return n;
     }
-    1 + body_len(kind) + LETTERS_RECORD * ((n + 15) / LETTERS_BODY)
+    1 + body_len(kind_of(kind)) + LETTERS_RECORD * ((n + 15) / LETTERS_BODY)
 }
 
 // Takes the sequences' costs away one by one: their sum may be past 64 bits.

@@ -1,44 +1,56 @@
 -- The number, the rows and the queue are those of the library call's own promise, and the report is that of its answer, whose
--- target's number fits.
+-- target's number fits. The settings that the code makes of the words are answered as the words' own are.
 use mathlib.Core.Path.{ap, _∙_}
 use borrow.Author.Needs.{needs}
+use Rattle.metrics.specs.Placed.{placed}
 use Rattle.capi.proofs.nd_apply_haplotype.Statement.{statement}
 use Rattle.capi.proofs.nd_apply_haplotype.Tie as tie
 use Rattle.capi.specs.Report.{reportOf}
 use Rattle.capi.proofs.TargetLaws.{target-within}
+use Rattle.capi.proofs.HeldLaws.{held-alike}
 
--- src/lib.rt:142:9
+-- the search, before the lent slices come back
+abbrev searched : tie.After-put-report-arg → tie.After-apply-haplotype
+searched c = c .before .before .before .before .before .before .before
+
+-- the settings, before the slices are lent
+abbrev settled : tie.After-apply-haplotype → tie.After-settings-of-words
+settled c = c .before .before .before .before
+
+settings-of-words-requires : tie.Need-settings-of-words-requires
+settings-of-words-requires c κs = search needs
+
 apply-haplotype-requires : tie.Need-apply-haplotype-requires
 apply-haplotype-requires c κs = search needs
 
--- src/lib.rt:155:5
 put-report-requires : tie.Need-put-report-requires
-put-report-requires c κs =
-    let applied = c .before .before .before .before .before .before .before .apply-haplotype in
-    rw (applied .ensures .0) (target-within _)
+put-report-requires c κs = rw (searched c .apply-haplotype .ensures .0) (target-within _)
 
--- src/lib.rt:93:1
 same-length : tie.Need-same-length
 same-length c = search needs
 
--- src/lib.rt:93:1
 same-length-2 : tie.Need-same-length-2
 same-length-2 c = search needs
 
--- src/lib.rt:93:1
 same-length-3 : tie.Need-same-length-3
 same-length-3 c = search needs
 
--- src/lib.rt:93:1
 returns : tie.Need-returns
 returns c =
-    let applied = c .before .before .before .before .before .before .before .before .apply-haplotype in
-    (ap (λ a. a .refusal) (applied .ensures .0), (c .put-report .ensures ∙ ap reportOf (applied .ensures .0), applied .ensures .1))
+    let found = searched (c .before) in
+    let promised = found .apply-haplotype .ensures in
+    let alike = held-alike _ _ _ _ _ (settled found .settings-of-words .ensures) in
+    let answer = promised .0 ∙ alike .answer in
+    let queue = promised .1 .1 in (
+      ap (λ a. a .refusal) answer,
+      (c .put-report .ensures ∙ ap reportOf answer, (promised .1 .0 ∙ ap (placed _) (alike .rows), (λ h. queue .0 (alike .search ∙ h), λ h. queue .1 (alike .search ∙ h)))),
+    )
 
 pub nd-apply-haplotype-spec : {M : Type 1} → statement M
 nd-apply-haplotype-spec =
     tie.close
     (tie.spec
+    settings-of-words-requires
     apply-haplotype-requires
     put-report-requires
     same-length

@@ -1,6 +1,7 @@
 //! A job in one line of words, and bytes that are no job as hexadecimal.
 use crate::call::Call;
 use crate::job::{self, Job, Settings};
+use crate::rules::DOCUMENT;
 
 fn letters(bytes: &[u8], negative: bool) -> String {
     let shown = match bytes.len() {
@@ -37,7 +38,7 @@ pub fn job(job: &Job) -> String {
 }
 
 pub fn bytes(bytes: &[u8]) -> String {
-    match job::read(bytes) {
+    match job::read(&DOCUMENT, bytes) {
         Ok(good) => job(&good),
         Err(number) => {
             let hex: String = bytes.iter().take(100).map(|b| format!("{b:02x}")).collect();

@@ -1,43 +1,10 @@
 //! Seeded jobs that reach what document 01 speaks of: ties, zero and negative sizes, squish, bare graphs, one-to-one,
 //! thresholds and penalties at telling values, every kind of refusal, and sums at their limits.
-use crate::call::{queue_need, Call, SIZE_LIMIT};
-use crate::job::{Job, Part, Settings, Variant};
+use crate::call::{queue_need, Call};
+use crate::job::{record_length, shape, Job, Part, Settings, Variant};
+use crate::random::Random;
+use crate::rules::{DOCUMENT, SIZE_LIMIT};
 use crate::rust::chains;
-
-/// splitmix64: the same jobs from the same seed everywhere.
-pub struct Random(u64);
-
-impl Random {
-    pub fn new(seed: u64) -> Self {
-        Random(seed)
-    }
-
-    pub fn next(&mut self) -> u64 {
-        self.0 = self.0.wrapping_add(0x9e37_79b9_7f4a_7c15);
-        let mut z = self.0;
-        z = (z ^ (z >> 30)).wrapping_mul(0xbf58_476d_1ce4_e5b9);
-        z = (z ^ (z >> 27)).wrapping_mul(0x94d0_49bb_1331_11eb);
-        z ^ (z >> 31)
-    }
-
-    /// 0 to n - 1
-    pub fn below(&mut self, n: u64) -> u64 {
-        self.next() % n
-    }
-
-    /// from low to high, both counted in
-    pub fn within(&mut self, low: i64, high: i64) -> i64 {
-        low + self.below((high - low + 1) as u64) as i64
-    }
-
-    pub fn chance(&mut self, percent: u64) -> bool {
-        self.below(100) < percent
-    }
-
-    pub fn pick<T: Clone>(&mut self, from: &[T]) -> T {
-        from[self.below(from.len() as u64) as usize].clone()
-    }
-}
 
 /// How large the jobs may be.
 #[derive(Clone, Copy)]
@@ -316,24 +283,24 @@ pub fn job_at_limits(r: &mut Random) -> Job {
     job
 }
 
-fn lists(m: u64, s: &Settings) -> u64 {
-    if m >= u64::from(s.pileupmax) {
+/// How many part lists there are.
+fn lists(m: usize, s: &Settings) -> u64 {
+    if DOCUMENT.only_the_whole(m, s.pileupmax as usize) {
         return 1;
     }
-    let lower = m.saturating_sub(s.fnmax.into()).max(1);
-    let choose = |i: u64| (0..i).fold(1, |c, j| c * (m - j) / (j + 1));
-    (lower..=m).map(choose).sum()
+    let choose = |length: usize| (0..length as u64).fold(1, |c, j| c * (m as u64 - j) / (j + 1));
+    DOCUMENT.list_lengths(m, s.fnmax as usize).into_iter().map(choose).sum()
 }
 
 /// Entries compared at most, chain by chain and list by list.
 pub fn cost(call: &Call) -> u64 {
-    if call.refusal() != 0 {
+    if call.refusal(&DOCUMENT) != 0 {
         return 0;
     }
     let limit = u64::from(call.settings.maxpaths) + 1;
-    let entries = 1u64 << (2 * call.settings.k);
+    let entries = call.settings.entries() as u64;
     let v = call.starts.len() as u64;
-    chains(call, limit) * (lists(call.part_sizes.len() as u64, &call.settings) * entries + 8 * v)
+    chains(call, limit) * (lists(call.part_sizes.len(), &call.settings) * entries + 8 * v)
 }
 
 /// A library call of at most the given cost; more costly ones score fewer chains.
@@ -343,13 +310,13 @@ pub fn call(r: &mut Random, budget: u64) -> Call {
         disturb_job(r, &mut job);
     }
     let mut call = Call::of_job(&job);
-    if call.refusal() == 0 && r.chance(20) {
+    if call.refusal(&DOCUMENT) == 0 && r.chance(20) {
         scatter(r, &mut call);
     }
     while cost(&call) > budget && call.settings.maxpaths > 3 {
         call.settings.maxpaths /= 2;
     }
-    if call.refusal() != 0 {
+    if call.refusal(&DOCUMENT) != 0 {
         return call;
     }
     call.queue_room = queue_need(&call.settings, call.starts.len()) + r.pick(&[0, 0, 1, 5]);
@@ -362,7 +329,7 @@ pub fn call(r: &mut Random, budget: u64) -> Call {
 
 /// Features that no letters give: any signs, up to the limit.
 fn scatter(r: &mut Random, call: &mut Call) {
-    let e = 1usize << (2 * call.settings.k);
+    let e = call.settings.entries();
     let top = r.pick(&[1, 3, 131_072 / e as i64]);
     for row in call.features.chunks_mut(e).chain(call.part_features.chunks_mut(e)) {
         if r.chance(30) {
@@ -374,10 +341,10 @@ fn scatter(r: &mut Random, call: &mut Call) {
 }
 
 fn disturb_call(r: &mut Random, call: &mut Call) {
-    if call.refusal() != 0 {
+    if call.refusal(&DOCUMENT) != 0 {
         return;
     }
-    let e = 1usize << (2 * call.settings.k);
+    let e = call.settings.entries();
     match r.below(12) {
         0 => {
             call.ends.pop();
@@ -462,7 +429,7 @@ fn records(bytes: &[u8]) -> Vec<(usize, usize)> {
     let mut found = vec![];
     let mut at = 0;
     while at < bytes.len() {
-        let length = [1, 41, 26, 10, 17][usize::from(bytes[at])];
+        let length = record_length(bytes[at]);
         found.push((at, length));
         at += length;
     }
@@ -474,6 +441,7 @@ fn disturb_record(r: &mut Random, bytes: &mut Vec<u8>) {
     let found = records(bytes);
     let (at, length) = r.pick(&found);
     let record: Vec<u8> = bytes[at..at + length].to_vec();
+    let (body, shape) = (at + 1, shape(record[0]).expect("a record of a good job"));
     let (to, _) = r.pick(&found);
     match r.below(5) {
         0 => {
@@ -489,13 +457,14 @@ fn disturb_record(r: &mut Random, bytes: &mut Vec<u8>) {
             bytes.splice(to..to, record[..length / 2].to_vec());
         }
         _ => match record[0] {
-            0x01 => bytes[at + 2 + r.below(3) as usize] = 2,
-            0x02 if r.chance(50) => bytes[at + 21] = 2,
-            0x02 => bytes[at + 22..at + 26].copy_from_slice(&r.pick(&[131_072u32, 131_073, 17, 0, u32::MAX]).to_le_bytes()),
-            0x03 if r.chance(50) => bytes[at + 5] = 2,
-            0x03 => bytes[at + 6..at + 10].copy_from_slice(&r.pick(&[131_072u32, 131_073, 17, 0, u32::MAX]).to_le_bytes()),
-            0x04 => bytes[at + 16] = 1,
-            _ => bytes.push(0),
+            0x00 => bytes.push(0),
+            0x01 => bytes[body + shape.flags.start + r.below(3) as usize] = 2,
+            0x04 => bytes[body + 15] = 1,
+            _ if r.chance(50) => bytes[body + shape.flags.start] = 2,
+            _ => {
+                let count = body + shape.count.expect("a variant or a part");
+                bytes[count..count + 4].copy_from_slice(&r.pick(&[131_072u32, 131_073, 17, 0, u32::MAX]).to_le_bytes());
+            }
         },
     }
 }

@@ -1,4 +1,6 @@
 //! A job and its bytes (document 01, "Job form and program").
+use crate::rules::Rules;
+use std::ops::Range;
 
 pub const LETTER_LIMIT: u32 = 131_072;
 
@@ -26,6 +28,11 @@ impl Settings {
 
     pub fn floats(&self) -> [f32; 4] {
         [self.sizesim, self.seqsim, self.fpenalty, self.gpenalty]
+    }
+
+    /// 4^k, the entries of a feature row
+    pub fn entries(&self) -> usize {
+        1 << (2 * self.k)
     }
 }
 
@@ -91,13 +98,29 @@ impl Job {
     }
 }
 
-/// Which faults of the form a planted mistake changes.
-#[derive(Clone, Copy, Debug, PartialEq, Eq)]
-pub enum FormFault {
-    None,
-    PlaceBeforeShort,
-    PaddingUnread,
-    TrailingUnread,
+/// What a record's kind fixes: the length of its body, and where in it the flags and the letter count stand.
+pub struct Shape {
+    pub body: usize,
+    pub flags: Range<usize>,
+    pub count: Option<usize>,
+}
+
+/// The kinds of records; there is no other.
+pub fn shape(kind: u8) -> Option<Shape> {
+    let (body, flags, count) = match kind {
+        0x00 => (0, 0..0, None),
+        0x01 => (40, 1..4, None),
+        0x02 => (25, 20..21, Some(21)),
+        0x03 => (9, 4..5, Some(5)),
+        0x04 => (16, 0..0, None),
+        _ => return None,
+    };
+    Some(Shape { body, flags, count })
+}
+
+/// How many bytes a record of this kind takes.
+pub fn record_length(kind: u8) -> usize {
+    1 + shape(kind).expect("a kind of record").body
 }
 
 #[derive(PartialEq)]
@@ -139,18 +162,31 @@ impl Reader {
         }
     }
 
-    fn owe(&mut self, count: u32) -> Result<(), u32> {
-        if count > LETTER_LIMIT {
-            return Err(13);
+    /// Whether the record of this kind, with all the bytes after it, has a fault. A fault may count on those before it.
+    fn has_fault(&self, number: u32, kind: u8, after: &[u8]) -> bool {
+        let Some(shape) = shape(kind) else { return number == 20 };
+        match number {
+            20 => false,
+            21 => after.len() < shape.body,
+            22 => !self.in_place(kind),
+            24 => after[shape.flags].iter().any(|&flag| flag > 1),
+            13 => shape.count.is_some_and(|at| u32_at(after, at) > LETTER_LIMIT),
+            23 => kind == 0x04 && after[self.owed.min(16)..16].iter().any(|&padding| padding != 0),
+            25 => kind == 0x00 && !after.is_empty(),
+            _ => unreachable!("no fault of a record: {number}"),
         }
-        self.owed = count as usize;
-        Ok(())
     }
 
-    fn take_settings(&mut self, body: &[u8]) -> Result<(), u32> {
-        if body[1] > 1 || body[2] > 1 || body[3] > 1 {
-            return Err(24);
+    fn take(&mut self, kind: u8, body: &[u8]) {
+        match kind {
+            0x01 => self.take_settings(body),
+            0x02 => self.take_variant(body),
+            0x03 => self.take_part(body),
+            _ => self.take_letters(body),
         }
+    }
+
+    fn take_settings(&mut self, body: &[u8]) {
         self.stage = Stage::Variants;
         self.settings = Some(Settings {
             k: body[0],
@@ -167,14 +203,10 @@ impl Reader {
             fpenalty: f32_at(body, 32),
             gpenalty: f32_at(body, 36),
         });
-        Ok(())
     }
 
-    fn take_variant(&mut self, body: &[u8]) -> Result<(), u32> {
-        if body[20] > 1 {
-            return Err(24);
-        }
-        self.owe(u32_at(body, 21))?;
+    fn take_variant(&mut self, body: &[u8]) {
+        self.owed = u32_at(body, 21) as usize;
         self.variants.push(Variant {
             start: u64_at(body, 0),
             end: u64_at(body, 8),
@@ -182,44 +214,31 @@ impl Reader {
             negative: body[20] == 1,
             letters: vec![],
         });
-        Ok(())
     }
 
-    fn take_part(&mut self, body: &[u8]) -> Result<(), u32> {
-        if body[4] > 1 {
-            return Err(24);
-        }
-        self.owe(u32_at(body, 5))?;
+    fn take_part(&mut self, body: &[u8]) {
+        self.owed = u32_at(body, 5) as usize;
         self.stage = Stage::Parts;
         self.parts.push(Part {
             size: u32_at(body, 0) as i32,
             negative: body[4] == 1,
             letters: vec![],
         });
-        Ok(())
     }
 
-    fn take_letters(&mut self, body: &[u8], fault: FormFault) -> Result<(), u32> {
+    fn take_letters(&mut self, body: &[u8]) {
         let here = self.owed.min(16);
-        if fault != FormFault::PaddingUnread && body[here..].iter().any(|&b| b != 0) {
-            return Err(23);
-        }
         self.owed -= here;
         let letters = match self.stage {
             Stage::Parts => &mut self.parts.last_mut().unwrap().letters,
             _ => &mut self.variants.last_mut().unwrap().letters,
         };
         letters.extend_from_slice(&body[..here]);
-        Ok(())
     }
 }
 
 /// The job in the bytes, or the first fault of the form.
-pub fn read(bytes: &[u8]) -> Result<Job, u32> {
-    read_with(bytes, FormFault::None)
-}
-
-pub fn read_with(bytes: &[u8], fault: FormFault) -> Result<Job, u32> {
+pub fn read(rules: &Rules, bytes: &[u8]) -> Result<Job, u32> {
     let mut reader = Reader {
         stage: Stage::Front,
         owed: 0,
@@ -227,35 +246,18 @@ pub fn read_with(bytes: &[u8], fault: FormFault) -> Result<Job, u32> {
         variants: vec![],
         parts: vec![],
     };
-    let mut at = 0;
+    let mut left = bytes;
     loop {
-        let kind = *bytes.get(at).ok_or(21u32)?;
-        let length = match kind {
-            0x00 => 0,
-            0x01 => 40,
-            0x02 => 25,
-            0x03 => 9,
-            0x04 => 16,
-            _ => return Err(20),
-        };
-        if fault == FormFault::PlaceBeforeShort && !reader.in_place(kind) {
-            return Err(22);
+        let (&kind, after) = left.split_first().ok_or(21u32)?;
+        if let Some(&number) = rules.form_faults().iter().find(|&&number| reader.has_fault(number, kind, after)) {
+            return Err(number);
         }
-        let body = bytes.get(at + 1..at + 1 + length).ok_or(21u32)?;
-        if !reader.in_place(kind) {
-            return Err(22);
+        if kind == 0x00 {
+            break;
         }
-        at += 1 + length;
-        match kind {
-            0x01 => reader.take_settings(body)?,
-            0x02 => reader.take_variant(body)?,
-            0x03 => reader.take_part(body)?,
-            0x04 => reader.take_letters(body, fault)?,
-            _ => break,
-        }
-    }
-    if at != bytes.len() && fault != FormFault::TrailingUnread {
-        return Err(25);
+        let (record, next) = left.split_at(record_length(kind));
+        reader.take(kind, &record[1..]);
+        left = next;
     }
     Ok(Job {
         settings: reader.settings.unwrap(),

@@ -1,7 +1,9 @@
 //! What a job reached, in words that are counted.
 use crate::answer::Target;
-use crate::call::{searches, Call};
-use crate::document::Trace;
+use crate::call::{magnitudes, Call};
+use crate::job::Job;
+use crate::met::Met;
+use crate::rules::DOCUMENT;
 use crate::rust::{By, Judged};
 use std::collections::BTreeMap;
 
@@ -11,6 +13,12 @@ pub fn add(counts: &mut Counts, kind: impl Into<String>) {
     *counts.entry(kind.into()).or_default() += 1;
 }
 
+fn add_seen<const N: usize>(counts: &mut Counts, seen: [(bool, &str); N]) {
+    for (_, kind) in seen.into_iter().filter(|(is, _)| *is) {
+        add(counts, kind);
+    }
+}
+
 pub fn merge(into: &mut Counts, from: Counts) {
     for (kind, count) in from {
         *into.entry(kind).or_default() += count;
@@ -18,7 +26,7 @@ pub fn merge(into: &mut Counts, from: Counts) {
 }
 
 /// What the answer shows.
-pub fn of_answer(counts: &mut Counts, judged: &Judged) {
+fn of_answer(counts: &mut Counts, judged: &Judged) {
     let a = &judged.answer;
     add(counts, match judged.by {
         By::Table => "by: document 01's refusals",
@@ -41,20 +49,15 @@ pub fn of_answer(counts: &mut Counts, judged: &Judged) {
         (a.target == Target::Whole, "answer: whole"),
         (matches!(a.target, Target::Partial(_)), "answer: a part list"),
     ];
-    for (is, kind) in seen {
-        if is {
-            add(counts, kind);
-        }
-    }
+    add_seen(counts, seen);
 }
 
 /// What an accepted call holds.
-pub fn of_call(counts: &mut Counts, call: &Call) {
+fn of_call(counts: &mut Counts, call: &Call) {
     let s = &call.settings;
     let (v, m) = (call.starts.len(), call.part_sizes.len());
     let sizes = || call.sizes.iter().chain(&call.part_sizes);
-    let search = searches(s, v);
-    let large = |table: &[i32]| table.iter().map(|x| u64::from(x.unsigned_abs())).sum::<u64>();
+    let search = call.searches(&DOCUMENT);
     let seen = [
         (s.squish, "squish"),
         (!s.full, "bare graph"),
@@ -82,19 +85,15 @@ pub fn of_call(counts: &mut Counts, call: &Call) {
         (m == 64, "64 parts"),
         (s.maxpaths == 0, "maxpaths 0"),
         (s.maxpaths == 4_095, "maxpaths 4,095"),
-        (large(&call.features) == 8_388_608 && large(&call.part_features) == 8_388_608, "sums at their limit"),
+        (magnitudes(&call.features) == 8_388_608 && magnitudes(&call.part_features) == 8_388_608, "sums at their limit"),
     ];
-    for (is, kind) in seen {
-        if is {
-            add(counts, kind);
-        }
-    }
+    add_seen(counts, seen);
     add(counts, format!("k {}", s.k));
     add(counts, format!("pileupmax {:02}", s.pileupmax));
 }
 
 /// What the letters of a job hold.
-pub fn of_letters<'a>(counts: &mut Counts, k: u8, mut letters: impl Iterator<Item = &'a [u8]> + Clone) {
+fn of_letters<'a>(counts: &mut Counts, k: u8, mut letters: impl Iterator<Item = &'a [u8]> + Clone) {
     let plain = |b: &u8| b"ACGTacgt".contains(b);
     if letters.clone().any(|l| l.iter().any(|b| b.is_ascii_lowercase() && plain(b))) {
         add(counts, "lower case letters");
@@ -108,27 +107,44 @@ pub fn of_letters<'a>(counts: &mut Counts, k: u8, mut letters: impl Iterator<Ite
 }
 
 /// What the scoring met on its way.
-pub fn of_trace(counts: &mut Counts, t: &Trace) {
+fn of_met(counts: &mut Counts, met: &Met) {
     let seen = [
-        (t.sign_skip, "met: signs differ"),
-        (t.size_skip, "met: sizesim below"),
-        (t.seq_skip, "met: seqsim below"),
-        (t.size_at_threshold, "met: sizesim at its threshold"),
-        (t.seq_at_threshold, "met: seqsim at its threshold"),
-        (t.score_exactly_zero, "met: a score of exactly 0"),
-        (t.score_below_zero, "met: a score below 0"),
-        (t.lists_tie, "met: two lists with one score"),
-        (t.divisor_zero, "met: d zero"),
-        (t.rows_equal, "met: n zero"),
-        (t.squish_empty, "met: squish and the empty chain"),
-        (t.fpenalty_used, "met: fpenalty taken off"),
-        (t.gpenalty_used, "met: gpenalty taken off"),
-        (t.one_to_one_tie, "met: one-to-one scores tie"),
-        (t.ends_overlap, "met: a chain whose ends overlap"),
+        (met.signs_differ, "met: signs differ"),
+        (met.sizesim_below, "met: sizesim below"),
+        (met.seqsim_below, "met: seqsim below"),
+        (met.sizesim_at_threshold, "met: sizesim at its threshold"),
+        (met.seqsim_at_threshold, "met: seqsim at its threshold"),
+        (met.score_exactly_zero, "met: a score of exactly 0"),
+        (met.score_below_zero, "met: a score below 0"),
+        (met.lists_tie, "met: two lists with one score"),
+        (met.d_zero, "met: d zero"),
+        (met.n_zero, "met: n zero"),
+        (met.empty_under_squish, "met: squish and the empty chain"),
+        (met.fpenalty_used, "met: fpenalty taken off"),
+        (met.gpenalty_used, "met: gpenalty taken off"),
+        (met.nodes_tie, "met: one-to-one scores tie"),
+        (met.ends_overlap, "met: a chain whose ends overlap"),
     ];
-    for (is, kind) in seen {
-        if is {
-            add(counts, kind);
+    add_seen(counts, seen);
+}
+
+/// All that a judged call shows.
+pub fn of_judged(counts: &mut Counts, call: &Call, judged: &Judged, met: &Met) {
+    of_answer(counts, judged);
+    if judged.answer.refusal == 0 {
+        of_call(counts, call);
+        of_met(counts, met);
+    }
+}
+
+/// All that a judged input of the program shows; it is a job unless the form is at fault.
+pub fn of_input(counts: &mut Counts, job: Option<&Job>, judged: &Judged, met: &Met) {
+    match job {
+        Some(job) if judged.answer.refusal == 0 => {
+            of_judged(counts, &Call::of_job(job), judged, met);
+            let variants = job.variants.iter().map(|v| v.letters.as_slice());
+            of_letters(counts, job.settings.k, variants.chain(job.parts.iter().map(|p| p.letters.as_slice())));
         }
+        _ => of_answer(counts, judged),
     }
 }

@@ -5,9 +5,10 @@
 //! - `rust`: the answer by kanpig's Rust, unchanged or ordered.
 //! - `answer`: an answer and its seven lines.
 //! - `program`: what the program must print for given bytes.
-//! - `document`: document 01 written down once more, independent of the Rust, with faults that can be planted in it.
+//! - `rules`: document 01's sentences, each a rule; `mistakes`: the same with one rule misread, planted to be found.
+//! - `document`: document 01 written down once more, independent of the Rust; `met`: what it met on its way.
 //! - `library`: the library of this project, linked.
-//! - `generate`, `exhaust`: the jobs that are compared.
+//! - `generate`, `exhaust`: the jobs that are compared; `random`: the numbers they are made from.
 //! - `kinds`: what a job reached, to be counted.
 //! - `shrink`: the smallest job that still shows a difference; `describe`: a job in words.
 pub mod answer;
@@ -19,6 +20,10 @@ pub mod generate;
 pub mod job;
 pub mod kinds;
 pub mod library;
+pub mod met;
+pub mod mistakes;
 pub mod program;
+pub mod random;
+pub mod rules;
 pub mod rust;
 pub mod shrink;

@@ -1,8 +1,8 @@
-//! The library, linked as an archive (`rt staticlib capi`) where the feature `linked` is on.
+//! The library, linked as an archive (`tools/library`) where the feature `linked` is on.
 use crate::answer::Answer;
 use crate::call::Call;
-use crate::generate::Random;
 use crate::kinds::Counts;
+use crate::random::Random;
 
 pub struct Said {
     pub answer: Answer,
@@ -28,23 +28,23 @@ pub use linked::{answer, smaller_call};
 mod linked {
     use super::*;
     use crate::answer::Target;
+    use crate::call::magnitudes;
+    use crate::job::Settings;
+    use crate::rules::DOCUMENT;
     use crate::{generate, kinds, rust};
-    use unchanged::kplib::{metrics, seq_to_kmer};
+    use unchanged::kplib::metrics;
 
     extern "C" {
         fn nd_apply_haplotype(
-            k: u8, squish: bool, one_to_one: bool, full: bool,
-            maxpaths: u32, maxnodes: u32, fnmax: u32, pileupmax: u32, minkfreq: u32,
-            sizesim: f32, seqsim: f32, fpenalty: f32, gpenalty: f32,
+            settings: *const [u32; 13],
             starts: *const u64, starts_len: usize, ends: *const u64, ends_len: usize,
             sizes: *const i32, sizes_len: usize, features: *const i32, features_len: usize,
             part_sizes: *const i32, part_sizes_len: usize, part_features: *const i32, part_features_len: usize,
-            links: *mut u32, links_len: usize, keys: *mut u64, keys_len: usize,
-            rows: *mut u32, rows_len: usize,
+            links: *mut u32, links_len: usize, keys: *mut u64, keys_len: usize, rows: *mut u32, rows_len: usize,
             report: *mut [u32; 7],
         ) -> u32;
         fn nd_count_chains(starts: *const u64, starts_len: usize, ends: *const u64, ends_len: usize, full: bool, cap: u32, count: *mut u32) -> u32;
-        fn nd_seq_to_kmer(seq: *const u8, seq_len: usize, k: u8, negative: bool, row: *mut i32, row_len: usize) -> u32;
+        fn nd_seq_to_kmer(letters: *const u8, letters_len: usize, k: u8, negative: bool, row: *mut i32, row_len: usize) -> u32;
         fn nd_seqsim(a: *const i32, a_len: usize, b: *const i32, b_len: usize, minkfreq: u32, place: *mut f32) -> u32;
         fn nd_sizesim(a: u64, b: u64, place: *mut f32) -> u32;
     }
@@ -52,9 +52,15 @@ mod linked {
     const MARK: u32 = 0xdead_0001;
     const MARK_KEY: u64 = 0xdead_0002_0000_0003;
 
+    /// The settings as the archive takes them: flags as 0 and 1, floats by their bits.
+    fn words(s: &Settings) -> [u32; 13] {
+        let [sizesim, seqsim, fpenalty, gpenalty] = [s.sizesim, s.seqsim, s.fpenalty, s.gpenalty].map(f32::to_bits);
+        let [squish, one_to_one, full] = [s.squish, s.one_to_one, s.full].map(u32::from);
+        [s.k.into(), squish, one_to_one, full, s.maxpaths, s.maxnodes, s.fnmax, s.pileupmax, s.minkfreq, sizesim, seqsim, fpenalty, gpenalty]
+    }
+
     /// The buffers hold marks before the call, so that what was left alone is seen.
     pub fn answer(call: &Call) -> Result<Said, String> {
-        let s = &call.settings;
         let mut links = vec![MARK; call.queue_room];
         let mut keys = vec![MARK_KEY; call.queue_room + 1];
         let mut rows = vec![MARK; call.answer_room];
@@ -62,14 +68,11 @@ mod linked {
         // SAFETY: every pointer comes with its slice's length, and no two overlap.
         let refusal = unsafe {
             nd_apply_haplotype(
-                s.k, s.squish, s.one_to_one, s.full,
-                s.maxpaths, s.maxnodes, s.fnmax, s.pileupmax, s.minkfreq,
-                s.sizesim, s.seqsim, s.fpenalty, s.gpenalty,
+                &words(&call.settings),
                 call.starts.as_ptr(), call.starts.len(), call.ends.as_ptr(), call.ends.len(),
                 call.sizes.as_ptr(), call.sizes.len(), call.features.as_ptr(), call.features.len(),
                 call.part_sizes.as_ptr(), call.part_sizes.len(), call.part_features.as_ptr(), call.part_features.len(),
-                links.as_mut_ptr(), links.len(), keys.as_mut_ptr(), keys.len(),
-                rows.as_mut_ptr(), rows.len(),
+                links.as_mut_ptr(), links.len(), keys.as_mut_ptr(), keys.len(), rows.as_mut_ptr(), rows.len(),
                 &mut report,
             )
         };
@@ -109,16 +112,13 @@ mod linked {
     }
 
     /// The refusals of the chain count: the cap, then the table's bounds.
-    fn bounds_refusal(starts: &[u64], ends: &[u64], cap: u32) -> u32 {
-        match starts.len() {
-            _ if cap > 4_096 => 3,
-            0 => 4,
-            65.. => 5,
-            v if ends.len() != v => 6,
-            _ if starts.iter().zip(ends).any(|(start, end)| start > end) => 7,
-            _ if starts.windows(2).any(|pair| pair[1] < pair[0]) => 8,
-            _ => 0,
-        }
+    fn bounds_refusal(table: &Call, cap: u32) -> u32 {
+        let holds = |&number: &u32| match number {
+            3 => cap > 4_096,
+            6 => table.ends.len() != table.starts.len(),
+            _ => table.is_refused_by(&DOCUMENT, number),
+        };
+        (3..=8).find(holds).unwrap_or(0)
     }
 
     fn chain_count(r: &mut Random, counts: &mut Counts) -> Result<(), String> {
@@ -135,8 +135,8 @@ mod linked {
             4 => (starts, ends) = ((0..65).collect(), (0..65).collect()),
             _ => {}
         }
-        let must = bounds_refusal(&starts, &ends, cap);
         let table = Call { starts: starts.clone(), ends: ends.clone(), ..call.clone() };
+        let must = bounds_refusal(&table, cap);
         let chains = if must == 0 { rust::chains(&table, cap.into()) as u32 } else { 0 };
         let mut count = u32::MAX;
         // SAFETY: both pointers come with their lengths.
@@ -169,7 +169,7 @@ mod linked {
             _ => 0,
         };
         let counted: Vec<i32> = match must {
-            0 => seq_to_kmer(&letters, k, negative).iter().map(|&x| x as i32).collect(),
+            0 => rust::features(k, &letters, negative),
             _ => vec![77; room],
         };
         kinds::add(counts, format!("counter: refusal {must}"));
@@ -187,7 +187,7 @@ mod linked {
         let b = if r.chance(20) { a.clone() } else { b };
         let b = if r.chance(5) { [b, vec![0]].concat() } else { b };
         let minkfreq = r.pick(&[0u32, 1, 2, 3, 200, 16_777_216, 16_777_217]);
-        let heavy = |row: &[i32]| row.iter().map(|x| u64::from(x.unsigned_abs())).sum::<u64>() > 8_388_608;
+        let heavy = |row: &[i32]| magnitudes(row) > 8_388_608;
         let must = if minkfreq > 16_777_216 {
             3
         } else if a.len() != b.len() {
@@ -197,8 +197,7 @@ mod linked {
         } else {
             0
         };
-        let floats = |row: &[i32]| -> Vec<f32> { row.iter().map(|&x| x as f32).collect() };
-        let like = if must == 0 { metrics::seqsim(&floats(&a), &floats(&b), minkfreq as f32) } else { 0.0 };
+        let like = if must == 0 { metrics::seqsim(&rust::floats(&a), &rust::floats(&b), minkfreq as f32) } else { 0.0 };
         let mut place = f32::NAN;
         // SAFETY: both pointers come with their lengths.
         let said = unsafe { nd_seqsim(a.as_ptr(), a.len(), b.as_ptr(), b.len(), minkfreq, &mut place) };

@@ -1,6 +1,7 @@
 //! The answer by kanpig's Rust.
 use crate::answer::{Answer, Target};
-use crate::call::{searches, Call};
+use crate::call::Call;
+use crate::rules::DOCUMENT;
 
 /// Whose word an answer is.
 #[derive(Clone, Copy, Debug, PartialEq, Eq)]
@@ -37,6 +38,16 @@ impl Judged {
     }
 }
 
+/// A row as the Rust takes it.
+pub fn floats(row: &[i32]) -> Vec<f32> {
+    row.iter().map(|&x| x as f32).collect()
+}
+
+/// A row by the Rust's own counter.
+pub fn features(k: u8, letters: &[u8], negative: bool) -> Vec<i32> {
+    unchanged::kplib::seq_to_kmer(letters, k, negative).into_iter().map(|count| count as i32).collect()
+}
+
 macro_rules! build {
     ($module:ident, $build:ident) => {
         /// The call put to one build: rows, target and the three floats.
@@ -64,12 +75,8 @@ macro_rules! build {
                 }
             }
 
-            fn floats(row: &[i32]) -> Vec<f32> {
-                row.iter().map(|&x| x as f32).collect()
-            }
-
             pub fn table(call: &Call) -> Variants {
-                let e = 1usize << (2 * call.settings.k);
+                let e = call.settings.entries();
                 let records = (0..call.starts.len())
                     .map(|r| RecordBuf {
                         start: call.starts[r],
@@ -84,7 +91,7 @@ macro_rules! build {
             }
 
             pub fn haplotype(call: &Call) -> Haplotype {
-                let e = 1usize << (2 * call.settings.k);
+                let e = call.settings.entries();
                 let meta = HaplotypeMeta::new_blank(1);
                 let mut whole = Haplotype::blank(call.settings.k, meta.clone());
                 for (part, &size) in call.part_sizes.iter().enumerate() {
@@ -200,8 +207,8 @@ fn search(call: &Call) -> Judged {
 
 /// The judge's answer to a call: document 01's refusals, else the Rust's.
 pub fn judged(call: &Call) -> Judged {
-    match call.refusal() {
-        0 if searches(&call.settings, call.starts.len()) => search(call),
+    match call.refusal(&DOCUMENT) {
+        0 if call.searches(&DOCUMENT) => search(call),
         0 => one_to_one(call),
         number => Judged::refused(number),
     }

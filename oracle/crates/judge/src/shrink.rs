@@ -1,5 +1,6 @@
 //! The smallest job found that still shows something: pieces are left out or made plain as long as it still does.
 use crate::job::{self, Job};
+use crate::rules::DOCUMENT;
 
 fn smaller(job: &Job) -> Vec<Job> {
     let mut all = vec![];
@@ -97,7 +98,7 @@ pub fn job(mut job: Job, shows: impl Fn(&Job) -> bool) -> Job {
 
 /// Bytes that are a job are made smaller as one; others by leaving bytes out.
 pub fn bytes(bytes: Vec<u8>, shows: impl Fn(&[u8]) -> bool) -> Vec<u8> {
-    if let Ok(good) = job::read(&bytes) {
+    if let Ok(good) = job::read(&DOCUMENT, &bytes) {
         return job(good, |one| shows(&one.bytes())).bytes();
     }
     let mut bytes = bytes;

@@ -16,7 +16,7 @@ table s = tableOf (now (s .args .starts)) (now (s .args .ends)) (now (s .args .s
 abbrev parts : tie.Start → Parts
 parts s = partsOf (now (s .args .part-sizes)) (now (s .args .part-features))
 
-abbrev start : tie.After-queue-room → tie.Start
+abbrev start : tie.After-link-room → tie.Start
 start c = c .before .before .before .before
 
 abbrev rooms : tie.After-apply-haplotype → tie.After-key-room
@@ -25,8 +25,8 @@ rooms c = c .before .before .before .before
 abbrev found : tie.After-put-answer → tie.After-apply-haplotype
 found c = c .before .before .before .before .before .before
 
-queue-room-requires : tie.Need-queue-room-requires
-queue-room-requires c κs = search needs
+link-room-requires : tie.Need-link-room-requires
+link-room-requires c κs = search needs
 
 key-room-requires : tie.Need-key-room-requires
 key-room-requires c κs = search needs
@@ -58,12 +58,12 @@ returns c =
     let a = found w .apply-haplotype in
     let k = rooms (found w) in let q = k .before in let s = start q in
     let l : length (a .last .1 .1 .1 .1 .1 .1 .1 .1 .1 .0) ≡ 16 = omega arith in
-    answer-printed (s .args .s) (table s) (parts s) (q .queue-room .result) (k .key-room .result) (replicate 16 0) (q .queue-room .ensures)
+    answer-printed (s .args .s) (table s) (parts s) (q .link-room .result) (k .key-room .result) (replicate 16 0) (q .link-room .ensures)
     (k .key-room .ensures) refl (a .result) (a .ensures .0) (a .last .1 .1 .1 .1 .1 .1 .1 .1 .1 .0) (a .ensures .1 .0) l (w .put-answer .ensures)
 
 pub search-spec : {M : Type 1} → statement M
 search-spec =
     tie.close
-    (tie.spec queue-room-requires key-room-requires slice-aggregate-apply-haplotype slice-aggregate-apply-haplotype-2
+    (tie.spec link-room-requires key-room-requires slice-aggregate-apply-haplotype slice-aggregate-apply-haplotype-2
     slice-aggregate-apply-haplotype-3 apply-haplotype-requires slice-aggregate-put-answer put-answer-requires same-length
     returns)

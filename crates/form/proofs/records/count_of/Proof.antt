@@ -12,7 +12,7 @@ shape-of-requires c κs = search needs
 returns : tie.Need-returns
 returns c =
     let s = c .before .before in let a = s .before .before .args in
-    count-none _ (a .k) (now (a .b)) (s .shape-of .ensures) (c .if1 .taken)
+    count-none _ (a .kind) (now (a .b)) (s .shape-of .ensures) (c .if1 .taken)
 
 u32-at-requires : tie.Need-u32-at-requires
 u32-at-requires c κs = search needs
@@ -20,7 +20,7 @@ u32-at-requires c κs = search needs
 returns-2 : tie.Need-returns-2
 returns-2 c =
     let i = c .before in let s = i .before .before in let a = s .before .before .args in
-    c .u32-at .ensures ∙ count-some _ (a .k) (now (a .b)) (s .shape-of .ensures) (i .if1 .left)
+    c .u32-at .ensures ∙ count-some _ (a .kind) (now (a .b)) (s .shape-of .ensures) (i .if1 .left)
 
 pub count-of-spec : {M : Type 1} → statement M
 count-of-spec = tie.close (tie.spec shape-of-requires returns u32-at-requires returns-2)

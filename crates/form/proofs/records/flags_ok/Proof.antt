@@ -10,12 +10,12 @@ shape-of-requires : tie.Need-shape-of-requires
 shape-of-requires c κs = search needs
 
 are-flags-requires : tie.Need-are-flags-requires
-are-flags-requires c κs = let a = c .before .before .args in flags-there _ (a .k) (now (a .b)) (c .shape-of .ensures)
+are-flags-requires c κs = let a = c .before .before .args in flags-there _ (a .kind) (now (a .b)) (c .shape-of .ensures)
 
 returns : tie.Need-returns
 returns c =
     let s = c .before in let a = s .before .before .args in
-    c .are-flags .ensures ∙ flags-are _ (a .k) (now (a .b)) (s .shape-of .ensures)
+    c .are-flags .ensures ∙ flags-are _ (a .kind) (now (a .b)) (s .shape-of .ensures)
 
 pub flags-ok-spec : {M : Type 1} → statement M
 flags-ok-spec = tie.close (tie.spec shape-of-requires are-flags-requires returns)

@@ -1,28 +1,72 @@
--- Each branch is the law of its own case.
-use Rattle.form.proofs.FormLaws.{place-letters, place-first, place-variant, place-part, place-end}
+-- Each arm is its kind's own clause.
+use borrow.Author.Needs.{needs}
+use mathlib.Core.Path.{ap, sym, _∙_}
+use Rattle.form.specs.declared.records.Kind.{Kind}
+use Rattle.form.specs.Form.{inPlace}
+use Rattle.form.proofs.FormLaws.{none-owed, some-owed}
 use Rattle.form.proofs.records.in_place.Statement.{statement}
 use Rattle.form.proofs.records.in_place.Tie as tie
 
+enum-told : tie.Need-enum-told
+enum-told c = search needs
+
+enum-told-2 : tie.Need-enum-told-2
+enum-told-2 c = search needs
+
+enum-told-3 : tie.Need-enum-told-3
+enum-told-3 c = search needs
+
+enum-told-4 : tie.Need-enum-told-4
+enum-told-4 c = search needs
+
+enum-told-5 : tie.Need-enum-told-5
+enum-told-5 c = search needs
+
+enum-told-6 : tie.Need-enum-told-6
+enum-told-6 c = search needs
+
 returns : tie.Need-returns
-returns c = place-letters _ _ (c .if1 .taken)
+unfolding inPlace
+returns c = let t = c .before in let st = t .before .before .args .st in ap (λ (k : Kind). inPlace st k) (sym (t .enum-told .given .1))
 
 returns-2 : tie.Need-returns-2
-returns-2 c = let x = c .before .before in place-first _ _ (x .if1 .left) (c .if2 .taken)
+unfolding inPlace
+returns-2 c = let i = c .before in let t = i .before .before in let st = t .before .before .args .st in none-owed _ (i .if1 .taken) ∙ ap (λ (k : Kind). inPlace st k) (sym (t .enum-told2 .given .1))
 
 returns-3 : tie.Need-returns-3
-returns-3 c =
-    let z = c .before in let x = z .before .before .before in
-    place-variant _ _ (x .if1 .left) (c .before .before .if2 .left) (z .if3 .taken)
+unfolding inPlace
+returns-3 c = let t = c .before .before in let st = t .before .before .args .st in some-owed _ _ (c .if1 .left) ∙ ap (λ (k : Kind). inPlace st k) (sym (t .enum-told2 .given .1))
 
 returns-4 : tie.Need-returns-4
-returns-4 c =
-    let z = c .before in let x = z .before .before .before in
-    place-part _ _ (x .if1 .left) (c .before .before .if2 .left) (z .if3 .left) (c .if4 .taken)
+unfolding inPlace
+returns-4 c = let i = c .before in let t = i .before .before in let st = t .before .before .args .st in none-owed _ (i .if2 .taken) ∙ ap (λ (k : Kind). inPlace st k) (sym (t .enum-told3 .given .1))
 
 returns-5 : tie.Need-returns-5
-returns-5 c =
-    let z = c .before in let x = z .before .before .before in
-    place-end _ _ (x .if1 .left) (c .before .before .if2 .left) (z .if3 .left) (c .if4 .left)
+unfolding inPlace
+returns-5 c = let t = c .before .before in let st = t .before .before .args .st in some-owed _ _ (c .if2 .left) ∙ ap (λ (k : Kind). inPlace st k) (sym (t .enum-told3 .given .1))
+
+returns-6 : tie.Need-returns-6
+unfolding inPlace
+returns-6 c = let i = c .before in let t = i .before .before in let st = t .before .before .args .st in none-owed _ (i .if3 .taken) ∙ ap (λ (k : Kind). inPlace st k) (sym (t .enum-told4 .given .1))
+
+returns-7 : tie.Need-returns-7
+unfolding inPlace
+returns-7 c = let t = c .before .before in let st = t .before .before .args .st in some-owed _ _ (c .if3 .left) ∙ ap (λ (k : Kind). inPlace st k) (sym (t .enum-told4 .given .1))
+
+returns-8 : tie.Need-returns-8
+unfolding inPlace
+returns-8 c = let i = c .before in let t = i .before .before in let st = t .before .before .args .st in none-owed _ (i .if4 .taken) ∙ ap (λ (k : Kind). inPlace st k) (sym (t .enum-told5 .given .1))
+
+returns-9 : tie.Need-returns-9
+unfolding inPlace
+returns-9 c = let t = c .before .before in let st = t .before .before .args .st in some-owed _ _ (c .if4 .left) ∙ ap (λ (k : Kind). inPlace st k) (sym (t .enum-told5 .given .1))
+
+returns-10 : tie.Need-returns-10
+unfolding inPlace
+returns-10 c = let st = c .before .before .args .st in ap (λ (k : Kind). inPlace st k) (sym (c .enum-told6 .given .1))
 
 pub in-place-spec : {M : Type 1} → statement M
-in-place-spec = tie.close (tie.spec returns returns-2 returns-3 returns-4 returns-5)
+in-place-spec =
+    tie.close
+    (tie.spec enum-told enum-told-2 enum-told-3 enum-told-4 enum-told-5 enum-told-6
+    returns returns-2 returns-3 returns-4 returns-5 returns-6 returns-7 returns-8 returns-9 returns-10)

@@ -18,16 +18,16 @@ sub-partial : tie.Need-sub-partial
 sub-partial c = search needs
 
 slice-aggregate-list-score : tie.Need-slice-aggregate-list-score
-slice-aggregate-list-score c = sym (length-take-le (begin c .args .plan .width) (begin c .args .rows .now) (omega (arith, begin c .pre .rows-are)))
+slice-aggregate-list-score c = sym (length-take-le (begin c .args .plan .width) (begin c .args .scratch .now) (omega (arith, begin c .pre .scratch-is)))
 
 mul-list-score : tie.Need-mul-list-score
 mul-list-score c = omega (arith, begin c .pre .short)
 
 sub-list-score : tie.Need-sub-list-score
-sub-list-score c = omega (arith, begin c .pre .rows-are)
+sub-list-score c = omega (arith, begin c .pre .scratch-is)
 
 part-list-score-start : tie.Need-part-list-score-start
-part-list-score-start c = omega (arith, begin c .pre .rows-are)
+part-list-score-start c = omega (arith, begin c .pre .scratch-is)
 
 part-list-score-end : tie.Need-part-list-score-end
 part-list-score-end c = search needs

@@ -1,6 +1,7 @@
 -- A cleared row, and the rows added to it.
 use borrow.Author.Needs.{needs}
 use lib.ListN.{length}
+use Rattle.kplib.specs.Sums.{zeros}
 use Rattle.kplib.proofs.RowSumLaws.{summable-at, cleared-sum, summed-is}
 use Rattle.kplib.proofs.pathscore.sum_features.Statement.{statement}
 use Rattle.kplib.proofs.pathscore.sum_features.Tie as tie
@@ -16,6 +17,7 @@ clear-row-requires : tie.Need-clear-row-requires
 clear-row-requires c κs = search needs
 
 add-rows-requires : tie.Need-add-rows-requires
+unfolding zeros
 add-rows-requires c κs =
     let z = cleared c in let s = begin z in let width = length (s .args .out .now) in
     (summable-at width _ (s .args .table .now) (s .args .rows .now) (z .clear-row .kept .0) (s .pre), cleared-sum width _ (z .clear-row .ensures))
@@ -24,6 +26,7 @@ same-length : tie.Need-same-length
 same-length c = search needs
 
 returns : tie.Need-returns
+unfolding zeros
 returns c =
     let r = c .before in let z = cleared (r .before) in let a = begin z .args in
     summed-is (length (a .out .now)) _ (a .table .now) _ _ (a .rows .now) (z .clear-row .ensures) (z .clear-row .kept .0) (r .add-rows .ensures)

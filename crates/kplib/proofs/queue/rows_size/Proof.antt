@@ -1,11 +1,12 @@
 -- The sum so far, with the rest of the rows added to it, is the whole sum.
-use Prim.Native.Nat.{_-_, _≤_}
+use Prim.Native.Nat.{_-_, _≤_, _<_}
 use native.Mathlib.Omega.{arith}
-use lib.ListN.{length}
+use lib.ListN.{length, getD}
 use denote.Ref.{now}
 use mir.Syntax.{w32}
 use mir.Val.{toZ}
-use Rattle.kplib.proofs.ExtensionLaws.{below-at, Summing, summing-begin, summing-fits, summing-on, summing-done}
+use Rattle.paths.proofs.PickLaws.{all-at}
+use Rattle.kplib.proofs.SizeSumLaws.{Summing, summing-begin, summing-fits, summing-on, summing-done}
 use Rattle.kplib.proofs.queue.rows_size.Statement.{statement}
 use Rattle.kplib.proofs.queue.rows_size.Tie as tie
 
@@ -22,6 +23,10 @@ turn c = c .before .before
 abbrev begun : tie.At-loop Inv-loop μ-loop → tie.Start Inv-loop μ-loop
 begun l = l .before
 
+-- a turn's row is one of the table's
+row-in : (c : tie.After-shared-slice-known Inv-loop μ-loop) → getD (now (begun (turn c) .args .rows)) (turn c .loop .i) 0 < length (now (begun (turn c) .args .sizes))
+row-in c = all-at (λ r. r < length (now (begun (turn c) .args .sizes))) 0 (now (begun (turn c) .args .rows)) (turn c .loop .i) (omega arith) (begun (turn c) .pre .within)
+
 loop-holds : tie.Need-loop-holds Inv-loop μ-loop
 loop-holds c = (omega arith, summing-begin (now (c .args .sizes)) (now (c .args .rows)))
 
@@ -35,10 +40,10 @@ cast-r : tie.Need-cast-r Inv-loop μ-loop
 cast-r c = record { fits = omega (arith, c .shared-slice-known .given (turn c .loop .i)) }
 
 mul-size : tie.Need-mul-size Inv-loop μ-loop
-mul-size c = record { fits = omega (arith, begun (turn c) .pre .sized .few, below-at (now (begun (turn c) .args .rows)) (turn c .loop .i) (omega arith) (begun (turn c) .pre .within)) }
+mul-size c = record { fits = omega (arith, begun (turn c) .pre .sized .few, row-in c) }
 
 shared-slice-copy-out-size : tie.Need-shared-slice-copy-out-size Inv-loop μ-loop
-shared-slice-copy-out-size c = below-at (now (begun (turn c) .args .rows)) (turn c .loop .i) (omega arith) (begun (turn c) .pre .within)
+shared-slice-copy-out-size c = row-in c
 
 add-size : tie.Need-add-size Inv-loop μ-loop
 add-size c = summing-fits (begun (turn (c .before)) .pre) (turn (c .before) .loop .inv .1) (omega arith)

@@ -1,4 +1,4 @@
--- The chain read back is summed and scored where it stands, at the end of the scratch.
+-- The chain read back is summed and scored where it stands, at the end of the 64 rows.
 use mathlib.Core.Path.{_∙_}
 use native.Mathlib.Omega.{arith}
 use Rattle.metrics.proofs.Ints.{read-back}

@@ -1,4 +1,4 @@
--- The scratch is cut to the job's width.
+-- The whole haplotype's row is cut to the job's width.
 use mathlib.Core.Path.{refl, sym, _∙_}
 use Prim.Native.Nat.{_≤_}
 use native.Mathlib.Omega.{arith}
@@ -7,7 +7,7 @@ use borrow.Author.Needs.{needs}
 use Rattle.kplib.proofs.traverse.alone.Statement.{statement}
 use Rattle.kplib.proofs.traverse.alone.Tie as tie
 
--- the width of a row, at the places where the scratch is cut to it
+-- the width of a row, at the places where the row is cut to it
 width-few : (c : tie.After-entries) → c .entries .result ≤ 4096
 width-few c = omega (arith, c .entries .ensures, c .before .pre .2 .rows .short)
 

@@ -8,7 +8,7 @@ use Rattle.kplib.proofs.traverse.answer_alone.Tie as tie
 
 -- the places at which a callee has returned
 abbrev begin : tie.After-alone → tie.Start
-begin c = c .before .before .before .before
+begin c = c .before .before .before
 
 abbrev matched : tie.After-place-row → tie.After-alone
 matched c = c .before .before .before
@@ -29,8 +29,7 @@ answer-with-requires : tie.Need-answer-with-requires
 answer-with-requires c κs =
     let m = matched (placed c) in
     let x = m .alone .result in
-    let h = begin m .pre .0 in
-    (omega (arith, placed c .place-row .ensures .0, lone-few (x .scored .target) (x .row .0)), omega (arith, h .sized .few, h .sizes-are))
+    (omega (arith, placed c .place-row .ensures .0, lone-few (x .scored .target) (x .row .0)), omega (arith, begin m .pre .1 .0))
 
 same-length : tie.Need-same-length
 same-length c = search needs

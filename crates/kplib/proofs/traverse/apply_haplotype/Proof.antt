@@ -1,6 +1,8 @@
 -- A refusal is answered at once with nothing written; else the job's mode says which answer it is.
 use mathlib.Core.Path.{_≡_, refl, sym, _∙_}
 use mathlib.Core.Bool.{true, false}
+use mathlib.Core.List.{[]}
+use native.Mathlib.Omega.{arith}
 use lib.ListN.{length}
 use denote.Ref.{now}
 use Rattle.params.specs.Numbers.{Call, firstFault}
@@ -8,6 +10,7 @@ use Rattle.params.proofs.CheckedLaws.{accepted, answer-suffices}
 use Rattle.kplib.specs.Answer.{inSearchMode}
 use Rattle.kplib.specs.Promises.{callLent}
 use Rattle.kplib.proofs.FoundLaws.{refused-answers, searched-accepted, alone-accepted, did-search, startable}
+use Rattle.kplib.proofs.OneToOneLaws.{tables-of}
 use borrow.Author.Needs.{needs}
 use Rattle.kplib.proofs.traverse.apply_haplotype.Statement.{statement}
 use Rattle.kplib.proofs.traverse.apply_haplotype.Tie as tie
@@ -22,7 +25,7 @@ abbrev begin : tie.After-call-fault → tie.Start
 begin c = c .before .before .before .before .before .before .before
 
 found : (c : tie.After-call-fault) → c .call-fault .result ≡ firstFault (call (begin c))
-found c = rw (c .before .smaller .ensures) at (c .call-fault .ensures)
+found c = rw (c .before .queue-room .ensures) at (c .call-fault .ensures)
 
 -- the call is accepted
 abbrev start : tie.Else1 → tie.Start
@@ -47,8 +50,8 @@ answered c = c .before .before .before .before .before .before
 abbrev answered-alone : tie.After-slice-known7 → tie.After-answer-alone
 answered-alone c = c .before .before
 
-smaller-requires : tie.Need-smaller-requires
-smaller-requires c κs = search needs
+queue-room-requires : tie.Need-queue-room-requires
+queue-room-requires c κs = search needs
 
 call-fault-requires : tie.Need-call-fault-requires
 call-fault-requires c κs = search needs
@@ -94,10 +97,11 @@ returns-2 c =
 answer-alone-requires : tie.Need-answer-alone-requires
 answer-alone-requires c κs =
     let b = c .before .before .before in
-    (accepted (call (start b)) (passed b), answer-suffices (call (start b)) (passed b))
+    let h = accepted (call (start b)) (passed b) in
+    ((h .k-low, h .k-high, tables-of [] [] h), (omega (arith, h .sized .few, h .sizes-are), omega (arith, h .some, answer-suffices (call (start b)) (passed b))))
 
 same-length-4 : tie.Need-same-length-4
-same-length-4 c = answered-alone c .answer-alone .kept .1 .1 .1 .1 .1 .1 .1 .0
+same-length-4 c = answered-alone c .answer-alone .kept .1 .1 .1 .1 .1 .1 .0
 
 returns-3 : tie.Need-returns-3
 returns-3 c =
@@ -110,7 +114,7 @@ pub apply-haplotype-spec : {M : Type 1} → statement M
 apply-haplotype-spec =
     tie.close
     (tie.spec
-    smaller-requires
+    queue-room-requires
     call-fault-requires
     nothing-requires
     answer-with-requires

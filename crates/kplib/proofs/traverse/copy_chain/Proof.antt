@@ -1,4 +1,4 @@
--- What stands at the scratch's end is the chain, and it is written as it stands.
+-- What stands at the end of the 64 rows is the chain, and it is written as it stands.
 use mathlib.Core.Path.{ap}
 use native.Mathlib.Omega.{arith}
 use lib.ListN.{length}

@@ -2,14 +2,15 @@
 -- letters than its body has bytes, so all three stay below the position.
 use native.Mathlib.Omega.{arith}
 use denote.Ref.{now}
-use Prim.Native.Nat.{ℕ, _≤_, _-_, zero-le}
+use Prim.Native.Nat.{ℕ, _≤_, _-_, _+_, zero-le}
 use borrow.Author.Needs.{needs}
 use mathlib.Core.Path.{_≡_, refl, sym, _∙_}
 use mathlib.Core.List.{List}
-use lib.ListN.{length, drop, getD, set, length-set}
+use lib.ListN.{length, drop, set, length-set}
 use Rattle.reader.proofs.FillLaws.{put-more, put-done, stays}
 use Rattle.reader.proofs.WalkLaws.{walk-more, walk-done}
-use Rattle.form.proofs.GatherLaws.{short-body}
+use Rattle.form.specs.Form.{bodyLen}
+use Rattle.form.proofs.FormLaws.{record-next}
 use Rattle.reader.specs.Steps.{Rows, rows, putRow, PartRows, partRows, putPart, stores}
 use Rattle.form.specs.Job.{Variant, Part, variantHere, partHere, gather}
 use Rattle.form.specs.Steps.{lettersWalk}
@@ -33,6 +34,9 @@ start c = c .before .before .before .before .before .before .before .before .bef
 
 abbrev inside : tie.After-fill-variant Inv-loop μ-loop → tie.In-loop Inv-loop μ-loop
 inside c = c .before .before .before .before .before .before .before .before
+
+abbrev read : tie.After-fill-variant Inv-loop μ-loop → tie.After-record-at Inv-loop μ-loop
+read c = c .before .before .before .before .before .before .before
 
 abbrev asked-parts : tie.After-fill-part-arg3 Inv-loop μ-loop → tie.After-fill-variant Inv-loop μ-loop
 asked-parts c = c .before .before .before .before .before .before .before .before .before .before .before .before
@@ -61,8 +65,8 @@ held-parts l = partRows (l .loop .part-sizes) (l .loop .part-negatives) (l .loop
 loop-holds : tie.Need-loop-holds Inv-loop μ-loop
 loop-holds c = (refl, (refl, (refl, (zero-le, (zero-le, zero-le)))))
 
-shared-slice-read-k : tie.Need-shared-slice-read-k Inv-loop μ-loop
-shared-slice-read-k c = omega arith
+record-at-requires : tie.Need-record-at-requires Inv-loop μ-loop
+record-at-requires c κs = search needs
 
 add-b : tie.Need-add-b Inv-loop μ-loop
 add-b c = omega arith
@@ -92,33 +96,26 @@ fill-letters-requires c κs =
 letters-owed-requires : tie.Need-letters-owed-requires Inv-loop μ-loop
 letters-owed-requires c κs = search needs
 
-add-at : tie.Need-add-at Inv-loop μ-loop
-add-at c = let i = inside (filled c) in omega (arith, i .loop-test .taken, start (i .before) .good .0)
-
-body-len-requires : tie.Need-body-len-requires Inv-loop μ-loop
-body-len-requires c κs = search needs
-
-add-at-2 : tie.Need-add-at-2 Inv-loop μ-loop
-add-at-2 c =
-    let i = inside (filled (c .before)) in let l = i .before in let s = start l in
-    omega (arith, short-body (getD (now (s .args .s)) (l .loop .at) 0), c .body-len .ensures, i .loop-test .taken, s .good .0)
+-- the next record stands behind this one
+on : (c : tie.After-letters-owed Inv-loop μ-loop) → read (filled c) .record-at .result .next ≡ inside (filled c) .before .loop .at + 1 + bodyLen (read (filled c) .record-at .result .kind)
+on c = let k = read (filled c) in let i = k .before in record-next (now (start (i .before) .args .s)) _ (i .loop-test .taken) _ (k .record-at .ensures)
 
 loop-less : tie.Need-loop-less Inv-loop μ-loop
-loop-less c = omega (arith, inside (filled (c .before)) .loop-test .taken)
+loop-less c = omega (arith, inside (filled c) .loop-test .taken, on c)
 
 loop-again : tie.Need-loop-again Inv-loop μ-loop
 loop-again c =
-    let o = c .before in let t = letters o in let q = parts t in let f = variants q in let i = inside f in let l = i .before in
-    let s = now (start l .args .s) in let n = c .body-len .ensures in let below = l .loop .inv .1 .1 .1 in (
-      put-more putRow variantHere s (l .loop .at) (i .loop-test .taken) (held l) _ _ _ _ n (f .fill-variant .ensures .is) (f .fill-variant .ensures .next) ∙ l .loop .inv .0,
+    let t = letters c in let q = parts t in let f = variants q in let k = read f in let i = k .before in let l = i .before in
+    let s = now (start l .args .s) in let is = k .record-at .ensures in let below = l .loop .inv .1 .1 .1 in (
+      put-more putRow variantHere s (l .loop .at) (i .loop-test .taken) _ is (held l) _ _ _ (f .fill-variant .ensures .is) (f .fill-variant .ensures .next) ∙ l .loop .inv .0,
       (
-        put-more putPart partHere s (l .loop .at) (i .loop-test .taken) (held-parts l) _ _ _ _ n (q .fill-part .ensures .is) (q .fill-part .ensures .next) ∙ l .loop .inv .1 .0,
+        put-more putPart partHere s (l .loop .at) (i .loop-test .taken) _ is (held-parts l) _ _ _ (q .fill-part .ensures .is) (q .fill-part .ensures .next) ∙ l .loop .inv .1 .0,
         (
-          walk-more s (l .loop .at) (i .loop-test .taken) (l .loop .letters) _ _ _ (l .loop .left) _ _ n (o .letters-owed .ensures) (t .fill-letters .ensures .1 .0) (t .fill-letters .ensures .0)
+          walk-more s (l .loop .at) (i .loop-test .taken) _ is (l .loop .letters) _ _ _ (l .loop .left) _ (c .letters-owed .ensures) (t .fill-letters .ensures .1 .0) (t .fill-letters .ensures .0)
               ∙ l .loop .inv .1 .1 .0,
           (
-            omega (arith, f .fill-variant .ensures .one, below .0),
-            (omega (arith, q .fill-part .ensures .one, below .1 .0), omega (arith, t .fill-letters .ensures .1 .1, n, below .1 .1)),
+            omega (arith, f .fill-variant .ensures .one, below .0, on c),
+            (omega (arith, q .fill-part .ensures .one, below .1 .0, on c), omega (arith, t .fill-letters .ensures .1 .1, on c, below .1 .1)),
           ),
         ),
       ),
@@ -176,6 +173,6 @@ returns c = (rows-done c, (parts-done c, letters-done c))
 pub fill-spec : {M : Type 1} → statement M
 fill-spec =
     tie.close
-    (tie.spec Inv-loop μ-loop loop-holds shared-slice-read-k add-b sub-b part-b-start part-b-end fill-variant-requires fill-part-requires
-    fill-letters-requires letters-owed-requires add-at body-len-requires add-at-2 loop-less loop-again same-length same-length-2 same-length-3
+    (tie.spec Inv-loop μ-loop loop-holds record-at-requires add-b sub-b part-b-start part-b-end fill-variant-requires fill-part-requires
+    fill-letters-requires letters-owed-requires loop-less loop-again same-length same-length-2 same-length-3
     same-length-4 same-length-5 same-length-6 same-length-7 same-length-8 same-length-9 returns)

@@ -1,7 +1,8 @@
 //! Where the unchanged Rust says something else than document 01, by class, each with the smallest input found:
 //! `differences [INPUTS]`.
 use judge::answer::Answer;
-use judge::generate::{input, Random};
+use judge::generate::input;
+use judge::random::Random;
 use judge::rust::{By, Judged};
 use judge::{describe, exhaust, program, shrink};
 

@@ -5,10 +5,14 @@
 //! mistake, so that the lists are small and every branch stands in them.
 use judge::answer::{Answer, Target};
 use judge::call::Call;
-use judge::document::{call_answer, call_of, program_answer, Fault, Trace, FAULTS};
-use judge::generate::{cost, disturb_job, input, Random, LIBRARY};
-use judge::job::{self, Job, Part, Settings, Variant};
+use judge::document::{call_answer, call_of, program_answer};
+use judge::generate::{cost, disturb_job, input, LIBRARY};
+use judge::job::{self, record_length, Job, Part, Settings, Variant};
 use judge::kinds::{self, Counts};
+use judge::met::Met;
+use judge::mistakes::MISTAKES;
+use judge::random::Random;
+use judge::rules::{Rules, DOCUMENT};
 use judge::{exhaust, generate, program, rust};
 use std::collections::{BTreeMap, BTreeSet};
 use std::path::Path;
@@ -56,10 +60,11 @@ fn example() -> Job {
 
 /// A job of exactly so many bytes.
 fn of_length(length: usize) -> Vec<u8> {
-    let left = length - 42;
+    let [end, settings, variant_record, part_record, letters_record] = [0x00, 0x01, 0x02, 0x03, 0x04].map(record_length);
+    let left = |v: usize, m: usize| length - end - settings - v * variant_record - m * part_record;
     let shapes = (1..=16).flat_map(|v| (0..=8).map(move |m| (v, m)));
-    let (v, m) = shapes.filter(|(v, m)| (left - 26 * v - 10 * m) % 17 == 0).min().expect("some shape fits");
-    let letters = vec![b'G'; 16 * ((left - 26 * v - 10 * m) / 17)];
+    let (v, m) = shapes.filter(|&(v, m)| left(v, m) % letters_record == 0).min().expect("some shape fits");
+    let letters = vec![b'G'; 16 * (left(v, m) / letters_record)];
     let mut job = example();
     job.variants = (0..v as u64).map(|i| variant(i, i, 1, b"")).collect();
     job.variants[0].letters = letters;
@@ -120,24 +125,19 @@ fn at_limits() -> Vec<Vec<u8>> {
     all
 }
 
+fn catches(differs: impl Fn(&Rules) -> bool) -> impl Iterator<Item = String> {
+    MISTAKES.iter().filter(move |mistake| differs(&mistake.rules)).map(|mistake| format!("catches: {}", mistake.words))
+}
+
 /// The kinds that an input shows and the mistakes that it catches.
 fn shown(bytes: &[u8]) -> BTreeSet<String> {
     let judged = program::judged(bytes);
-    let mut trace = Trace::default();
-    assert_eq!(program_answer(bytes, Fault::None, &mut trace), judged.answer);
+    let mut met = Met::default();
+    assert_eq!(program_answer(&DOCUMENT, bytes, &mut met), judged.answer);
     let mut counts = Counts::new();
-    kinds::of_answer(&mut counts, &judged);
-    if let (Ok(job), 0) = (job::read(bytes), judged.answer.refusal) {
-        kinds::of_call(&mut counts, &Call::of_job(&job));
-        let letters = job.variants.iter().map(|v| v.letters.as_slice());
-        kinds::of_letters(&mut counts, job.settings.k, letters.chain(job.parts.iter().map(|p| p.letters.as_slice())));
-        kinds::of_trace(&mut counts, &trace);
-    }
+    kinds::of_input(&mut counts, job::read(&DOCUMENT, bytes).as_ref().ok(), &judged, &met);
     let text = judged.answer.text();
-    let caught = FAULTS
-        .iter()
-        .filter(|(fault, _)| program_answer(bytes, *fault, &mut Trace::default()).text() != text)
-        .map(|(_, words)| format!("catches: {words}"));
+    let caught = catches(|rules| program_answer(rules, bytes, &mut Met::default()).text() != text);
     counts.into_keys().chain(caught).collect()
 }
 
@@ -214,17 +214,17 @@ impl Stored {
         self.changes.push((table, place as u32, value));
     }
 
-    /// The call with features counted by a mistaken reading of the letters.
-    fn with(&self, fault: Fault) -> Answer {
-        let mistaken = call_of(&self.job, fault);
+    /// The answer by other rules, which may read the letters otherwise too.
+    fn answer_by(&self, rules: &Rules) -> Answer {
+        let counted = call_of(rules, &self.job);
         let mut call = self.call.clone();
-        if fault != Fault::None && self.changes.is_empty() && call.features.len() == mistaken.features.len() {
-            call.features = mistaken.features;
+        if self.changes.is_empty() && call.features.len() == counted.features.len() {
+            call.features = counted.features;
         }
-        if fault != Fault::None && self.changes.is_empty() && call.part_features.len() == mistaken.part_features.len() {
-            call.part_features = mistaken.part_features;
+        if self.changes.is_empty() && call.part_features.len() == counted.part_features.len() {
+            call.part_features = counted.part_features;
         }
-        call_answer(&call, fault, &mut Trace::default())
+        call_answer(rules, &call, &mut Met::default())
     }
 
     fn record(&self) -> Vec<u8> {
@@ -288,18 +288,11 @@ fn words(answer: &Answer) -> String {
 
 fn shown_by_library(stored: &Stored) -> BTreeSet<String> {
     let judged = rust::judged(&stored.call);
-    let mut trace = Trace::default();
-    assert_eq!(call_answer(&stored.call, Fault::None, &mut trace), judged.answer);
+    let mut met = Met::default();
+    assert_eq!(call_answer(&DOCUMENT, &stored.call, &mut met), judged.answer);
     let mut counts = Counts::new();
-    kinds::of_answer(&mut counts, &judged);
-    if judged.answer.refusal == 0 {
-        kinds::of_call(&mut counts, &stored.call);
-        kinds::of_trace(&mut counts, &trace);
-    }
-    let caught = FAULTS
-        .iter()
-        .filter(|(fault, _)| stored.with(*fault) != judged.answer)
-        .map(|(_, words)| format!("catches: {words}"));
+    kinds::of_judged(&mut counts, &stored.call, &judged, &met);
+    let caught = catches(|rules| stored.answer_by(rules) != judged.answer);
     counts.into_keys().chain(caught).collect()
 }
 

@@ -3,11 +3,13 @@
 //! takes each N-th of the jobs that are made exhaustively
 use judge::answer::Answer;
 use judge::call::Call;
-use judge::document::{call_answer, program_answer, Fault, Trace};
-use judge::generate::{self, Random};
-use judge::job::{self, Job};
+use judge::document::{call_answer, program_answer};
+use judge::generate;
+use judge::job;
 use judge::kinds::{self, Counts};
-use judge::rust::Judged;
+use judge::met::Met;
+use judge::random::Random;
+use judge::rules::DOCUMENT;
 use judge::{describe, exhaust, library, program, rust, shrink};
 use std::io::{self, Read, Write};
 use std::process::{Command, ExitCode, Stdio};
@@ -89,22 +91,13 @@ fn printed(program: &str, bytes: &[u8]) -> io::Result<String> {
     Ok(if status.success() { text } else { format!("{text}{status}\n") })
 }
 
-fn count_job(counts: &mut Counts, job: &Job, judged: &Judged, trace: &Trace) {
-    if judged.answer.refusal == 0 {
-        kinds::of_call(counts, &Call::of_job(job));
-        let variants = job.variants.iter().map(|v| v.letters.as_slice());
-        kinds::of_letters(counts, job.settings.k, variants.chain(job.parts.iter().map(|p| p.letters.as_slice())));
-        kinds::of_trace(counts, trace);
-    }
-}
-
 fn compare_input(tally: &mut Tally, bytes: Vec<u8>, o: &Options) {
     let judged = program::judged(&bytes);
-    let mut trace = Trace::default();
-    let second = program_answer(&bytes, Fault::None, &mut trace);
-    kinds::of_answer(&mut tally.counts, &judged);
-    if let Ok(job) = job::read(&bytes) {
-        count_job(&mut tally.counts, &job, &judged, &trace);
+    let mut met = Met::default();
+    let second = program_answer(&DOCUMENT, &bytes, &mut met);
+    let job = job::read(&DOCUMENT, &bytes).ok();
+    kinds::of_input(&mut tally.counts, job.as_ref(), &judged, &met);
+    if let Some(job) = job {
         if job.bytes() != bytes && !job.settings.floats().iter().any(|x| x.is_nan()) {
             tally.differ(|| format!("the writer makes other bytes of {}", describe::job(&job)));
         }
@@ -128,13 +121,9 @@ fn compare_input(tally: &mut Tally, bytes: Vec<u8>, o: &Options) {
 
 fn compare_call(tally: &mut Tally, call: &Call, o: &Options) {
     let judged = rust::judged(call);
-    let mut trace = Trace::default();
-    let second = call_answer(call, Fault::None, &mut trace);
-    kinds::of_answer(&mut tally.counts, &judged);
-    if judged.answer.refusal == 0 {
-        kinds::of_call(&mut tally.counts, call);
-        kinds::of_trace(&mut tally.counts, &trace);
-    }
+    let mut met = Met::default();
+    let second = call_answer(&DOCUMENT, call, &mut met);
+    kinds::of_judged(&mut tally.counts, call, &judged, &met);
     if second != judged.answer {
         tally.differ(|| format!("the second reading of document 01 says {second:?} of {}", describe::call(call)));
     }
@@ -155,8 +144,9 @@ fn library_says(call: &Call, must: &Answer) -> Result<(), String> {
     if !said.rest_unchanged {
         return Err("the rest of the answer buffer changed".to_string());
     }
-    if must.refusal != 0 && !said.queue_unchanged {
-        return Err("a refusal changed the queue".to_string());
+    let searched = must.refusal == 0 && call.searches(&DOCUMENT);
+    if !searched && !said.queue_unchanged {
+        return Err("the queue changed, and no search ran".to_string());
     }
     Ok(())
 }

