@@ -110,7 +110,8 @@ def sorted_out(failures, items, proved):
     open_needs = [(failure, item) for item in items for failure in item.failures]
     citing = []
     for failure in failures:
-        owner = next((item for item in items if f"/proofs/{'/'.join(item.name.split('::')[1:])}/" in failure.path), None)
+        # what a recursive function does within itself is proved in a folder +NAME of its own
+        owner = next((item for item in items if f"/proofs/{'/'.join(item.name.split('::')[1:])}/" in failure.path.replace("/+", "/")), None)
         if CITES.match(failure.words):
             citing.append((failure, owner))
         else:
