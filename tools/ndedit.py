@@ -1,4 +1,4 @@
-"""An edit, which is one wrong answer that the prover must refuse: its file, and a copy of the repository in which it is made."""
+"""An edit, which is one wrong answer that the prover must refuse: its file, and a copy of the repository in which it is made. Also what a crate stands on."""
 import re
 import shutil
 import subprocess
@@ -9,6 +9,12 @@ from ndlog import Fault
 
 FOLDERS = ("wrong", "must-fail")  # those that tools/wrong tries, and those that rt ci tries
 EXAMPLE = "write 'file: src/x.rt', 'old: ..' and 'new: ..', each on a line"
+
+
+def crate_lines(text):
+    """What each crate of a crates.txt stands on."""
+    lines = (line.split("#")[0].partition(":") for line in text.splitlines())
+    return {name.strip(): below.split() for name, colon, below in lines if colon}
 
 
 @dataclass(frozen=True)
