@@ -51,6 +51,14 @@ pub record Hole (h : List ℕ) (n i : ℕ) : Type 0 where
   pub around : (j : ℕ) → 0 < j → j < n → j ≢ i → aboveOf j ≢ i → getD h (aboveOf j) 0 ≤ getD h j 0
   pub across : (j : ℕ) → 0 < j → j < n → aboveOf j ≡ i → 0 < i → getD h (aboveOf i) 0 ≤ getD h j 0
 
+-- no key below the hole is below k
+abbrev pub FitsBelow : List ℕ → ℕ → ℕ → ℕ → Type 0
+FitsBelow h n i k = (j : ℕ) → 0 < j → j < n → aboveOf j ≡ i → k ≤ getD h j 0
+
+-- the key above the hole is not above k
+abbrev pub FitsAbove : List ℕ → ℕ → ℕ → Type 0
+FitsAbove h i k = 0 < i → getD h (aboveOf i) 0 ≤ k
+
 module _ {h : List ℕ} {n i : ℕ} (o : Hole h n i) (li : i < n) (w : n ≤ length h) where
   at-i : (a : ℕ) → getD (set h i a) i 0 ≡ a
   at-i a = getD-set-same h i a 0 (omega arith)
@@ -59,7 +67,7 @@ module _ {h : List ℕ} {n i : ℕ} (o : Hole h n i) (li : i < n) (w : n ≤ len
   at-j a j ne = getD-set-other h i j a 0 ne
 
   -- a key in order with those above and below fills the hole
-  module _ (k : ℕ) (above : 0 < i → getD h (aboveOf i) 0 ≤ k) (below : (j : ℕ) → 0 < j → j < n → aboveOf j ≡ i → k ≤ getD h j 0) where
+  module _ (k : ℕ) (above : FitsAbove h i k) (below : FitsBelow h n i k) where
     filled-at : (j : ℕ) → 0 < j → j < n → (t : Bool) → eqb j i ≡ t → (u : Bool) → eqb (aboveOf j) i ≡ u → getD (set h i k) (aboveOf j) 0 ≤ getD (set h i k) j 0
     filled-at j p l true e u f =
         let m : j ≡ i = eqb-true j i e in
@@ -141,14 +149,6 @@ pub record Open (h : List ℕ) (n i k : ℕ) (l : List ℕ) : Type 0 where
   pub hole : Hole h n i
   pub many : length l ≡ n
   pub same : (x : ℕ) → times x l + bit (eqb x (getD h i 0)) ≡ times x (take n h) + bit (eqb x k)
-
--- no key below the hole is below k
-abbrev pub FitsBelow : List ℕ → ℕ → ℕ → ℕ → Type 0
-FitsBelow h n i k = (j : ℕ) → 0 < j → j < n → aboveOf j ≡ i → k ≤ getD h j 0
-
--- the key above the hole is not above k
-abbrev pub FitsAbove : List ℕ → ℕ → ℕ → Type 0
-FitsAbove h i k = 0 < i → getD h (aboveOf i) 0 ≤ k
 
 module _ {h : List ℕ} {n i k : ℕ} {l : List ℕ} (o : Open h n i k l) where
   same-moved : (c : ℕ) → c ≢ i → (x : ℕ) → times x l + bit (eqb x (getD (set h i (getD h c 0)) c 0)) ≡ times x (take n (set h i (getD h c 0))) + bit (eqb x k)

@@ -31,7 +31,7 @@ pub record Taken (keys : List ℕ) (n : ℕ) (keys' : List ℕ) : Type 0 where
   pub order : Ordered keys' (n - 1)
   pub same : (x : ℕ) → times x (getD keys 0 0 ∷ take (n - 1) keys') ≡ times x (take n keys)
 
--- place c is the least of those below place i
+-- of the keys right below place i the least stands at place c
 pub record LeastBelow (keys : List ℕ) (n i c : ℕ) : Type 0 where
   pub after : 0 < c
   pub within : c < n

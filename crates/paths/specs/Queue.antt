@@ -58,7 +58,7 @@ pub record Walk (parents rows : List ℕ) (e room : ℕ) : Type 0 where
   pub links : Links parents (suc e)
   pub fits : length (chainAt parents rows e) ≤ room
 
--- the first n entries
+-- the first n entries: each is a chain, and has its parent before it
 pub record Tree (follows : List ℕ → ℕ → Bool) (v : ℕ) (parents rows : List ℕ) (n : ℕ) : Type 0 where
   pub some : 0 < n
   pub few : n ≤ 1048576
@@ -71,7 +71,7 @@ pub record Queue (follows : List ℕ → ℕ → Bool) (v : ℕ) (D : List ℕ �
   pub keyed : All (λ k. Key D parents rows n k) keys
   pub rising : Rising keys
 
--- the extensions of entry e's chain stand behind the first n entries, their keys, in the order of queueing, are put to the heap of q, and nothing else changed
+-- the extensions of entry e's chain stand behind the first n entries; `new` is their keys in the order of queueing, and these are put to the heap of q; nothing else changed
 pub record Queued (follows : List ℕ → ℕ → Bool) (v : ℕ) (D : List ℕ → ℕ) (parents rows keys : List ℕ) (q n e : ℕ) (parents' rows' keys' : List ℕ) (added : ℕ) : Type 0 where
   pub most : added ≤ v
   pub kept : (i : ℕ) → i < n → chainAt parents' rows' i ≡ chainAt parents rows i
