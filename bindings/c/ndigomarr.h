@@ -36,6 +36,7 @@ enum nd_refusal {
     ND_REFUSED_QUEUE_ROOM = 11, /* search mode, and queue room under 1 + (maxpaths + 1) × V entries */
     ND_REFUSED_ANSWER_ROOM = 12, /* answer room under V rows */
     ND_REFUSED_TOO_MANY_LETTERS = 13, /* a sequence over its letter limit */
+    ND_REFUSED_REPEATED_NUMBER = 14, /* a repeated record number */
     ND_REFUSED_UNKNOWN_KIND = 20, /* unknown kind */
     ND_REFUSED_CUT_SHORT = 21, /* input ends inside a record or without 0x00 */
     ND_REFUSED_OUT_OF_PLACE = 22, /* out of place */
