@@ -1,7 +1,7 @@
 -- Where a refusal of the record numbers stands among those of the call. Each row of document 01's table is one that goes before 6, 14 or 12, or one
 -- that this goes before (which of the two, `earlierOf` says, and for each of the table's numbers it computes); so, row by row, the first
 -- refusal of the joined table is the earlier of the two. Over 64 variants are refused by 5 at the latest, before any of the three is asked. Assumes nothing.
-use Prim.Native.Nat.{ℕ, zero, suc, _^_, _<_, _≤_}
+use Prim.Native.Nat.{ℕ, _^_, _<_, _≤_}
 use native.Mathlib.Omega.{arith}
 use mathlib.Core.Path.{_≡_, refl, sym, ap, _∙_}
 use mathlib.Core.Bool.{Bool, true, false, cond, _&&_}
@@ -15,6 +15,36 @@ use Rattle.params.proofs.CheckedLaws.{accepted}
 use Rattle.dive.specs.Numbered.{Numbered, repeatedNumber, numberedFault}
 use Rattle.dive.specs.NumberChecks.{numberFault, placeOf, earlierOf}
 
+-- ---- the earlier of two
+
+none-other : (own : ℕ) → own ≡ earlierOf 0 own
+unfolding earlierOf
+none-other own = refl
+
+-- by its two tests
+pub other-none : (other own : ℕ) → other ≡ 0 → own ≡ earlierOf other own
+other-none other own e = none-other own ∙ ap (λ (m : ℕ). earlierOf m own) (sym e)
+
+pub other-first : (other own place : ℕ) → (other ≡ 0 → ⊥) → place ≡ placeOf own → other < place → other ≡ earlierOf other own
+unfolding earlierOf
+other-first other own place h e l = simp (ne-eqb other 0 h, lt-ltb other (placeOf own) (omega arith))
+
+pub own-first : (other own place : ℕ) → (other ≡ 0 → ⊥) → place ≡ placeOf own → place ≤ other → own ≡ earlierOf other own
+unfolding earlierOf
+own-first other own place h e l = simp (ne-eqb other 0 h, le-ltb other (placeOf own) (omega arith))
+
+-- the earlier of two refusals refuses
+pub still-refused : (other own : ℕ) → (own ≡ 0 → ⊥) → earlierOf other own ≡ 0 → ⊥
+unfolding earlierOf
+still-refused other own h = go (eqb other 0) refl (ltb other (cond (eqb own 14) 9 own))
+  where
+    go : (t : Bool) → eqb other 0 ≡ t → (s : Bool) → cond t own (cond s other own) ≡ 0 → ⊥
+    go true q s e = h e
+    go false q true e = eqb-false other 0 q e
+    go false q false e = h e
+
+-- ---- a table of rows, and a number among them
+
 -- every row goes before the number; and the number goes before every row
 abbrev goBefore : ℕ → List Rule → Bool
 goBefore own [] = true
@@ -23,10 +53,6 @@ goBefore own (r ∷ rows) = eqb (earlierOf (r .number) own) (r .number) && goBef
 abbrev goAfter : ℕ → List Rule → Bool
 goAfter own [] = true
 goAfter own (r ∷ rows) = eqb (earlierOf (r .number) own) own && goAfter own rows
-
-none-other : (own : ℕ) → own ≡ earlierOf 0 own
-unfolding earlierOf
-none-other own = refl
 
 comes-first : (own : ℕ) (back : List Rule) → goAfter own back ≡ true → own ≡ earlierOf (firstOf back) own
 comes-first own [] h = none-other own
@@ -72,27 +98,27 @@ module _ (c : Call) where
   joined-rows six fourteen twelve =
       first-rows ++ (rule 6 six ∷ (bound-rows ++ (rule 14 fourteen ∷ (last-rows ++ (rule 12 twelve ∷ [])))))
 
-  own-given : (six fourteen twelve : Bool) → (ownOf six fourteen twelve ≡ 0 → ⊥)
+  one-given : (six fourteen twelve : Bool) → (ownOf six fourteen twelve ≡ 0 → ⊥)
       → firstOf (joined-rows six fourteen twelve) ≡ earlierOf (firstFault c) (ownOf six fourteen twelve)
   unfolding firstFault earlierOf
-  own-given true fourteen twelve h =
+  one-given true fourteen twelve h =
       stands 6 first-rows (bound-rows ++ last-rows) (bound-rows ++ (rule 14 fourteen ∷ (last-rows ++ (rule 12 twelve ∷ [])))) refl refl
-  own-given false true twelve h = stands 14 (first-rows ++ bound-rows) last-rows (last-rows ++ (rule 12 twelve ∷ [])) refl refl
-  own-given false false true h = stands 12 (first-rows ++ (bound-rows ++ last-rows)) [] [] refl refl
-  own-given false false false h = absurd (h refl)
+  one-given false true twelve h = stands 14 (first-rows ++ bound-rows) last-rows (last-rows ++ (rule 12 twelve ∷ [])) refl refl
+  one-given false false true h = stands 12 (first-rows ++ (bound-rows ++ last-rows)) [] [] refl refl
+  one-given false false false h = absurd (h refl)
 
-  none-given : (six fourteen twelve : Bool) → ownOf six fourteen twelve ≡ 0 → firstOf (joined-rows six fourteen twelve) ≡ firstFault c
+  none-asked : (six fourteen twelve : Bool) → ownOf six fourteen twelve ≡ 0 → firstOf (joined-rows six fourteen twelve) ≡ firstFault c
   unfolding firstFault
-  none-given true fourteen twelve e = absurd (omega arith)
-  none-given false true twelve e = absurd (omega arith)
-  none-given false false true e = absurd (omega arith)
-  none-given false false false e = refl
+  none-asked true fourteen twelve e = absurd (omega arith)
+  none-asked false true twelve e = absurd (omega arith)
+  none-asked false false true e = absurd (omega arith)
+  none-asked false false false e = refl
 
   too-many : (six fourteen twelve : Bool) → ltb 64 (length (c .table .starts)) ≡ true → firstOf (joined-rows six fourteen twelve) ≡ firstFault c
   unfolding firstFault
   too-many six fourteen twelve e = rw e
 
-  pub few-variants : firstFault c ≡ 0 → length (c .table .starts) ≤ 64
+  few-variants : firstFault c ≡ 0 → length (c .table .starts) ≤ 64
   few-variants e = let h = accepted c e in omega (arith, h .sized .few, h .sizes-are)
 
 module _ (n : Numbered) where
@@ -118,7 +144,7 @@ module _ (n : Numbered) where
     where
       go : (t : Bool) → ltb 64 variants ≡ t → cond t 0 (ownOf six fourteen twelve) ≡ 0 → firstOf (joined-rows (n .call) six fourteen twelve) ≡ firstFault (n .call)
       go true many e = too-many (n .call) six fourteen twelve many
-      go false few e = none-given (n .call) six fourteen twelve e
+      go false few e = none-asked (n .call) six fourteen twelve e
 
   -- numbers that are refused join it
   pub numbers-refused : (own ≡ 0 → ⊥) → numberedFault n ≡ earlierOf (firstFault (n .call)) own
@@ -128,14 +154,12 @@ module _ (n : Numbered) where
       go : (t : Bool) → (cond t 0 (ownOf six fourteen twelve) ≡ 0 → ⊥)
           → firstOf (joined-rows (n .call) six fourteen twelve) ≡ earlierOf (firstFault (n .call)) (cond t 0 (ownOf six fourteen twelve))
       go true h = absurd (h refl)
-      go false h = own-given (n .call) six fourteen twelve h
+      go false h = one-given (n .call) six fourteen twelve h
 
   -- numbers that are not refused have room for V records
   pub records-suffice : own ≡ 0 → firstFault (n .call) ≡ 0 → variants ≤ n .recordRoom
   unfolding numberFault
-  records-suffice e f =
-      let few = few-variants (n .call) f in
-      go (ltb 64 variants) six fourteen twelve refl refl e
+  records-suffice e f = go (ltb 64 variants) six fourteen twelve refl refl e
     where
       go : (t a b d : Bool) → ltb 64 variants ≡ t → twelve ≡ d → cond t 0 (ownOf a b d) ≡ 0 → variants ≤ n .recordRoom
       go true a b d many room e = let over = ltb-true 64 variants many in let few = few-variants (n .call) f in absurd (omega arith)
@@ -143,25 +167,3 @@ module _ (n : Numbered) where
       go false false true d few room e = absurd (omega arith)
       go false false false true few room e = absurd (omega arith)
       go false false false false few room e = ltb-false (n .recordRoom) variants room
-
--- the earlier of two refusals refuses
-pub still-refused : (other own : ℕ) → (own ≡ 0 → ⊥) → earlierOf other own ≡ 0 → ⊥
-unfolding earlierOf
-still-refused other own h = go (eqb other 0) refl (ltb other (cond (eqb own 14) 9 own))
-  where
-    go : (t : Bool) → eqb other 0 ≡ t → (s : Bool) → cond t own (cond s other own) ≡ 0 → ⊥
-    go true q s e = h e
-    go false q true e = eqb-false other 0 q e
-    go false q false e = h e
-
--- the two tests of `earlierOf`
-pub other-none : (other own : ℕ) → other ≡ 0 → own ≡ earlierOf other own
-other-none other own e = none-other own ∙ ap (λ (m : ℕ). earlierOf m own) (sym e)
-
-pub other-first : (other own place : ℕ) → (other ≡ 0 → ⊥) → place ≡ placeOf own → other < place → other ≡ earlierOf other own
-unfolding earlierOf
-other-first other own place h e l = simp (ne-eqb other 0 h, lt-ltb other (placeOf own) (omega arith))
-
-pub own-first : (other own place : ℕ) → (other ≡ 0 → ⊥) → place ≡ placeOf own → place ≤ other → own ≡ earlierOf other own
-unfolding earlierOf
-own-first other own place h e l = simp (ne-eqb other 0 h, le-ltb other (placeOf own) (omega arith))

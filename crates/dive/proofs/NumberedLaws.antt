@@ -3,8 +3,8 @@
 -- first ones are they; and they are no more than V, for which the numbers have room. Assumes nothing.
 use Prim.Native.Nat.{ℕ, zero, suc, _≤_}
 use native.Mathlib.Omega.{arith}
-use mathlib.Core.Path.{_≡_, refl, sym, ap, subst, _∙_}
-use mathlib.Core.Bool.{false, _&&_}
+use mathlib.Core.Path.{_≡_, refl, sym, ap, _∙_}
+use mathlib.Core.Bool.{_&&_}
 use mathlib.Core.List.{List, [], _++_}
 use lib.Dec.{eqb}
 use lib.ListN.{length, take, drop, length-append}
@@ -38,11 +38,11 @@ module _ (n : Numbered) where
   nothing-found (suc fault) e h =
       (ap (λ (m : ℕ). answerWith m (foundAfter m (n .call))) e, ap (λ (m : ℕ). foundAfter m (n .call) .rows) e)
 
-  pub refused-answers : {found other fault : ℕ} {r : Answer} (rows records : List ℕ) → found ≡ own → (found ≡ 0 → ⊥) → other ≡ firstFault (n .call)
+  pub refused-numbered : {found other fault : ℕ} {r : Answer} (rows records : List ℕ) → found ≡ own → (found ≡ 0 → ⊥) → other ≡ firstFault (n .call)
       → fault ≡ earlierOf other found → r ≡ answerWith fault noneFound
       → (r ≡ numberedAnswer n) × ((rows ≡ placed rows (numberedRows n)) × (records ≡ placed records (recordsOf n)))
   unfolding recordsAt
-  refused-answers {found} {other} {fault} rows records is h o f a =
+  refused-numbered {found} {other} {fault} rows records is h o f a =
       let known : numberedFault n ≡ earlierOf (firstFault (n .call)) own = numbers-refused n (λ z. h (is ∙ z)) in
       let same : earlierOf other found ≡ earlierOf (firstFault (n .call)) own = ap (λ (m : ℕ). earlierOf m found) o ∙ ap (λ (m : ℕ). earlierOf (firstFault (n .call)) m) is in
       let g = nothing-found fault (known ∙ sym same ∙ sym f) (λ z. still-refused other found h (sym f ∙ z)) in
@@ -75,9 +75,9 @@ module _ (n : Numbered) where
           let f = few-rows (n .call) (n .recordRoom) (records-suffice n good) in
           (omega arith, omega arith)
 
-      pub accepted-answers : (records : List ℕ) {records' : List ℕ} → records' ≡ placed records (recordsAt (n .numbers) (take (r .rows) rows'))
+      pub accepted-numbered : (records : List ℕ) {records' : List ℕ} → records' ≡ placed records (recordsAt (n .numbers) (take (r .rows) rows'))
           → (r ≡ numberedAnswer n) × ((rows' ≡ placed rows (numberedRows n)) × (records' ≡ placed records (recordsOf n)))
-      accepted-answers records h =
+      accepted-numbered records h =
           let t : take (r .rows) rows' ≡ rowsOf (n .call) =
           rw stand (take-at (rowsOf (n .call)) (drop (length (rowsOf (n .call))) rows) (r .rows) (sym rows-are)) in
           (is ∙ as-answered, (stand ∙ ap (λ (l : List ℕ). placed rows l) as-placed, h ∙ ap (λ (l : List ℕ). placed records (recordsAt (n .numbers) l)) (t ∙ as-placed)))

@@ -1,33 +1,20 @@
--- The record numbers of rows, written one by one to the front of a buffer; and what a call with record numbers answers, by what was found in the numbers
--- and in the call. An answer's rows were placed in their buffer, so that the first of it are they. Assumes nothing.
+-- The record numbers of rows, written one by one to the front of a buffer. Assumes nothing.
 use Prim.Native.Nat.{ℕ, zero, suc, _+_, _≤_, _<_}
 use native.Mathlib.Omega.{arith}
 use mathlib.Core.Path.{_≡_, refl, sym, ap, _∙_}
-use mathlib.Core.Bool.{Bool, false}
-use mathlib.Core.List.{List, [], _∷_, _++_, map}
-use lib.ListN.{length, getD, set, take, drop, length-append}
-use lib.Seq.{take-at}
+use mathlib.Core.List.{List, [], _∷_, _++_}
+use lib.ListN.{length, getD, set, take, drop, length-map}
+use lib.Seq.{length-take-le}
 use Rattle.metrics.specs.Placed.{placed}
-use Rattle.params.specs.Numbers.{Call, firstFault}
-use Rattle.kplib.specs.Answer.{answerWith, noneFound, foundAfter, answerOf, rowsOf, searches}
-use Rattle.kplib.specs.declared.traverse.Answer.{Answer}
 use Rattle.kplib.proofs.PlaceLaws.{put-on, put-done}
-use Rattle.dive.specs.Numbered.{Numbered, numberedFault, numberedAnswer, numberedRows, recordsAt, recordsOf, numberedSearches}
-
--- a row past the end has no number
-pub no-number : (numbers : List ℕ) (row : ℕ) → length numbers ≤ row → 0 ≡ getD numbers row 0
-no-number [] row h = refl
-no-number (x ∷ numbers) zero h = absurd (omega arith)
-no-number (x ∷ numbers) (suc row) h = no-number numbers row (omega arith)
+use Rattle.dive.specs.Numbered.{recordsAt}
 
 -- as many records as rows, and the record at i is that of row i
-pub record-count : (numbers rows : List ℕ) (n : ℕ) → n ≤ length rows → length (recordsAt numbers (take n rows)) ≡ n
+record-count : (numbers rows : List ℕ) (n : ℕ) → n ≤ length rows → length (recordsAt numbers (take n rows)) ≡ n
 unfolding recordsAt
-record-count numbers rows zero h = refl
-record-count numbers [] (suc n) h = absurd (omega arith)
-record-count numbers (r ∷ rows) (suc n) h = ap suc (record-count numbers rows n (omega arith))
+record-count numbers rows n h = length-map (take n rows) (λ r. getD numbers r 0) ∙ length-take-le n rows h
 
-pub record-at : (numbers rows : List ℕ) (n i : ℕ) → i < n → n ≤ length rows → getD (recordsAt numbers (take n rows)) i 0 ≡ getD numbers (getD rows i 0) 0
+record-at : (numbers rows : List ℕ) (n i : ℕ) → i < n → n ≤ length rows → getD (recordsAt numbers (take n rows)) i 0 ≡ getD numbers (getD rows i 0) 0
 unfolding recordsAt
 record-at numbers rows zero i l h = absurd (omega arith)
 record-at numbers [] (suc n) i l h = absurd (omega arith)

@@ -7,7 +7,7 @@ use Rattle.params.specs.Numbers.{firstFault}
 use Rattle.dive.specs.Numbered.{Numbered}
 use Rattle.dive.specs.NumberChecks.{numberFault}
 use Rattle.dive.specs.Promises.{numberedLent}
-use Rattle.dive.proofs.NumberedLaws.{refused-answers, as-searched, rows-fit, accepted-answers}
+use Rattle.dive.proofs.NumberedLaws.{refused-numbered, as-searched, rows-fit, accepted-numbered}
 use borrow.Author.Needs.{needs}
 use Rattle.dive.proofs.apply_numbered.Statement.{statement}
 use Rattle.dive.proofs.apply_numbered.Tie as tie
@@ -63,7 +63,7 @@ returns c =
     let called = c .before .before in
     let m = numbered called in
     let b = begin m in
-    let h = refused-answers (lent b) (now (b .args .rows)) (now (b .args .records)) (m .number-fault .ensures) (called .before .before .if1 .taken) (other called)
+    let h = refused-numbered (lent b) (now (b .args .rows)) (now (b .args .records)) (m .number-fault .ensures) (called .before .before .if1 .taken) (other called)
     (c .before .earlier .ensures) (c .refused .ensures) in
     (h .0, (h .1 .0, (h .1 .1, (λ _. refl, λ _. refl))))
 
@@ -97,7 +97,7 @@ returns-2 c =
     let b = begin (passing a .before) in
     let g = good (passing a) in
     let e = a .apply-haplotype .ensures in
-    let h = accepted-answers (lent b) g (now (b .args .rows)) (e .0) (e .1 .0) (now (b .args .records)) (put c .put-records .ensures) in
+    let h = accepted-numbered (lent b) g (now (b .args .rows)) (e .0) (e .1 .0) (now (b .args .records)) (put c .put-records .ensures) in
     (h .0, (h .1 .0, (h .1 .1, (λ z. e .1 .1 .0 (as-searched (lent b) g ∙ z), λ z. e .1 .1 .1 (as-searched (lent b) g ∙ z)))))
 
 pub apply-numbered-spec : {M : Type 1} → statement M

@@ -1,7 +1,8 @@
 -- A row past the end has no number. Assumes nothing.
+use mathlib.Core.Path.{sym}
+use lib.ListN.{List·getD-eq-default}
 use denote.Ref.{now}
 use borrow.Author.Needs.{needs}
-use Rattle.dive.proofs.RecordLaws.{no-number}
 use Rattle.dive.proofs.records.number_of.Statement.{statement}
 use Rattle.dive.proofs.records.number_of.Tie as tie
 
@@ -15,7 +16,7 @@ returns : tie.Need-returns
 returns c = search needs
 
 returns-2 : tie.Need-returns-2
-returns-2 c = let a = c .before .args in no-number (now (a .numbers)) (a .row) (c .if1 .left)
+returns-2 c = let a = c .before .args in sym (List·getD-eq-default (now (a .numbers)) 0 (c .if1 .left))
 
 pub number-of-spec : {M : Type 1} → statement M
 number-of-spec = tie.close (tie.spec mul-result shared-slice-read-result returns returns-2)
