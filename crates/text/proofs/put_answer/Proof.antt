@@ -1,36 +1,42 @@
+-- A refusal is its line; any other answer its eight lines.
+use denote.Ref.{now}
+use lib.ListN.{take}
+use Rattle.text.proofs.PieceLaws.{written-as}
+use Rattle.text.proofs.TextLaws.{text-refused, text-accepted}
 use borrow.Author.Needs.{needs}
 use Rattle.text.proofs.put_answer.Statement.{statement}
 use Rattle.text.proofs.put_answer.Tie as tie
-use Rattle.text.proofs.put_answer.Reads as reads
-use Rattle.text.proofs.put_answer.Lts as lts
-use Rattle.text.proofs.lines.put_eight.Reads as put-eight-reads
-use Rattle.text.proofs.put_refused.Reads as put-refused-reads
 
--- src/lib.rt:22:9
+-- the place before the test, from either side of it
+abbrev refused : tie.Then1 → tie.Start
+refused c = c .before .before .before .before .before
+
+abbrev accepted : tie.Else1 → tie.Start
+accepted c = c .before .before .before .before .before
+
 put-refused-requires : tie.Need-put-refused-requires
 put-refused-requires c κs = search needs
 
--- src/lib.rt:22:9
 same-length : tie.Need-same-length
 same-length c = search needs
 
--- src/lib.rt:22:9
 returns : tie.Need-returns
-returns c = ?
+returns c =
+    let p = c .before .before in let t = p .before .before in let s = refused t in
+    let n = s .args .a .rows in
+    written-as (p .put-refused .ensures) (text-refused (s .args .a) (take n (now (s .args .rows))) (take n (now (s .args .records))) (t .if1 .taken))
 
--- src/lib.rt:24:5
 put-eight-requires : tie.Need-put-eight-requires
 put-eight-requires c κs = search needs
 
--- src/lib.rt:18:1
 same-length-2 : tie.Need-same-length-2
 same-length-2 c = search needs
 
--- src/lib.rt:18:1
 returns-2 : tie.Need-returns-2
-returns-2 c = ?
+returns-2 c =
+    let p = c .before .before in let t = p .before .before in let s = accepted t in
+    let n = s .args .a .rows in
+    written-as (p .put-eight .ensures) (text-accepted (s .args .a) (take n (now (s .args .rows))) (take n (now (s .args .records))) (t .if1 .left))
 
 pub put-answer-spec : {M : Type 1} → statement M
-put-answer-spec =
-    tie.close
-    (tie.spec put-refused-requires same-length returns put-eight-requires same-length-2 returns-2)
+put-answer-spec = tie.close (tie.spec put-refused-requires same-length returns put-eight-requires same-length-2 returns-2)
