@@ -202,6 +202,7 @@ module _ (job : Job) (more : List ℕ) where
         record {
           variants = simp length-map v;
           parts = simp length-map p;
+          starts-alike = simp length-map;
           alike = simp length-map;
           part-alike = simp length-map;
           letters-end = simp length-append (omega arith);
