@@ -8,7 +8,7 @@ use mathlib.Core.Bool.{Bool, true, false, not, cond, _&&_, _||_}
 use mathlib.Core.List.{List, [], _∷_, _++_, map}
 use borrow.Author.Tests.{ltb-true, ltb-false, le-ltb, eqb-true, eq-eqb, not-false}
 use lib.Dec.{ltb, eqb}
-use lib.ListN.{length, getD, length-map, length-append, List·getD-append}
+use lib.ListN.{length, getD, length-map, List·getD-append}
 use lib.Seq.{getD-append-seam}
 use Rattle.paths.specs.Best.{All}
 use Rattle.paths.proofs.BooleanLaws.{clash, and-both}
@@ -20,6 +20,7 @@ use Rattle.kplib.specs.Answer.{answerWith, inSearchMode, foundAfter, answerOf, 
 use Rattle.dive.specs.Numbered.{Numbered, repeatedNumber, numberedRules, numberedFault, numberedAnswer, numberedRows, recordsAt, recordsOf, numberedSearches}
 use Rattle.dive.proofs.RowLaws.{rows-in-table}
 use Rattle.desk.specs.Desk.{rowNumbers, numberedByRow}
+use Rattle.desk.proofs.AnswerLaws.{row-count}
 use Rattle.audit.specs.RecordNumbers.{Shared, upToEight, RecordNumbers}
 use Rattle.audit.proofs.Demand3Laws.{demand3-holds}
 
@@ -182,11 +183,6 @@ module _ (n : Numbered) where
       rw (← e) h
 
 -- ---- a job in the present form
-row-numbers-length : (v : ℕ) → length (rowNumbers v) ≡ v
-unfolding rowNumbers
-row-numbers-length zero = refl
-row-numbers-length (suc v) = omega (arith, length-append (rowNumbers v) (v ∷ []), row-numbers-length v)
-
 row-number : (v r : ℕ) → r < v → getD (rowNumbers v) r 0 ≡ r
 unfolding rowNumbers
 row-number zero r h = absurd (omega arith)
@@ -195,10 +191,10 @@ row-number (suc v) r h = go (ltb r v) refl (λ k. row-number v r k)
     go : (t : Bool) → ltb r v ≡ t → (r < v → getD (rowNumbers v) r 0 ≡ r) → getD (rowNumbers v ++ (v ∷ [])) r 0 ≡ r
     go true e earlier =
         let l = ltb-true r v e in
-        List·getD-append (rowNumbers v) (v ∷ []) 0 r (omega (arith, row-numbers-length v)) ∙ earlier l
+        List·getD-append (rowNumbers v) (v ∷ []) 0 r (omega (arith, row-count v)) ∙ earlier l
     go false e earlier =
-        let q : r ≡ length (rowNumbers v) = omega (arith, row-numbers-length v, ltb-false r v e) in
-        ap (λ (k : ℕ). getD (rowNumbers v ++ (v ∷ [])) k 0) q ∙ getD-append-seam (rowNumbers v) v [] 0 ∙ omega (arith, row-numbers-length v)
+        let q : r ≡ length (rowNumbers v) = omega (arith, row-count v, ltb-false r v e) in
+        ap (λ (k : ℕ). getD (rowNumbers v ++ (v ∷ [])) k 0) q ∙ getD-append-seam (rowNumbers v) v [] 0 ∙ omega (arith, row-count v)
 
 rows-recorded : (v : ℕ) (rows : List ℕ) → All (λ r. r < v) rows → map (λ r. getD (rowNumbers v) r 0) rows ≡ rows
 rows-recorded v [] a = refl
@@ -217,13 +213,13 @@ module _ (c : Call) (few : length (c .table .starts) ≤ 16) where
       go : (t : Bool) → repeatedNumber (rowNumbers v) ≡ t → t ≡ false
       go true e =
           let h = repeated-shared (rowNumbers v) e in
-          let s : h .1 < v = omega (arith, h .3, row-numbers-length v) in
+          let s : h .1 < v = omega (arith, h .3, row-count v) in
           absurd (omega (arith, h .2, h .4, row-number v (h .0) (omega (arith, h .2, s)), row-number v (h .1) s))
       go false e = refl
 
   present-fault : numberedFault (numberedByRow c) ≡ firstFault c
   present-fault =
-      same-fault (numberedByRow c) (ap not (eq-eqb (length (rowNumbers v)) v (row-numbers-length v))) all-different (le-ltb 16 v few)
+      same-fault (numberedByRow c) (ap not (eq-eqb (length (rowNumbers v)) v (row-count v))) all-different (le-ltb 16 v few)
 
   present-records : recordsOf (numberedByRow c) ≡ rowsOf c
   unfolding recordsAt
