@@ -32,22 +32,29 @@ unfolding rowNumbers
 row-count zero = refl
 row-count (suc n) = let h = row-count n in simp length-append (omega arith)
 
-pub front-numbers : (v n : ℕ) → v ≤ n → take v (rowNumbers n) ≡ rowNumbers v
+front-numbers : (v n : ℕ) → v ≤ n → take v (rowNumbers n) ≡ rowNumbers v
 unfolding rowNumbers
 front-numbers zero zero h = refl
 front-numbers (suc v) zero h = let z : ⊥ = omega arith in absurd z
-front-numbers v (suc n) h = go (ltb n v) refl
+front-numbers v (suc n) h = go (ltb n v) refl (front-numbers v n)
   where
-    go : (t : Bool) → ltb n v ≡ t → take v (rowNumbers n ++ (n ∷ [])) ≡ rowNumbers v
-    go true f =
+    go : (t : Bool) → ltb n v ≡ t → (v ≤ n → take v (rowNumbers n) ≡ rowNumbers v) → take v (rowNumbers n ++ (n ∷ [])) ≡ rowNumbers v
+    go true f before =
         let a = ltb-true n v f in
         let e : v ≡ suc n = omega arith in
         let c = row-count (suc n) in
         rw e (take-all (suc n) (rowNumbers (suc n)) (omega arith))
-    go false f =
-        let a = ltb-false n v f in
+    go false f before =
         let c = row-count n in
-        take-append-le v (rowNumbers n) (n ∷ []) (omega arith) ∙ front-numbers v n a
+        let a = ltb-false n v f in
+        take-append-le v (rowNumbers n) (n ∷ []) (omega arith) ∙ before a
+
+-- what is lent of the program's 16 numbers
+pub lent-by-row : {xs : List ℕ} (v : ℕ) → xs ≡ rowNumbers 16 → v ≤ 16 → take v xs ≡ rowNumbers v
+lent-by-row v e h = rw e (front-numbers v 16 h)
+
+pub lent-count : {xs : List ℕ} (v : ℕ) → xs ≡ rowNumbers 16 → v ≤ 16 → v ≡ length (take v xs)
+lent-count v e h = sym (ap length (lent-by-row v e h) ∙ row-count v)
 
 -- rows that were placed in a buffer, which kept its length, are no more than it has
 placed-few : (old rows new : List ℕ) → new ≡ placed old rows → length new ≡ length old → length rows ≤ length old
