@@ -63,6 +63,25 @@ mod linked {
         [s.k.into(), squish, one_to_one, full, s.maxpaths, s.maxnodes, s.fnmax, s.pileupmax, s.minkfreq, sizesim, seqsim, fpenalty, gpenalty]
     }
 
+    /// The answer in a refusal's number, the fronts of the buffers and the words of the report after the first.
+    fn answer_of(refusal: u32, rows: &[u32], records: &[u32], [target, score, sizesim, seqsim, scored, complete]: [u32; 6]) -> Answer {
+        Answer {
+            refusal,
+            rows: rows.to_vec(),
+            records: records.to_vec(),
+            target: match target {
+                0 => Target::Nothing,
+                1 => Target::Whole,
+                more => Target::Partial(more - 1),
+            },
+            score,
+            sizesim,
+            seqsim,
+            scored,
+            complete: complete == 1,
+        }
+    }
+
     /// The buffers hold marks before the call, the second what the call says, so that what was left alone is seen.
     pub fn answer(call: &Call) -> Result<Said, String> {
         let mut links = vec![MARK; call.queue_room];
@@ -83,28 +102,14 @@ mod linked {
                 &mut report,
             )
         };
-        let [row_count, target, score, sizesim, seqsim, scored, complete] = report;
+        let [row_count, words @ ..] = report;
         let count = row_count as usize;
         let least = rows.len().min(record_buffer.len());
         if count > least {
             return Err(format!("{count} rows in buffers of {least}"));
         }
         Ok(Said {
-            answer: Answer {
-                refusal,
-                rows: rows[..count].to_vec(),
-                records: record_buffer[..count].to_vec(),
-                target: match target {
-                    0 => Target::Nothing,
-                    1 => Target::Whole,
-                    more => Target::Partial(more - 1),
-                },
-                score,
-                sizesim,
-                seqsim,
-                scored,
-                complete: complete == 1,
-            },
+            answer: answer_of(refusal, &rows[..count], &record_buffer[..count], words),
             rest_unchanged: rows[count..].iter().all(|&x| x == MARK),
             queue_unchanged: links.iter().all(|&x| x == MARK) && keys.iter().all(|&x| x == MARK_KEY),
             record_buffer,

@@ -150,13 +150,8 @@ fn ranks(numbers: &[u32]) -> Vec<u32> {
     numbers.iter().map(|&number| different.range(..number).count() as u32).collect()
 }
 
-fn smaller_call(call: &Call) -> Vec<Call> {
-    let mut all = vec![];
-    let mut with = |change: &dyn Fn(&mut Call)| {
-        let mut one = call.clone();
-        change(&mut one);
-        all.push(one);
-    };
+/// A row or a part left out or made plain.
+fn fewer(call: &Call, with: &mut dyn FnMut(&dyn Fn(&mut Call))) {
     for row in 0..call.starts.len() {
         with(&|c| without_row(c, row));
         with(&|c| {
@@ -175,6 +170,16 @@ fn smaller_call(call: &Call) -> Vec<Call> {
     for at in 0..call.sizes.len() {
         with(&|c| c.sizes[at] = 1);
     }
+}
+
+fn smaller_call(call: &Call) -> Vec<Call> {
+    let mut all = vec![];
+    let mut with = |change: &dyn Fn(&mut Call)| {
+        let mut one = call.clone();
+        change(&mut one);
+        all.push(one);
+    };
+    fewer(call, &mut with);
     with(&|c| c.numbers = ranks(&call.numbers));
     for at in 0..call.numbers.len() {
         for number in (0..=at as u32).rev() {
