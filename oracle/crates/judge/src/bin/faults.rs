@@ -53,10 +53,10 @@ fn smaller_calls(rules: &Rules) -> Option<String> {
     None
 }
 
-/// What is put to each mistake, and what the judge says of it.
+/// What is put to each mistake, behind what the judge says of it.
 struct Asked {
-    inputs: Vec<(Vec<u8>, String)>,
-    calls: Vec<(Call, Seen)>,
+    inputs: Vec<(String, Vec<u8>)>,
+    calls: Vec<(Seen, Call)>,
 }
 
 impl Asked {
@@ -65,17 +65,21 @@ impl Asked {
         inputs.extend((0..count).map(|i| input(&mut Random::new(i))));
         let calls = (0..count / 2).map(|i| small_call(&mut Random::new(i)));
         Asked {
-            inputs: inputs.into_iter().map(|bytes| (program::answer(&bytes).text(), bytes)).map(|(text, bytes)| (bytes, text)).collect(),
-            calls: calls.map(|call| (must_be(&call), call)).map(|(seen, call)| (call, seen)).collect(),
+            inputs: inputs.into_iter().map(|bytes| (program::answer(&bytes).text(), bytes)).collect(),
+            calls: calls.map(|call| (must_be(&call), call)).collect(),
         }
     }
 
-    /// The places of the inputs and of the calls that show the rules.
-    fn shown(&self, rules: &Rules) -> [Vec<usize>; 2] {
-        let by_inputs = self.inputs.iter().map(|(bytes, text)| program_text(rules, bytes) != *text);
-        let by_calls = self.calls.iter().map(|(call, must)| seen(rules, call) != *must);
-        let places = |is: Vec<bool>| (0..is.len()).filter(|&at| is[at]).collect();
-        [places(by_inputs.collect()), places(by_calls.collect())]
+    /// The places of the inputs that show other rules.
+    fn by_inputs(&self, rules: &Rules) -> Vec<usize> {
+        let differs = |&at: &usize| program_text(rules, &self.inputs[at].1) != self.inputs[at].0;
+        (0..self.inputs.len()).filter(differs).collect()
+    }
+
+    /// Those of the calls.
+    fn by_calls(&self, rules: &Rules) -> Vec<usize> {
+        let differs = |&at: &usize| seen(rules, &self.calls[at].1) != self.calls[at].0;
+        (0..self.calls.len()).filter(differs).collect()
     }
 }
 
@@ -86,7 +90,7 @@ fn lines(text: &str) -> String {
 
 fn tell_input(rules: &Rules, asked: &Asked, found: &[usize]) {
     let shows = |bytes: &[u8]| program_text(rules, bytes) != program::answer(bytes).text();
-    let shrunk = found.iter().take(5).map(|&at| shrink::bytes(asked.inputs[at].0.clone(), shows));
+    let shrunk = found.iter().take(5).map(|&at| shrink::bytes(asked.inputs[at].1.clone(), shows));
     let small = shrunk.min_by_key(|bytes| bytes.len()).expect("some input shows it");
     println!("    {}", describe::bytes(&small));
     println!("    must be  {}", lines(&program::answer(&small).text()));
@@ -95,7 +99,7 @@ fn tell_input(rules: &Rules, asked: &Asked, found: &[usize]) {
 
 fn tell_call(rules: &Rules, asked: &Asked, found: &[usize]) {
     let shows = |call: &Call| seen(rules, call) != must_be(call);
-    let shrunk = found.iter().take(5).map(|&at| shrink::call(asked.calls[at].0.clone(), shows));
+    let shrunk = found.iter().take(5).map(|&at| shrink::call(asked.calls[at].1.clone(), shows));
     let small = shrunk.min_by_key(|call| describe::call(call).len()).expect("some call shows it");
     let words = |(answer, second): Seen| format!("{}, second buffer {second:?}", lines(&answer.text()));
     println!("    {}", describe::call(&small));
@@ -105,29 +109,32 @@ fn tell_call(rules: &Rules, asked: &Asked, found: &[usize]) {
 
 /// Whether it is caught, and by what.
 fn is_caught(words: &str, rules: &Rules, asked: &Asked) -> bool {
-    let [by_inputs, by_calls] = asked.shown(rules);
-    if !by_inputs.is_empty() {
-        println!("caught {words}: first at input {}, {} of {}", by_inputs[0] + 1, by_inputs.len(), asked.inputs.len());
-        tell_input(rules, asked, &by_inputs);
-    } else if !by_calls.is_empty() {
-        println!("caught {words}: first at library call {}, {} of {}", by_calls[0] + 1, by_calls.len(), asked.calls.len());
-        tell_call(rules, asked, &by_calls);
-    } else if let Some(shown) = smaller_calls(rules) {
-        println!("caught {words}: by a smaller call; no answer of the program can show it");
-        println!("    {shown}");
-    } else {
-        println!("MISSED {words}");
-        return false;
+    let found = asked.by_inputs(rules);
+    if let Some(first) = found.first() {
+        println!("caught {words}: first at input {}, {} of {}", first + 1, found.len(), asked.inputs.len());
+        tell_input(rules, asked, &found);
+        return true;
     }
-    true
+    let found = asked.by_calls(rules);
+    if let Some(first) = found.first() {
+        println!("caught {words}: first at library call {}, {} of {}", first + 1, found.len(), asked.calls.len());
+        tell_call(rules, asked, &found);
+        return true;
+    }
+    let shown = smaller_calls(rules);
+    match &shown {
+        Some(shown) => println!("caught {words}: by a smaller call; no answer can show it\n    {shown}"),
+        None => println!("MISSED {words}"),
+    }
+    shown.is_some()
 }
 
 fn main() -> ExitCode {
     let count: u64 = std::env::args().nth(1).map_or(20_000, |n| n.parse().expect("a number of inputs"));
     let asked = Asked::new(count);
-    let [by_inputs, by_calls] = asked.shown(&DOCUMENT);
-    let differing = by_inputs.first().map(|&at| describe::bytes(&asked.inputs[at].0));
-    if let Some(words) = differing.or(by_calls.first().map(|&at| describe::call(&asked.calls[at].0))) {
+    let input = asked.by_inputs(&DOCUMENT).first().map(|&at| describe::bytes(&asked.inputs[at].1));
+    let call = asked.by_calls(&DOCUMENT).first().map(|&at| describe::call(&asked.calls[at].1));
+    if let Some(words) = input.or(call) {
         println!("with nothing planted: {words}");
         return ExitCode::FAILURE;
     }
