@@ -86,7 +86,7 @@ mistakes! {
     "the second buffer may be one short": second_is_short = |room, v, _| room + 1 < v;
     "a second buffer of V entries refused": second_is_short = |room, v, _| room <= v;
     "the records of the nodes": records = |numbers, rows| rows.iter().map(|&row| numbers.get(row + 1).copied().unwrap_or(0)).collect();
-    "the table's first record numbers": records = |numbers, rows| numbers[..rows.len()].to_vec();
+    "records in the table's order, from its first row": records = |numbers, rows| numbers[..rows.len()].to_vec();
     "records from the chain's end": records = |numbers, rows| DOCUMENT.records(numbers, rows).into_iter().rev().collect();
     "records in ascending order": records = |numbers, rows| {
         let mut records = DOCUMENT.records(numbers, rows);
