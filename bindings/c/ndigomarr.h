@@ -18,8 +18,8 @@
 extern "C" {
 #endif
 
-/* The refusals, each with the table's words. 1 to 13 are returned; 20 to 26 stand in nd_answer's
- * text, beside those; 30 is the Rattle reader's and writer's.
+/* The refusals, each with the table's words. 1 to 14 are returned; 20 to 26 stand in nd_answer's
+ * text alone; 30 is the Rattle reader's and writer's.
  * Made from docs/refusals.tsv by tools/refusals --write. */
 enum nd_refusal {
     ND_ACCEPTED = 0,
@@ -69,7 +69,7 @@ uint32_t nd_count_chains(const uint64_t *starts, size_t starts_len, const uint64
 
 /* What stands in the report of a search. */
 enum nd_report {
-    ND_ROWS,     /* how many row numbers stand at the front of rows */
+    ND_ROWS,     /* how many rows stand at the front of rows, and records at that of records */
     ND_TARGET,   /* 0 no part list, 1 the whole haplotype, 1 more for each part left out */
     ND_SCORE,    /* the bits of a float, as the next two */
     ND_SIZESIM,
@@ -99,18 +99,24 @@ enum nd_settings {
 };
 
 /* The path of a table that best explains a haplotype. Rows are row numbers of the table handed
- * over, from 0, ascending, at the front of rows, whose rest stays as it was. Of equally good paths
- * the later one wins. V is starts_len, m is part_sizes_len; feature rows of 4^k entries lie one
- * behind the other. links and keys, the queue, hold at least 1 + (maxpaths + 1) * V entries each in
- * a search; their content afterwards is open. rows holds at least V. Refuses by 1 to 12; the report
- * is then all zeros. */
+ * over, from 0, ascending, at the front of rows. Of equally good paths the later one wins.
+ * record_numbers has a number of the caller's own for each variant, no two alike (the row numbers
+ * will do); those of the answer's rows stand at the front of records, in the rows' order. They
+ * change nothing else of an answer. What lies in rows and records behind that stays as it was.
+ * V is starts_len, m is part_sizes_len; feature rows of 4^k entries lie one behind the other. links
+ * and keys, the queue, hold at least 1 + (maxpaths + 1) * V entries each in a search; their content
+ * afterwards is open. Refuses by 1 to 12 and by 14 (a repeated record number), which comes after 8
+ * and before 9; 6 is also for other than V record numbers, and 12 for fewer than V entries in rows
+ * or in records. The report is then all zeros. */
 uint32_t nd_apply_haplotype(const uint32_t settings[ND_SETTINGS_LEN], const uint64_t *starts,
                             size_t starts_len, const uint64_t *ends, size_t ends_len,
                             const int32_t *sizes, size_t sizes_len, const int32_t *features,
-                            size_t features_len, const int32_t *part_sizes, size_t part_sizes_len,
-                            const int32_t *part_features, size_t part_features_len,
-                            uint32_t *links, size_t links_len, uint64_t *keys, size_t keys_len,
-                            uint32_t *rows, size_t rows_len, uint32_t report[ND_REPORT_LEN]);
+                            size_t features_len, const uint32_t *record_numbers,
+                            size_t record_numbers_len, const int32_t *part_sizes,
+                            size_t part_sizes_len, const int32_t *part_features,
+                            size_t part_features_len, uint32_t *links, size_t links_len,
+                            uint64_t *keys, size_t keys_len, uint32_t *rows, size_t rows_len,
+                            uint32_t *records, size_t records_len, uint32_t report[ND_REPORT_LEN]);
 
 /* How long a text the program may print. */
 enum { ND_TEXT_LEN = 8192 };

@@ -137,16 +137,7 @@ module _ (n : Numbered) where
   abbrev own : ℕ
   own = numberFault variants (n .numbers) (n .recordRoom)
 
-  -- numbers that are not refused leave the call's own fault
-  pub numbers-good : own ≡ 0 → numberedFault n ≡ firstFault (n .call)
-  unfolding numberedFault numberFault
-  numbers-good e = go (ltb 64 variants) refl e
-    where
-      go : (t : Bool) → ltb 64 variants ≡ t → cond t 0 (ownOf six fourteen twelve) ≡ 0 → firstOf (joined-rows (n .call) six fourteen twelve) ≡ firstFault (n .call)
-      go true many e = too-many (n .call) six fourteen twelve many
-      go false few e = none-asked (n .call) six fourteen twelve e
-
-  -- numbers that are refused join it
+  -- numbers that are refused join the call's own fault
   pub numbers-refused : (own ≡ 0 → ⊥) → numberedFault n ≡ earlierOf (firstFault (n .call)) own
   unfolding numberedFault numberFault
   numbers-refused h = go (ltb 64 variants) h
@@ -155,6 +146,15 @@ module _ (n : Numbered) where
           → firstOf (joined-rows (n .call) six fourteen twelve) ≡ earlierOf (firstFault (n .call)) (cond t 0 (ownOf six fourteen twelve))
       go true h = absurd (h refl)
       go false h = one-given (n .call) six fourteen twelve h
+
+  -- numbers that are not refused leave it
+  pub numbers-good : own ≡ 0 → numberedFault n ≡ firstFault (n .call)
+  unfolding numberedFault numberFault
+  numbers-good e = go (ltb 64 variants) refl e
+    where
+      go : (t : Bool) → ltb 64 variants ≡ t → cond t 0 (ownOf six fourteen twelve) ≡ 0 → firstOf (joined-rows (n .call) six fourteen twelve) ≡ firstFault (n .call)
+      go true many e = too-many (n .call) six fourteen twelve many
+      go false few e = none-asked (n .call) six fourteen twelve e
 
   -- numbers that are not refused have room for V records
   pub records-suffice : own ≡ 0 → firstFault (n .call) ≡ 0 → variants ≤ n .recordRoom

@@ -9,17 +9,17 @@ use Rattle.metrics.specs.Placed.{placed}
 use Rattle.kplib.proofs.PlaceLaws.{put-on, put-done}
 use Rattle.dive.specs.Numbered.{recordsAt}
 
--- as many records as rows, and the record at i is that of row i
-record-count : (numbers rows : List ℕ) (n : ℕ) → n ≤ length rows → length (recordsAt numbers (take n rows)) ≡ n
-unfolding recordsAt
-record-count numbers rows n h = length-map (take n rows) (λ r. getD numbers r 0) ∙ length-take-le n rows h
-
+-- the record at i is that of row i, and there are as many records as rows
 record-at : (numbers rows : List ℕ) (n i : ℕ) → i < n → n ≤ length rows → getD (recordsAt numbers (take n rows)) i 0 ≡ getD numbers (getD rows i 0) 0
 unfolding recordsAt
 record-at numbers rows zero i l h = absurd (omega arith)
 record-at numbers [] (suc n) i l h = absurd (omega arith)
 record-at numbers (r ∷ rows) (suc n) zero l h = refl
 record-at numbers (r ∷ rows) (suc n) (suc i) l h = record-at numbers rows n i (omega arith) (omega arith)
+
+record-count : (numbers rows : List ℕ) (n : ℕ) → n ≤ length rows → length (recordsAt numbers (take n rows)) ≡ n
+unfolding recordsAt
+record-count numbers rows n h = length-map (take n rows) (λ r. getD numbers r 0) ∙ length-take-le n rows h
 
 module _ (numbers rows records : List ℕ) (n : ℕ) (h : n ≤ length rows) where
   abbrev written : List ℕ
