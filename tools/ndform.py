@@ -238,7 +238,8 @@ def read_answer(text):
         raise AnswerFault(f'line {len(names) + 1} is "{lines[len(names)][:60]}", and the answer should end before it')
     answer = Answer(0, *values)
     if len(answer.records) != len(answer.rows):
-        raise AnswerFault(f"line 1 lists {len(answer.rows)} and line 2 lists {len(answer.records)}, and there should be one record for each row")
+        raise AnswerFault(f"line 1 lists {len(answer.rows)} and line 2 lists {len(answer.records)}, "
+                          "and there should be one record for each row")
     return answer
 
 
