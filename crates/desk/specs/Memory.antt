@@ -42,6 +42,7 @@ heldText s t = cond (eqb (limitFault s) 0) (searchText s (tableFrom (s .k) t) (p
 pub record Fits (t : Lent) : Type 0 where
   pub variants : length (t .counts) ≤ 16
   pub parts : length (t .partCounts) ≤ 8
+  pub starts-alike : length (t .starts) ≡ length (t .counts)
   pub alike : length (t .negatives) ≡ length (t .counts)
   pub part-alike : length (t .partNegatives) ≡ length (t .partCounts)
   pub letters-end : sum (t .counts) + sum (t .partCounts) ≤ length (t .letters)
