@@ -65,12 +65,12 @@ placed-few old rows new e l =
     omega arith
 
 -- what was placed at the front, taken again
-placed-taken : (old xs new : List ℕ) (n : ℕ) → new ≡ placed old xs → n ≡ length xs → take n new ≡ xs
-placed-taken old xs new n e l = rw e (take-at xs (drop (length xs) old) n (sym l))
+pub take-placed : {A : Type 0} (old new : List A) (n : ℕ) → length new ≡ n → take n (placed old new) ≡ new
+take-placed old new n e = take-at new (drop (length new) old) n e
 
-record-count : (numbers rows : List ℕ) → length (recordsAt numbers rows) ≡ length rows
+as-many-records : (numbers rows : List ℕ) → length (recordsAt numbers rows) ≡ length rows
 unfolding recordsAt
-record-count numbers rows = length-map rows (λ r. getD numbers r 0)
+as-many-records numbers rows = length-map rows (λ r. getD numbers r 0)
 
 -- what was answered in the program's room, as text
 module _ (s : Settings) (t : Table) (p : Parts) (numbers links keys rows records : List ℕ) where
@@ -92,13 +92,13 @@ module _ (s : Settings) (t : Table) (p : Parts) (numbers links keys rows records
       rows-are = ap (λ (x : Answer). x .rows) is
 
       records-are : a .rows ≡ length (recordsOf asked)
-      records-are = rows-are ∙ sym (record-count numbers (numberedRows asked))
+      records-are = rows-are ∙ sym (as-many-records numbers (numberedRows asked))
 
       rows-taken : take (a .rows) rows' ≡ numberedRows asked
-      rows-taken = placed-taken rows (numberedRows asked) rows' (a .rows) stands rows-are
+      rows-taken = rw stands (take-placed rows (numberedRows asked) (a .rows) (sym rows-are))
 
       records-taken : take (a .rows) records' ≡ recordsOf asked
-      records-taken = placed-taken records (recordsOf asked) records' (a .rows) records-stand records-are
+      records-taken = rw records-stand (take-placed records (recordsOf asked) (a .rows) (sym records-are))
 
       answer-text : answerText a (take (a .rows) rows') (take (a .rows) records') ≡ searchText s t p
       unfolding searchText
@@ -112,7 +112,7 @@ module _ (s : Settings) (t : Table) (p : Parts) (numbers links keys rows records
           → Printed out (searchText s t p) out' r
       answer-printed l w =
           let e : length (take (a .rows) rows') ≡ length (numberedRows asked) = ap length rows-taken in
-          let f : length (take (a .rows) records') ≡ length (numberedRows asked) = ap length records-taken ∙ record-count numbers (numberedRows asked) in
+          let f : length (take (a .rows) records') ≡ length (numberedRows asked) = ap length records-taken ∙ as-many-records numbers (numberedRows asked) in
           let g = placed-few rows (numberedRows asked) rows' stands (l ∙ sym row-room) in
           let h = answer-short a (take (a .rows) rows') (take (a .rows) records') in
           printed-as (record { written = w; short = omega arith }) answer-text
