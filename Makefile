@@ -1,5 +1,9 @@
 # `make run` and `make test` do all set-up themselves; README.md says what each target is for.
-.PHONY: run test changed program proofs packages oracle faults fuzz bindings bench
+.PHONY: run test changed program proofs packages texts wrong runs must-fail oracle faults fuzz bindings bench
+
+# rt waits for all crates of a batch before it starts the next: a batch of four keeps two cores busy where a long crate stands beside a short one.
+# Each takes about 1 GB. Who sets RT_JOBS decides.
+rt := RT_JOBS=$${RT_JOBS:-4} rt
 
 program:
 	tools/emulate >&2
@@ -11,16 +15,16 @@ run: program
 	tools/sheet draw examples/first-dive.tsv > target/first-dive.svg
 	@echo 'picture target/first-dive.svg'
 
-# What the tests before rt ci need, two at a time.
+# What `runs` and `wrong` need: the programs, and all that the library stands on, which is itself proved as it is made.
+below_capi := $(filter $(notdir $(wildcard crates/*)),$(shell sed -n 's/^capi://p' crates.txt))
 proofs:
-	rt check ndigomarr copy_job capi >&2
+	$(rt) check ndigomarr copy_job $(below_capi) >&2
 
 packages:
 	oracle/setup
 
-# rt ci stands last: its last line, 'N passed, 0 failed', is the gate's. It proves all from nothing, so what runs before it builds for itself.
-test:
-	$(MAKE) --no-print-directory --jobs=2 proofs packages
+# What is read off the files alone, and the tests of the tools.
+texts:
 	tools/promises
 	tools/test_promises
 	tools/uses
@@ -29,18 +33,35 @@ test:
 	tools/test_refusals
 	tools/prototypes
 	tools/test_prototypes
+	tools/wrong --table
+	tools/test_wrong
 	tools/test_changed
 	tools/test_unproved
 	rt fmt --check
+
+# The wrong answers that rt ci does not try, in folders of their own.
+wrong:
+	tools/wrong
+
+# What is run, one after the other, since two rt in one folder mix their logs. One archive serves both that link it.
+runs:
 	tools/run-examples
 	SHEET_NEEDS_PROGRAM=1 SHEET_WRITER=target/bin/copy_job tools/test_sheet
-	oracle/run --short
-	bindings/test
-	rt ci
+	set -e; NDIGOMARR_ARCHIVE=$$(tools/library); export NDIGOMARR_ARCHIVE; oracle/run --short; bindings/test
+
+# What stands on one line runs at the same time. rt ci stands last: its last line, 'N passed, 0 failed', is the gate's. It proves all from nothing, so what runs before it builds for itself.
+test:
+	$(MAKE) --no-print-directory --jobs=3 --output-sync=line proofs packages texts
+	$(MAKE) --no-print-directory --jobs=2 --output-sync=line wrong runs
+	$(rt) ci
 
 # After a changed line: what differs from main and what stands on it, not the whole gate.
 changed:
 	tools/changed
+
+# Every wrong answer as rt ci tries its own: each proves its whole crate from nothing.
+must-fail:
+	tools/wrong --official
 
 oracle:
 	oracle/setup

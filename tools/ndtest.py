@@ -1,6 +1,7 @@
 """What the tests of tools/ share: a tool loaded as a module, a folder for each test, and the last line 'N passed, 0 failed'."""
 import importlib.machinery
 import importlib.util
+import re
 import sys
 import tempfile
 import unittest
@@ -16,6 +17,12 @@ def load(name):
     sys.modules[name] = module
     loader.exec_module(module)
     return module
+
+
+def logs():
+    """What the prover wrote, by the titles of test_unproved.logs."""
+    text = (HERE / "test_unproved.logs").read_text(encoding="utf-8")
+    return dict(re.findall(r"^== (\w+): .*\n((?:(?!== ).*\n)*)", text, re.M))
 
 
 class FolderTest(unittest.TestCase):
