@@ -1,7 +1,8 @@
 /* Ndigomarr for C and C++: the functions of libndigomarr.a, which tools/library proves and writes.
  *
  * Each function asks nothing of its caller but that every pointer and its length belong together
- * and that no lent buffer overlaps another. An empty slice still needs a pointer that is not null.
+ * and that what is written overlaps nothing else that is lent. An empty slice still needs a pointer
+ * that is not null.
  * Each but nd_answer, which returns a length, returns 0 or the number of a refusal. On a refusal
  * every lent buffer is as it was, but for *place, *count and the report, which are then 0.
  *
@@ -18,8 +19,8 @@
 extern "C" {
 #endif
 
-/* The refusals, each with the table's words. 1 to 14 are returned; 20 to 26 stand in nd_answer's
- * text alone; 30 is the Rattle reader's and writer's.
+/* The refusals, each with the table's words. 1 to 14 are returned, and some of 1 to 13 stand in
+ * nd_answer's text too; 20 to 26 stand there alone; 30 is the Rattle reader's and writer's.
  * Made from docs/refusals.tsv by tools/refusals --write. */
 enum nd_refusal {
     ND_ACCEPTED = 0,

@@ -21,7 +21,7 @@ impl Table {
     }
 
     /// The same rows with the caller's own record numbers, one for each row, in the rows' order; a variant added later gets its row
-    /// number again. A search refuses other than one for each row (6) and a repeated one (14); nothing else depends on them.
+    /// number again, which is a 14 where that number was given already. A search refuses other than one for each row (6) and a repeated one (14); nothing else depends on them.
     ///
     /// ```
     /// use ndigomarr::{apply_haplotype, Haplotype, Settings, Table};

@@ -20,7 +20,8 @@ use Rattle.form.specs.Settings40.{settingsIn, numberBytes, floatBytes, settings
 use Rattle.form.specs.Form.{kindOf, bodyLen, inPlace, flagsOk, countOf, padOk, faultOf, after as afterRecord, run}
 use Rattle.form.specs.Job.{lettersIn, lettersAfter, variantOf, partOf, variantHere, partHere, gather, jobOf, readJob}
 use Rattle.form.specs.Job.{padded, lettersRecords, sequenceBytes, partBody, variantBody, variantBytes, partBytes, variantsBytes, partsBytes, jobBytes}
-use Rattle.text.specs.Text.{bytesOf, digitsWithin, hexDigit, hex2, hex4, hex8, numberLine, floatLine, flagLine, entryText, entriesText, listLine, isWhole, similarityLines, reachLines, eightLines, answerText}
+use Rattle.text.specs.Text.{bytesOf, digitsWithin, hexDigit, hex2, hex4, hex8, numberLine, floatLine, flagLine, entryText, entriesText, listLine}
+use Rattle.text.specs.Text.{isWhole, similarityLines, reachLines, eightLines, answerText}
 use Rattle.desk.specs.Desk.{variantFeatures, partFeatures, tableOfJob, partsOfJob, tooLarge, rowNumbers, jobText, readText, deskText}
 use Rattle.audit.specs.Worked.{Worked}
 

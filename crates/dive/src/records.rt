@@ -5,7 +5,7 @@ ghost use lib.ListN.{length, getD, take};
 ghost use Rattle.metrics.specs.Placed.{placed};
 ghost use Rattle.dive.specs.Numbered.{recordsAt};
 
-// The record number of a row.
+// The record number of a row; 0 past the end, so that nothing is asked of the rows. An answer's rows never lie there.
 fn number_of(numbers: &[u32], row: u32) -> u32
     ensures { λ r. ⌜ r ≡ getD (now (numbers .entry)) row 0 ⌝ }
 {

@@ -355,7 +355,7 @@ fn different(r: &mut Random, v: usize) -> Vec<u32> {
             0 => numbers.len() as u32,
             1 => any & 0xffff_0000 | 7,
             2 => any & 0xffff | 0x8000_0000,
-            3 => any % 100,
+            3 => any % 1000,
             4 if r.chance(50) => r.pick(&[0, 1, 0x7fff_ffff, 0x8000_0000, u32::MAX - 1, u32::MAX]),
             _ => any,
         };

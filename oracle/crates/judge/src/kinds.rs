@@ -29,7 +29,7 @@ pub fn merge(into: &mut Counts, from: Counts) {
 fn of_answer(counts: &mut Counts, judged: &Judged) {
     let a = &judged.answer;
     add(counts, match judged.by {
-        By::Table => "by: document 01's refusals",
+        By::Table => "by: the documents' refusals",
         By::Unchanged => "by: the unchanged Rust, nothing ties",
         By::Ordered => "by: the second build, something ties",
         By::Squish => "by: the second build, squish and the empty chain",

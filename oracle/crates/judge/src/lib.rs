@@ -6,7 +6,7 @@
 //! - `answer`: an answer and its eight lines.
 //! - `program`: what the program must print for given bytes.
 //! - `rules`: the documents' sentences, each a rule; `mistakes`: the same with one rule misread, planted to be found.
-//! - `document`: document 01 written down once more, independent of the Rust; `met`: what it met on its way.
+//! - `document`: the documents written down once more, independent of the Rust; `met`: what it met on its way.
 //! - `library`: the library of this project, linked.
 //! - `generate`, `exhaust`: the jobs that are compared; `random`: the numbers they are made from.
 //! - `kinds`: what a job reached, to be counted.

@@ -207,7 +207,7 @@ fn search(call: &Call) -> Judged {
     }
 }
 
-/// The judge's answer to a call: document 01's refusals, else the Rust's.
+/// The judge's answer to a call: the documents' refusals, else the Rust's.
 pub fn judged(call: &Call) -> Judged {
     match call.refusal(&DOCUMENT) {
         0 if call.searches(&DOCUMENT) => search(call),
