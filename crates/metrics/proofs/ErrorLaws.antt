@@ -4,28 +4,34 @@
 -- from 2 ^ (prec - 1 + j) on it is a multiple of 2 ^ j (`round-multiple`). Division and subtraction are each one rounding of the exact
 -- fraction (`div-whole`, `sub-at`), and a difference that has few enough digits is exact (`sub-exact`). Assumes nothing.
 use mathlib.Core.Path.{_≡_, refl, sym, ap, _∙_, subst}
-use mathlib.Core.Bool.{Bool, true, false, not, cond, true≢false}
+use mathlib.Core.Bool.{Bool, true, false, not, true≢false}
 use Prim.Native.Nat.{ℕ, zero, suc, _+_, _-_, _*_, _/_, _%_, _^_, _≤_, _<_, compare, Ordering, Ordering·lt, Ordering·eq, Ordering·gt}
 use native.Mathlib.Nat.{mul-assoc, mul-comm, mul-left-comm, mul-right-comm, mul-sub, add-mul, one-mul, mul-le-mul, mul-le-mul-right, le-of-mul-le-mul-right, eq-of-mul-eq-mul-right, mul-pos, le-refl, le-trans, le-of-eq, le-of-lt, lt-irrefl, lt-of-le-of-lt, lt-of-lt-of-le, lt-of-not-le, div-add-mod', mod-lt, div-lt-iff-lt-mul, le-div-iff-mul-le, div-div-eq-div-mul}
 use native.Mathlib.Omega.{arith}
 use lib.Dec.{T, isLe, isEq, ltb, eqb, leb→le, nleb→lt, eqb→eq, ltb→lt}
-use lib.IntN.{pos}
 use lib.Pow.{pow-add, pow-pos, pow-mono, pow-lt, shl-lt}
 use borrow.Author.Tests.{ne-eqb, le-ltb}
 use lib.Ieee.{Float, nan, inf, fin, Format, binary32, prec, emax, low, up, down, size, nearest, round, sum, sub, div, ofInt}
 use lib.Ieee.Digits.{size-lt, size-le}
-use lib.Ieee.Fits.{down-pos, nearest-le, kept-lt}
+use lib.Ieee.Fits.{down-pos, nearest-le, kept-lt, two, two-le-pos}
 use lib.Ieee.Exact.{HasValue, round-exact}
 use lib.Ieee.Back.{round-whole}
 use lib.Ieee.Nearest.{closest}
 use lib.Ieee.Order.{drop, kept}
-use lib.Ieee.Scale.{round-same, grid, overflow, round-val}
+use lib.Ieee.Scale.{round-same, grid, round-val}
 use lib.Ieee.Positive.{num, den, den-pos, positive, positive-of-value, value→cross}
 use Rattle.metrics.specs.Similarity.{whole}
 
 -- a and b are at most e apart
 abbrev pub Near : ℕ → ℕ → ℕ → Type 0
 Near e a b = (a ≤ b + e) × (b ≤ a + e)
+
+pub near-times : (u e a b : ℕ) → Near e a b → Near (e * u) (a * u) (b * u)
+near-times u e a b h = (le-trans (mul-le-mul-right u (h .0)) (le-of-eq (add-mul b e u)), le-trans (mul-le-mul-right u (h .1)) (le-of-eq (add-mul a e u)))
+
+pub near-cancel : (u e a b : ℕ) → 0 < u → Near (e * u) (a * u) (b * u) → Near e a b
+near-cancel u e a b U h =
+    (le-of-mul-le-mul-right (le-trans (h .0) (le-of-eq (sym (add-mul b e u)))) U, le-of-mul-le-mul-right (le-trans (h .1) (le-of-eq (sym (add-mul a e u)))) U)
 
 -- ---- a fraction rounded to the nearest whole number is off by at most a half
 halfway : (t w r b : ℕ) → w % 2 ≡ t → t < 2 → r * 2 ≡ b → Near b ((w + w % 2) * b * 2) ((w * b + r) * 2)
@@ -87,11 +93,11 @@ regroup q k j h =
     let e : k - j + j ≡ k = omega arith in
     ap (λ (x : ℕ). q * 2 ^ x) (sym e) ∙ ap (λ (x : ℕ). q * x) (pow-add 2 (k - j) j) ∙ sym (mul-assoc q (2 ^ (k - j)) (2 ^ j))
 
-pub round-multiple : (f : Format) (a c j : ℕ) → 0 < prec f → 0 < c → 2 ^ (prec f - 1 + j) * c ≤ a * 2 ^ low f → (r : ℕ) × (grid f a c ≡ r * 2 ^ j)
-round-multiple f a c j P C h =
+pub round-multiple : (f : Format) (a c j : ℕ) → 0 < c → 2 ^ (prec f - 1 + j) * c ≤ a * 2 ^ low f → (r : ℕ) × (grid f a c ≡ r * 2 ^ j)
+round-multiple f a c j C h =
     let n = a * 2 ^ low f in
     let k = drop (prec f) n c in
-    let l : j ≤ k = least-size (size (n / c)) (prec f) j (size-above (n / c) (prec f - 1 + j) (le-div-iff-mul-le C .1 h)) P in
+    let l : j ≤ k = least-size (size (n / c)) (prec f) j (size-above (n / c) (prec f - 1 + j) (le-div-iff-mul-le C .1 h)) (two-le-pos (prec f) (two f)) in
     (kept (prec f) n c * 2 ^ (k - j), regroup (kept (prec f) n c) k j l)
 
 -- ---- the exact value of a float, written with another fraction

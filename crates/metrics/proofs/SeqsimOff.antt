@@ -4,10 +4,9 @@
 -- half: three quarters together. Zero n is 1.0, exact. The laws of the two roundings are those of ErrorLaws. Assumes nothing.
 use mathlib.Core.Path.{_≡_, refl, sym, ap, _∙_, subst}
 use mathlib.Core.Bool.{Bool, true, false, not, cond}
-use mathlib.Core.Logic.{inl, inr, ⊎-elim}
-use mathlib.Core.List.{List, [], _∷_}
-use Prim.Native.Nat.{ℕ, zero, suc, _+_, _-_, _*_, _^_, _≤_, _<_, zero-le}
-use native.Mathlib.Nat.{mul-assoc, mul-comm, mul-left-comm, mul-right-comm, mul-sub, mul-le-mul-right, le-of-mul-le-mul-right, mul-lt-mul-of-pos-right, eq-or-lt-of-le, le-refl, le-trans, le-of-eq, le-of-lt, lt-of-lt-of-le, lt-of-le-of-lt, one-mul, add-mul}
+use mathlib.Core.Logic.{⊎-elim}
+use Prim.Native.Nat.{ℕ, zero, suc, _+_, _-_, _*_, _^_, _≤_, _<_}
+use native.Mathlib.Nat.{mul-assoc, mul-comm, mul-left-comm, mul-right-comm, mul-le-mul-right, le-of-mul-le-mul-right, mul-lt-mul-of-pos-right, eq-or-lt-of-le, le-refl, le-trans, le-of-eq, lt-of-lt-of-le, lt-of-le-of-lt, one-mul, add-mul}
 use native.Mathlib.Omega.{arith}
 use lib.Dec.{leb, ltb, eqb, lit≤, lit<}
 use lib.IntN.{ℤ, pos, negsuc, natAbs, _-ℤ_, _*ℤ_}
@@ -17,24 +16,11 @@ use lib.Ieee.{Float, binary32, round, sub, div, ofInt}
 use lib.Ieee.Exact.{HasValue}
 use lib.Ieee.Scale.{round-same, grid}
 use borrow.Author.Tests.{ltb-true, ltb-false, leb-true, leb-false, eqb-true, eqb-false}
-use Rattle.metrics.specs.declared.Sim.{Sim}
 use Rattle.metrics.specs.declared.Sim.the-variants.{Value, Refused}
-use Rattle.metrics.specs.Similarity.{whole, number, value, magnitudeSum, both, partD, sumBy, sumD, sumN, seqsimValue, seqsimOf}
+use Rattle.metrics.specs.Similarity.{whole, number, value, magnitudeSum, partD, sumD, sumN, seqsimValue, seqsimOf}
 use Rattle.metrics.specs.SeqsimError.{Times, off, SeqsimError}
-use Rattle.metrics.proofs.Ints.{apart-le}
-use Rattle.metrics.proofs.Rows.{sum-le, d-le}
-use Rattle.metrics.proofs.ErrorLaws.{Near, round-near, round-most, round-value, round-multiple, rescaled, whole-value, div-whole, sub-at, sub-exact}
-
--- ---- n is at most d
-part-le : (t : Bool) (p q : ℕ) → p ≤ q → cond t p 0 ≤ cond t q 0
-part-le true p q h = h
-part-le false p q h = zero-le
-
-n-le-d : (m : ℕ) (a b : List ℤ) → sumN m a b ≤ sumD m a b
-unfolding sumBy
-n-le-d m [] b = zero-le
-n-le-d m (x ∷ a) [] = zero-le
-n-le-d m (x ∷ a) (y ∷ b) = omega (arith, part-le (leb m (both x y)) (natAbs (x -ℤ y)) (both x y) (apart-le x y), n-le-d m a b)
+use Rattle.metrics.proofs.Rows.{sum-le, d-le, n-le-d}
+use Rattle.metrics.proofs.ErrorLaws.{Near, near-times, near-cancel, round-near, round-most, round-value, round-multiple, rescaled, whole-value, div-whole, sub-at, sub-exact}
 
 -- ---- arithmetic over plain numbers; u is the unit that 2 ^ 149 is a multiple of
 less-units : (u n d : ℕ) → 0 < u → n < d → n * u < u * d
@@ -66,28 +52,18 @@ rounded-close : (u w s d n : ℕ) → 0 < u → w ≤ 33554432 * u → Near (d *
 unfolding Close
 rounded-close u w s d n U l h k =
     let e : s * (2 * u) ≡ 2 * (s * u) = mul-left-comm s 2 u in
-    let g : n * (33554432 * u) ≡ 33554432 * (n * u) = mul-left-comm n 33554432 u in
-    let k0 : 4 * (s * u) + 2 * w ≤ 67108866 * u = omega (arith, k .0) in
-    let k1 : 67108864 * u ≤ 4 * (s * u) + 2 * w + 2 * u = omega (arith, k .1) in
-    let m0 = mul-le-mul-right d k0 in
-    let m1 = mul-le-mul-right d k1 in
-    let t1 = add-mul (4 * (s * u)) (2 * w) d in
-    let t2 = add-mul (4 * (s * u) + 2 * w) (2 * u) d in
-    let t3 : 4 * (s * u) * d ≡ 4 * (s * d * u) = mul-assoc 4 (s * u) d ∙ ap (λ (x : ℕ). 4 * x) (mul-right-comm s u d) in
-    let t4 : 2 * w * d ≡ 2 * (w * d) = mul-assoc 2 w d in
-    let t5 : 2 * u * d ≡ 2 * (d * u) = mul-assoc 2 u d ∙ ap (λ (x : ℕ). 2 * x) (mul-comm u d) in
-    let t6 : 67108866 * u * d ≡ 67108866 * (d * u) = mul-assoc 67108866 u d ∙ ap (λ (x : ℕ). 67108866 * x) (mul-comm u d) in
-    let t7 : 67108864 * u * d ≡ 67108864 * (d * u) = mul-assoc 67108864 u d ∙ ap (λ (x : ℕ). 67108864 * x) (mul-comm u d) in
-    let r0 : s * d * u + 16777216 * (n * u) ≤ 16777216 * (d * u) + d * u = omega (arith, h .0, h .1) in
-    let r1 : 16777216 * (d * u) ≤ s * d * u + 16777216 * (n * u) + d * u = omega (arith, h .0, h .1) in
-    let v1 = add-mul (s * d) (16777216 * n) u in
-    let v2 = add-mul (s * d + 16777216 * n) d u in
-    let v3 = add-mul (16777216 * d) d u in
-    let v4 = mul-assoc 16777216 n u in
-    let v5 = mul-assoc 16777216 d u in
-    let o0 : (s * d + 16777216 * n) * u ≤ (16777216 * d + d) * u = omega arith in
-    let o1 : 16777216 * d * u ≤ (s * d + 16777216 * n + d) * u = omega arith in
-    (le-of-mul-le-mul-right o0 U, le-of-mul-le-mul-right o1 U)
+    let k' : Near (2 * u) (4 * (s * u) + 2 * w) (67108864 * u) = (omega (arith, k .0), omega (arith, k .1)) in
+    let m = near-times d (2 * u) (4 * (s * u) + 2 * w) (67108864 * u) k' in
+    let t1 : (4 * (s * u) + 2 * w) * d ≡ 4 * (s * d * u) + 2 * (w * d) = add-mul (4 * (s * u)) (2 * w) d ∙ simp (mul-assoc, mul-comm, mul-left-comm) in
+    let t2 : 67108864 * u * d ≡ 67108864 * (d * u) = simp (mul-assoc, mul-comm) in
+    let t3 : 2 * u * d ≡ 2 * (d * u) = simp (mul-assoc, mul-comm) in
+    let t4 : n * (33554432 * u) * 2 ≡ 67108864 * (n * u) = ap (λ (x : ℕ). x * 2) (mul-left-comm n 33554432 u) ∙ times-two (n * u) in
+    let v1 : (s * d + 16777216 * n) * u ≡ s * d * u + 16777216 * (n * u) = add-mul (s * d) (16777216 * n) u ∙ ap (λ (x : ℕ). s * d * u + x) (mul-assoc 16777216 n u) in
+    let v2 : 16777216 * d * u ≡ 16777216 * (d * u) = mul-assoc 16777216 d u in
+    near-cancel u d (s * d + 16777216 * n) (16777216 * d) U (omega (arith, h .0, h .1, m .0, m .1), omega (arith, h .0, h .1, m .0, m .1))
+  where
+    times-two : (x : ℕ) → 33554432 * x * 2 ≡ 67108864 * x
+    times-two x = omega arith
 
 -- ---- the two operations. 2 ^ 149 smallest values are 1, so 2 ^ 125 of them are 1 / 2 ^ 24
 in-24ths : (x : Float) (s : ℕ) → HasValue x false (s * 2 ^ 125) (2 ^ 149) → Times x s
@@ -106,15 +82,9 @@ record Quotient (n d : ℕ) : Type 0 where
 
 cancelled : (u r d n : ℕ) → 0 < u → Near (d * u) (r * u * d * 2) (n * (16777216 * u) * 2) → Near d (r * d * 2) (n * 16777216 * 2)
 cancelled u r d n U h =
-    let e = mul-right-comm r u d in
-    let g = mul-assoc n 16777216 u in
-    let p = mul-right-comm (r * d) 2 u in
-    let q = mul-right-comm (n * 16777216) 2 u in
-    let v0 = add-mul (n * 16777216 * 2) d u in
-    let v1 = add-mul (r * d * 2) d u in
-    let a0 : r * d * 2 * u ≤ (n * 16777216 * 2 + d) * u = omega (arith, h .0) in
-    let a1 : n * 16777216 * 2 * u ≤ (r * d * 2 + d) * u = omega (arith, h .1) in
-    (le-of-mul-le-mul-right a0 U, le-of-mul-le-mul-right a1 U)
+    let e : r * u * d * 2 ≡ r * d * 2 * u = simp (mul-assoc, mul-comm, mul-left-comm) in
+    let g : n * (16777216 * u) * 2 ≡ n * 16777216 * 2 * u = simp (mul-assoc, mul-comm, mul-left-comm) in
+    near-cancel u d (r * d * 2) (n * 16777216 * 2) U (omega (arith, h .0), omega (arith, h .1))
 
 not-none : (r d n : ℕ) → 0 < n → d ≤ n * 2 → n * 16777216 * 2 ≤ r * d * 2 + d → 0 < r
 not-none zero d n N l h = absurd (omega arith)
@@ -155,7 +125,7 @@ module _ (n d : ℕ) (N : 0 < n) (h : n < d) (l : d ≤ n * 2) where
       }
 
   upper-part : Quotient n d
-  upper-part = let m = round-multiple binary32 n d 125 (lit< tt) some-d (half-units (2 ^ 148) n d l) in upper-by (m .0) (m .1)
+  upper-part = let m = round-multiple binary32 n d 125 some-d (half-units (2 ^ 148) n d l) in upper-by (m .0) (m .1)
 
 -- what is to be shown of the float x
 record Shown (x : Float) (d n : ℕ) : Type 0 where
@@ -186,11 +156,7 @@ unscaled p e a b P h =
     let x = mul-right-comm a p 2 in
     let y = mul-right-comm b p 2 in
     let z = mul-comm p e in
-    let v0 = add-mul (b * 2) e p in
-    let v1 = add-mul (a * 2) e p in
-    let a0 : a * 2 * p ≤ (b * 2 + e) * p = omega (arith, h .0) in
-    let a1 : b * 2 * p ≤ (a * 2 + e) * p = omega (arith, h .1) in
-    (le-of-mul-le-mul-right a0 P, le-of-mul-le-mul-right a1 P)
+    near-cancel p e (a * 2) (b * 2) P (omega (arith, h .0), omega (arith, h .1))
 
 module _ (n d : ℕ) (N : 0 < n) (h : n * 2 < d) (l : d ≤ 16777216) where
   positive-d : 0 < d
@@ -246,7 +212,7 @@ module _ (n d : ℕ) (N : 0 < n) (h : n * 2 < d) (l : d ≤ 16777216) where
     }
 
     lower-w : Shown (sub binary32 (whole 1) (round binary32 false n d)) d n
-    lower-w = let m = round-multiple binary32 (2 ^ 149 - w) (2 ^ 149) 125 (lit< tt) (pow-pos 149) above-half in lower-by (m .0) (m .1)
+    lower-w = let m = round-multiple binary32 (2 ^ 149 - w) (2 ^ 149) 125 (pow-pos 149) above-half in lower-by (m .0) (m .1)
 
   below-half-shown : Shown (sub binary32 (whole 1) (round binary32 false n d)) d n
   below-half-shown = lower-w (grid binary32 n d) refl

@@ -9,16 +9,16 @@ use lib.Ieee.Exact.{HasValue}
 use Rattle.metrics.specs.declared.Sim.the-variants.{Value}
 use Rattle.metrics.specs.Similarity.{sumD, sumN, seqsimOf}
 
--- x times 16,777,216 is the whole number s
+-- x times 16,777,216 is the whole number S
 abbrev pub Times : Float → ℕ → Type 0
-Times x s = HasValue x false s 16777216
+Times x S = HasValue x false S 16777216
 
--- |s × d − (d − n) × 16,777,216|
+-- |S × d − (d − n) × 16,777,216|
 abbrev pub off : ℕ → ℕ → ℕ → ℕ
-off s d n = natAbs (pos s *ℤ pos d -ℤ (pos d -ℤ pos n) *ℤ pos 16777216)
+off S d n = natAbs (pos S *ℤ pos d -ℤ (pos d -ℤ pos n) *ℤ pos 16777216)
 
--- "With d above zero, seqsim times 16,777,216 is a whole number S, and |S × d − (d − n) × 16,777,216| is at most d, for every accepted pair of rows with its n and d"
+-- with d above zero, seqsim times 16,777,216 is a whole number S, and |S × d − (d − n) × 16,777,216| is at most d, for every accepted pair of rows with its n and d
 unfoldable pub SeqsimError : Type 0
 SeqsimError =
     (a b : List ℤ) (minkfreq : ℕ) (x : Float) → seqsimOf a b minkfreq ≡ Value x → 0 < sumD minkfreq a b
-    → (s : ℕ) × Times x s × (off s (sumD minkfreq a b) (sumN minkfreq a b) ≤ sumD minkfreq a b)
+    → (S : ℕ) × Times x S × (off S (sumD minkfreq a b) (sumN minkfreq a b) ≤ sumD minkfreq a b)
