@@ -5,19 +5,21 @@
 use mathlib.Core.Path.{_≡_, refl, sym, ap, _∙_, subst}
 use mathlib.Core.Bool.{Bool, true, false, not, cond}
 use mathlib.Core.Logic.{⊎-elim}
+use mathlib.Core.List.{[], _∷_}
 use Prim.Native.Nat.{ℕ, zero, suc, _+_, _-_, _*_, _^_, _≤_, _<_}
-use native.Mathlib.Nat.{mul-assoc, mul-comm, mul-left-comm, mul-right-comm, mul-le-mul-right, le-of-mul-le-mul-right, mul-lt-mul-of-pos-right, eq-or-lt-of-le, le-refl, le-trans, le-of-eq, lt-of-lt-of-le, lt-of-le-of-lt, one-mul, add-mul}
+use native.Mathlib.Nat.{mul-assoc, mul-comm, mul-left-comm, mul-right-comm, mul-le-mul-right, le-of-mul-le-mul-right, mul-lt-mul-of-pos-right, eq-or-lt-of-le, le-refl, le-trans, le-of-eq}
+use native.Mathlib.Nat.{lt-of-lt-of-le, lt-of-le-of-lt, one-mul, add-mul}
 use native.Mathlib.Omega.{arith}
 use lib.Dec.{leb, ltb, eqb, lit≤, lit<}
 use lib.IntN.{ℤ, pos, negsuc, natAbs, _-ℤ_, _*ℤ_}
 use lib.ListN.{length}
 use lib.Pow.{pow-pos}
-use lib.Ieee.{Float, binary32, round, sub, div, ofInt}
+use lib.Ieee.{Float, fin, binary32, round, sub, div, ofInt}
 use lib.Ieee.Exact.{HasValue}
 use lib.Ieee.Scale.{round-same, grid}
 use borrow.Author.Tests.{ltb-true, ltb-false, leb-true, leb-false, eqb-true, eqb-false}
 use Rattle.metrics.specs.declared.Sim.the-variants.{Value, Refused}
-use Rattle.metrics.specs.Similarity.{whole, number, value, magnitudeSum, partD, sumD, sumN, seqsimValue, seqsimOf}
+use Rattle.metrics.specs.Similarity.{whole, number, value, magnitudeSum, sumBy, partD, sumD, sumN, seqsimValue, seqsimOf}
 use Rattle.metrics.specs.SeqsimError.{Times, off, SeqsimError}
 use Rattle.metrics.proofs.Rows.{sum-le, d-le, n-le-d}
 use Rattle.metrics.proofs.ErrorLaws.{Near, near-times, near-cancel, round-near, round-most, round-value, round-multiple, rescaled, whole-value, div-whole, sub-at, sub-exact}
@@ -32,24 +34,22 @@ half-units u n d h = le-trans (le-of-eq (mul-comm u d)) (le-trans (mul-le-mul-ri
 less-half : (u n d : ℕ) → 0 < u → n * 2 < d → n * (u * 2) < u * d
 less-half u n d U h = lt-of-lt-of-le (lt-of-le-of-lt (le-of-eq (sym (mul-assoc n u 2) ∙ mul-right-comm n u 2)) (mul-lt-mul-of-pos-right h U)) (le-of-eq (mul-comm d u))
 
--- s is near (1 − n / d) × 2 ^ 24, times d
-Close : ℕ → ℕ → ℕ → Type 0
-Close s d n = Near d (s * d + 16777216 * n) (16777216 * d)
+back : (p r : ℕ) → r ≤ p → p - r + r ≡ p
+back p r h = omega arith
+
+-- s × d is within three quarters of d of (d − n) × 2 ^ 24; four times both, and n on the other side
+abbrev pub Close : ℕ → ℕ → ℕ → Type 0
+Close s d n = Near (3 * d) (4 * (s * d) + 67108864 * n) (67108864 * d)
 
 -- from 1/2 on: r / 2 ^ 24 is the rounded quotient, and the difference is exact
 exact-close : (r d n : ℕ) → r ≤ 16777216 → Near d (r * d * 2) (n * 16777216 * 2) → Close (16777216 - r) d n
-unfolding Close
 exact-close r d n l h =
     let e : (16777216 - r) * d + r * d ≡ 16777216 * d = sym (add-mul (16777216 - r) r d) ∙ ap (λ (x : ℕ). x * d) (back 16777216 r l) in
     (omega (arith, h .0, h .1, e), omega (arith, h .0, h .1, e))
-  where
-    back : (p r : ℕ) → r ≤ p → p - r + r ≡ p
-    back p r h = omega arith
 
 -- below 1/2: w / (2 ^ 25 × u) is the rounded quotient, s / 2 ^ 24 the rounded difference
 rounded-close : (u w s d n : ℕ) → 0 < u → w ≤ 33554432 * u → Near (d * u) (w * d * 2) (n * (33554432 * u) * 2)
     → Near (2 * u) (s * (2 * u) * 2) ((33554432 * u - w) * 2) → Close s d n
-unfolding Close
 rounded-close u w s d n U l h k =
     let e : s * (2 * u) ≡ 2 * (s * u) = mul-left-comm s 2 u in
     let k' : Near (2 * u) (4 * (s * u) + 2 * w) (67108864 * u) = (omega (arith, k .0), omega (arith, k .1)) in
@@ -58,16 +58,17 @@ rounded-close u w s d n U l h k =
     let t2 : 67108864 * u * d ≡ 67108864 * (d * u) = simp (mul-assoc, mul-comm) in
     let t3 : 2 * u * d ≡ 2 * (d * u) = simp (mul-assoc, mul-comm) in
     let t4 : n * (33554432 * u) * 2 ≡ 67108864 * (n * u) = ap (λ (x : ℕ). x * 2) (mul-left-comm n 33554432 u) ∙ times-two (n * u) in
-    let v1 : (s * d + 16777216 * n) * u ≡ s * d * u + 16777216 * (n * u) = add-mul (s * d) (16777216 * n) u ∙ ap (λ (x : ℕ). s * d * u + x) (mul-assoc 16777216 n u) in
-    let v2 : 16777216 * d * u ≡ 16777216 * (d * u) = mul-assoc 16777216 d u in
-    near-cancel u d (s * d + 16777216 * n) (16777216 * d) U (omega (arith, h .0, h .1, m .0, m .1), omega (arith, h .0, h .1, m .0, m .1))
+    let v1 : (4 * (s * d) + 67108864 * n) * u ≡ 4 * (s * d * u) + 67108864 * (n * u) = add-mul (4 * (s * d)) (67108864 * n) u ∙ simp (mul-assoc) in
+    let v2 : 67108864 * d * u ≡ 67108864 * (d * u) = mul-assoc 67108864 d u in
+    let v3 : 3 * d * u ≡ 3 * (d * u) = mul-assoc 3 d u in
+    near-cancel u (3 * d) (4 * (s * d) + 67108864 * n) (67108864 * d) U (omega (arith, h .0, h .1, m .0, m .1), omega (arith, h .0, h .1, m .0, m .1))
   where
     times-two : (x : ℕ) → 33554432 * x * 2 ≡ 67108864 * x
     times-two x = omega arith
 
 -- ---- the two operations. 2 ^ 149 smallest values are 1, so 2 ^ 125 of them are 1 / 2 ^ 24
-in-24ths : (x : Float) (s : ℕ) → HasValue x false (s * 2 ^ 125) (2 ^ 149) → Times x s
-in-24ths x s v = rescaled x false (s * 2 ^ 125) (2 ^ 149) s 16777216 (pow-pos 149) (mul-assoc s (2 ^ 125) 16777216) v
+in-units : (x : Float) (s : ℕ) → HasValue x false (s * 2 ^ 125) (2 ^ 149) → Times x s
+in-units x s v = rescaled x false (s * 2 ^ 125) (2 ^ 149) s 16777216 (pow-pos 149) (mul-assoc s (2 ^ 125) 16777216) v
 
 one-value : HasValue (whole 1) false (2 ^ 149) (2 ^ 149)
 one-value = rescaled (whole 1) false 1 1 (2 ^ 149) (2 ^ 149) (pow-pos 0) (mul-comm 1 (2 ^ 149)) (whole-value 1 (lit≤ tt))
@@ -127,18 +128,22 @@ module _ (n d : ℕ) (N : 0 < n) (h : n < d) (l : d ≤ n * 2) where
   upper-part : Quotient n d
   upper-part = let m = round-multiple binary32 n d 125 some-d (half-units (2 ^ 148) n d l) in upper-by (m .0) (m .1)
 
--- what is to be shown of the float x
-record Shown (x : Float) (d n : ℕ) : Type 0 where
-  s : ℕ
-  times : Times x s
-  close : Close s d n
+-- 1 − n / d, rounded after the division and after the subtraction
+abbrev complement : ℕ → ℕ → Float
+complement n d = sub binary32 (whole 1) (round binary32 false n d)
+
+-- what is shown of the float x: more than the statement asks
+pub record Shown (x : Float) (d n : ℕ) : Type 0 where
+  pub s : ℕ
+  pub times : Times x s
+  pub close : Close s d n
 
 -- from 1/2 on the difference is exact
-from-half : (n d : ℕ) → Quotient n d → Shown (sub binary32 (whole 1) (round binary32 false n d)) d n
+from-half : (n d : ℕ) → Quotient n d → Shown (complement n d) d n
 from-half n d q = record {
   s = 16777216 - q .r;
   times =
-      in-24ths (sub binary32 (whole 1) (round binary32 false n d)) (16777216 - q .r)
+      in-units (complement n d) (16777216 - q .r)
       (sub-exact binary32 (whole 1) (round binary32 false n d) 16777216 (q .r) 125 (q .most) (omega (arith, q .some)) (lit< tt) one-value (q .is));
   close = exact-close (q .r) d n (q .most) (q .close);
 }
@@ -181,11 +186,11 @@ module _ (n d : ℕ) (N : 0 < n) (h : n * 2 < d) (l : d ≤ 16777216) where
     within-one : w ≤ 2 ^ 149
     within-one = le-trans most-w (lit≤ tt)
 
-    difference : sub binary32 (whole 1) (round binary32 false n d) ≡ round binary32 false (2 ^ 149 - w) (2 ^ 149)
+    difference : complement n d ≡ round binary32 false (2 ^ 149 - w) (2 ^ 149)
     difference = sub-at binary32 (2 ^ 149) w (2 ^ 149) (pow-pos 149) within-one (whole 1) (round binary32 false n d) one-value value-w
 
-    below-1 : (2 ^ 149 - w) * 2 ^ 149 < 2 ^ 149 * 2 ^ 149
-    below-1 = mul-lt-mul-of-pos-right (less (2 ^ 149) w some-w within-one) (pow-pos 149)
+    below-unit : (2 ^ 149 - w) * 2 ^ 149 < 2 ^ 149 * 2 ^ 149
+    below-unit = mul-lt-mul-of-pos-right (less (2 ^ 149) w some-w within-one) (pow-pos 149)
       where
         less : (p w : ℕ) → 0 < w → w ≤ p → p - w < p
         less p w a b = omega arith
@@ -196,37 +201,37 @@ module _ (n d : ℕ) (N : 0 < n) (h : n * 2 < d) (l : d ≤ 16777216) where
         rest : (p w : ℕ) → w ≤ p → p ≤ p * 2 - w
         rest p w a = omega arith
 
-    lower-by : (s : ℕ) → grid binary32 (2 ^ 149 - w) (2 ^ 149) ≡ s * 2 ^ 125 → Shown (sub binary32 (whole 1) (round binary32 false n d)) d n
+    lower-by : (s : ℕ) → grid binary32 (2 ^ 149 - w) (2 ^ 149) ≡ s * 2 ^ 125 → Shown (complement n d) d n
     lower-by s g = record {
       s = s;
       times =
-          in-24ths (sub binary32 (whole 1) (round binary32 false n d)) s
+          in-units (complement n d) s
           (subst (λ (z : Float). HasValue z false (s * 2 ^ 125) (2 ^ 149)) (sym difference)
           (subst (λ (z : ℕ). HasValue (round binary32 false (2 ^ 149 - w) (2 ^ 149)) false z (2 ^ 149)) g
-          (round-value binary32 (2 ^ 149 - w) (2 ^ 149) 125 (pow-pos 149) below-1 (lit< tt))));
+          (round-value binary32 (2 ^ 149 - w) (2 ^ 149) 125 (pow-pos 149) below-unit (lit< tt))));
       close =
           rounded-close (2 ^ 124) w s d n (pow-pos 124) within-one near-w
           (unscaled (2 ^ 149) (2 ^ 125) (s * 2 ^ 125) (2 ^ 149 - w) (pow-pos 149)
           (subst (λ (z : ℕ). Near (2 ^ 149 * 2 ^ 125) (z * 2 ^ 149 * 2) ((2 ^ 149 - w) * 2 ^ 149 * 2)) g
-          (round-near binary32 (2 ^ 149 - w) (2 ^ 149) 125 (pow-pos 149) below-1)));
+          (round-near binary32 (2 ^ 149 - w) (2 ^ 149) 125 (pow-pos 149) below-unit)));
     }
 
-    lower-w : Shown (sub binary32 (whole 1) (round binary32 false n d)) d n
+    lower-w : Shown (complement n d) d n
     lower-w = let m = round-multiple binary32 (2 ^ 149 - w) (2 ^ 149) 125 (pow-pos 149) above-half in lower-by (m .0) (m .1)
 
-  below-half-shown : Shown (sub binary32 (whole 1) (round binary32 false n d)) d n
+  below-half-shown : Shown (complement n d) d n
   below-half-shown = lower-w (grid binary32 n d) refl
 
 -- ---- every n and d
-both-rounded : (n d : ℕ) → 0 < n → n ≤ d → d ≤ 16777216 → Shown (sub binary32 (whole 1) (round binary32 false n d)) d n
+both-rounded : (n d : ℕ) → 0 < n → n ≤ d → d ≤ 16777216 → Shown (complement n d) d n
 both-rounded n d N h l =
     ⊎-elim (λ e. from-half n d (equal-parts n d (omega arith) e)) (λ less. go less (leb d (n * 2)) refl) (eq-or-lt-of-le h)
   where
-    go : n < d → (t : Bool) → leb d (n * 2) ≡ t → Shown (sub binary32 (whole 1) (round binary32 false n d)) d n
+    go : n < d → (t : Bool) → leb d (n * 2) ≡ t → Shown (complement n d) d n
     go less true e = from-half n d (upper-part n d N less (leb-true d (n * 2) e))
     go less false e = below-half-shown n d N (leb-false d (n * 2) e) l
 
-value-shown : (d n : ℕ) → 0 < d → n ≤ d → d ≤ 16777216 → Shown (seqsimValue d n) d n
+pub value-shown : (d n : ℕ) → 0 < d → n ≤ d → d ≤ 16777216 → Shown (seqsimValue d n) d n
 value-shown d n D h l = go (eqb d 0) (eqb n 0) refl refl
   where
     go : (td tn : Bool) → eqb d 0 ≡ td → eqb n 0 ≡ tn
@@ -234,7 +239,7 @@ value-shown d n D h l = go (eqb d 0) (eqb n 0) refl refl
     go true tn zd zn = absurd (omega (arith, eqb-true d 0 zd))
     go false true zd zn =
         let z = eqb-true n 0 zn in
-        record { s = 16777216; times = in-24ths (whole 1) 16777216 one-value; close = unfold Close in (omega arith, omega arith) }
+        record { s = 16777216; times = in-units (whole 1) 16777216 one-value; close = (omega arith, omega arith) }
     go false false zd zn =
         let N : 0 < n = omega (arith, eqb-false n 0 zn) in
         subst (λ (y : Float). Shown (sub binary32 (whole 1) y) d n) (sym (div-whole n d N D (omega arith) l)) (both-rounded n d N h l)
@@ -267,14 +272,10 @@ whole-minus d zero h = let e : d + 0 ≡ d - 0 = omega arith in ap pos e
 whole-minus d (suc n) h = taken-by (ltb d (suc n)) d (suc n) refl h
 
 close-off : (s d n : ℕ) → n ≤ d → Close s d n → off s d n ≤ d
-unfolding Close
 close-off s d n h k =
     let e : (d - n) * 16777216 + n * 16777216 ≡ d * 16777216 = sym (add-mul (d - n) n 16777216) ∙ ap (λ (x : ℕ). x * 16777216) (back d n h) in
     subst (λ (z : ℤ). natAbs (pos s *ℤ pos d -ℤ z *ℤ pos 16777216) ≤ d) (sym (whole-minus d n h))
     (near-apart (s * d) ((d - n) * 16777216) d (omega (arith, k .0, k .1, e), omega (arith, k .0, k .1, e)))
-  where
-    back : (p r : ℕ) → r ≤ p → p - r + r ≡ p
-    back p r h = omega arith
 
 pub seqsim-error : SeqsimError
 unfolding SeqsimError seqsimOf
@@ -287,3 +288,12 @@ seqsim-error a b m x e some =
     omega (arith, sum-le (partD m) (d-le m) a b, ltb-false 8388608 (magnitudeSum a) (w .0), ltb-false 8388608 (magnitudeSum b) (w .1)) in
     let v = value-shown d n some (n-le-d m a b) l in
     (v .s, subst (λ (y : Float). Times y (v .s)) (w .2) (v .times), close-off (v .s) d n (n-le-d m a b) (v .close))
+
+-- ---- two pairs of rows that come near three quarters of d (docs/PROOFS.md), computed: S is 8 × 1,143,901, and 4 × 2,306,867
+near-by-few : seqsimOf (pos 8 ∷ []) (pos 3 ∷ []) 1 ≡ Value (fin false 1143901 (negsuc 20))
+unfolding seqsimOf sumBy magnitudeSum sub div ofInt round
+near-by-few = refl
+
+nearest-of-all : seqsimOf (pos 4613733 ∷ pos 3774873 ∷ pos 0 ∷ []) (pos 4613733 ∷ pos 0 ∷ pos 3774872 ∷ []) 1 ≡ Value (fin false 2306867 (negsuc 21))
+unfolding seqsimOf sumBy magnitudeSum sub div ofInt round
+nearest-of-all = refl
