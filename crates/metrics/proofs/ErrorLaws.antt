@@ -6,16 +6,15 @@
 use mathlib.Core.Path.{_≡_, refl, sym, ap, _∙_, subst}
 use mathlib.Core.Bool.{Bool, true, false, not, true≢false}
 use Prim.Native.Nat.{ℕ, zero, suc, _+_, _-_, _*_, _/_, _%_, _^_, _≤_, _<_, compare, Ordering, Ordering·lt, Ordering·eq, Ordering·gt}
-use native.Mathlib.Nat.{mul-assoc, mul-comm, mul-left-comm, mul-right-comm, mul-sub, add-mul, one-mul, mul-le-mul, mul-le-mul-right, le-of-mul-le-mul-right, eq-of-mul-eq-mul-right, mul-pos}
+use native.Mathlib.Nat.{mul-assoc, mul-comm, mul-left-comm, mul-right-comm, mul-sub, add-mul, one-mul, mul-le-mul, mul-le-mul-right, le-of-mul-le-mul-right, eq-of-mul-eq-mul-left, mul-pos}
 use native.Mathlib.Nat.{le-refl, le-trans, le-of-eq, le-of-lt, lt-irrefl, lt-of-le-of-lt, lt-of-lt-of-le, lt-of-not-le, div-add-mod', mod-lt, div-lt-iff-lt-mul, le-div-iff-mul-le}
-use native.Mathlib.Nat.{div-div-eq-div-mul}
 use native.Mathlib.Omega.{arith}
 use lib.Dec.{T, isLe, isEq, ltb, eqb, leb→le, nleb→lt, eqb→eq, ltb→lt}
 use lib.Pow.{pow-add, pow-pos, pow-mono, pow-lt, shl-lt}
 use borrow.Author.Tests.{ne-eqb, le-ltb}
 use lib.Ieee.{Float, nan, inf, fin, Format, binary32, prec, emax, low, up, down, size, nearest, round, sum, sub, div, ofInt}
 use lib.Ieee.Digits.{size-lt, size-le}
-use lib.Ieee.Fits.{down-pos, nearest-le, kept-lt, two, two-le-pos}
+use lib.Ieee.Fits.{down-pos, nearest-le, two, two-le-pos}
 use lib.Ieee.Exact.{HasValue, round-exact}
 use lib.Ieee.Back.{round-whole}
 use lib.Ieee.Nearest.{closest}
@@ -53,10 +52,18 @@ closest-near a b B =
     (nearest-near (compare (a % b * 2) b) (a / b) (a % b) b (mod-lt a B) (leb→le (a % b * 2) b) (nleb→lt (a % b * 2) b) (eqb→eq (a % b * 2) b))
 
 -- ---- the rounding of a / c, which lies below 2 ^ (prec + j) of the format's smallest values
-kept-most : (p n c : ℕ) → kept p n c ≤ 2 ^ p
-kept-most p n c =
-    let u = c * 2 ^ drop p n c in
-    le-trans (nearest-le (n / u) (compare (n % u * 2) u)) (subst (λ (x : ℕ). x < 2 ^ p) (div-div-eq-div-mul n c (2 ^ drop p n c)) (kept-lt p (n / c)))
+enough : (z p : ℕ) → z ≤ p + (z - p)
+enough z p = omega arith
+
+-- the whole part of n / c has p digits and those dropped, so what is kept is at most 2 ^ p
+kept-most : (p n c : ℕ) → 0 < c → kept p n c ≤ 2 ^ p
+kept-most p n c C =
+    let k = drop p n c in
+    let u = c * 2 ^ k in
+    let far : n / c < 2 ^ (p + k) = lt-of-lt-of-le (size-lt (n / c)) (pow-mono (enough (size (n / c)) p)) in
+    let e : 2 ^ (p + k) * c ≡ 2 ^ p * u = rw (pow-add 2 p k) (simp (mul-assoc, mul-comm, mul-left-comm)) in
+    let low : n < 2 ^ p * u = lt-of-lt-of-le (div-lt-iff-lt-mul C .0 far) (le-of-eq e) in
+    le-trans (nearest-le (n / u) (compare (n % u * 2) u)) (div-lt-iff-lt-mul (mul-pos C (pow-pos k)) .1 low)
 
 spare : (z p j : ℕ) → z ≤ p + j → z - p ≤ j
 spare z p j h = omega arith
@@ -77,7 +84,7 @@ module _ (f : Format) (a c j : ℕ) (C : 0 < c) (below : a * 2 ^ low f < 2 ^ (pr
 
   -- and it stays within 2 ^ (prec + j)
   pub round-most : grid f a c ≤ 2 ^ (prec f + j)
-  round-most = le-trans (mul-le-mul (kept-most (prec f) (a * 2 ^ low f) c) (pow-mono dropped)) (le-of-eq (sym (pow-add 2 (prec f) j)))
+  round-most = le-trans (mul-le-mul (kept-most (prec f) (a * 2 ^ low f) c C) (pow-mono dropped)) (le-of-eq (sym (pow-add 2 (prec f) j)))
 
   -- so where that is in the format's range, it is the value of the rounded fraction
   pub round-value : prec f + j < low f + suc (emax f) → HasValue (round f false a c) false (grid f a c) (2 ^ low f)
@@ -103,18 +110,18 @@ round-multiple f a c j C h =
     (kept (prec f) n c * 2 ^ (k - j), regroup (kept (prec f) n c) k j l)
 
 -- ---- the exact value of a float, written with another fraction
+other-fraction : (x a b c d g : ℕ) → x * c ≡ a * g → a * d ≡ b * c → c * (x * d) ≡ c * (b * g)
+other-fraction x a b c d g v h =
+    let l : c * (x * d) ≡ d * (x * c) = simp (mul-comm, mul-left-comm) in
+    let m : d * (a * g) ≡ g * (a * d) = simp (mul-comm, mul-left-comm) in
+    let r : g * (b * c) ≡ c * (b * g) = simp (mul-comm, mul-left-comm) in
+    l ∙ ap (λ (z : ℕ). d * z) v ∙ m ∙ ap (λ (z : ℕ). g * z) h ∙ r
+
 pub rescaled : (x : Float) (s : Bool) (a c b d : ℕ) → 0 < c → a * d ≡ b * c → HasValue x s a c → HasValue x s b d
 rescaled nan s a c b d C h v = v
 rescaled (inf t) s a c b d C h v = v
-rescaled (fin t m e) s a c b d C h v = (
-  v .0,
-  eq-of-mul-eq-mul-right c C (m * up e * d) (b * down e)
-      (mul-right-comm (m * up e) d c
-      ∙ ap (λ (x : ℕ). x * d) (v .1)
-      ∙ mul-right-comm a (down e) d
-      ∙ ap (λ (x : ℕ). x * down e) h
-      ∙ mul-right-comm b c (down e)),
-)
+rescaled (fin t m e) s a c b d C h v =
+    (v .0, eq-of-mul-eq-mul-left c C (m * up e * d) (b * down e) (other-fraction (m * up e) a b c d (down e) (v .1) h))
 
 pub whole-value : (n : ℕ) → n ≤ 16777216 → HasValue (whole n) false n 1
 unfolding ofInt
