@@ -1,16 +1,17 @@
 -- The node at which an entry's chain ends, by its last row; and what the loop that queues a chain's extensions knows of a row that extends it: the longer
--- chain's size is small, its distance is what the key holds, and its link and key stand behind the others. Assumes nothing.
+-- chain's size is small, its distance is what the key holds, its link stands behind the others, and its key is put to the others. Assumes nothing.
 use mathlib.Core.Path.{_≡_, refl, sym, ap, _∙_}
 use Prim.Native.Nat.{ℕ, zero, suc, _+_, _-_, _*_, _≤_, _<_}
 use native.Mathlib.Omega.{arith}
 use native.Mathlib.Numerals.{add-one}
 use mathlib.Core.Bool.{Bool, true}
-use mathlib.Core.List.{List, [], _∷_, reverse, reverse-cons}
+use mathlib.Core.List.{List, [], _∷_, _++_, reverse, reverse-cons}
 use lib.IntN.{ℤ, pos, natAbs, _+ℤ_, _-ℤ_}
-use lib.ListN.{length, getD, set, length-append}
+use lib.ListN.{length, getD, set, take, length-append}
 use mir.Syntax.{w32}
 use mir.Val.{toZ, ofZ, SFits}
 use Rattle.paths.specs.Chains.{firstAfter, extends, isChain}
+use Rattle.paths.specs.Heap.{Heap}
 use Rattle.paths.specs.Queue.{chainAt, keyOf}
 use Rattle.paths.proofs.TableLaws.{chain-root, chain-link}
 use Rattle.paths.proofs.QueueLaws.{chain-end, chain-length, chain-longer, Queueing, queueing-more}
@@ -43,7 +44,7 @@ module _ {plan : Plan} {together : List Bool} {sizes : List ℤ} {links keys : L
   follows = followsBy plan together
 
   chained : isChain follows (length sizes) chain ≡ true
-  chained = h .queue .chains entry (h .entry-in)
+  chained = h .tree .chains entry (h .entry-in)
 
   pub end-in : end ≤ 64
   end-in = omega (arith, h .end-is, chain-end follows (length sizes) chain chained, h .sized .few)
@@ -85,18 +86,19 @@ module _ {plan : Plan} {together : List Bool} {sizes : List ℤ} {links keys : L
     unfolding distanceTo
     key-is m q = rw (← sum r, ← sum-back) (rw (back (plan .target) (omega (arith, h .target-small))) at q)
 
-  -- a turn of the loop whose row extends the chain: its link and its key stand behind the others
-  pub queueing-row : (links′ : List ℕ) {keys′ : List ℕ} {added r k : ℕ}
+  -- a turn of the loop whose row extends the chain: its link stands behind the others, and its key is put to the others
+  pub queueing-row : (links′ : List ℕ) {keys′ : List ℕ} {added r k : ℕ} {keys″ : List ℕ}
       → Queueing (followsBy plan together) (length sizes) (distanceTo sizes (plan .target)) used queued entry (parentsOf links) (lastsOf links) keys (parentsOf links′) (lastsOf links′) keys′ added r
       → length links′ ≡ length links → length keys′ ≡ length keys → 0 < r → extends (followsBy plan together) (chainOf links entry) (r - 1) ≡ true
       → k ≡ keyOf (natAbs (toZ w32 (ofZ w32 (toZ w32 (ofZ w32 size) +ℤ toZ w32 (ofZ w32 (getD sizes (r - 1) (pos 0))))) -ℤ toZ w32 (ofZ w32 (plan .target)))) (used + added)
+      → Heap keys″ (queued + added + 1) (take (queued + added) keys′ ++ (k ∷ []))
       → Queueing (followsBy plan together) (length sizes) (distanceTo sizes (plan .target)) used queued entry (parentsOf links) (lastsOf links) keys
-      (parentsOf (set links′ (used + added) (entry * 64 + (r - 1)))) (lastsOf (set links′ (used + added) (entry * 64 + (r - 1)))) (set keys′ (queued + added) k) (added + 1) (r - 1)
-  queueing-row links′ {added = added} {r = r} {k = k} q el ek p e key =
+      (parentsOf (set links′ (used + added) (entry * 64 + (r - 1)))) (lastsOf (set links′ (used + added) (entry * 64 + (r - 1)))) keys″ (added + 1) (r - 1)
+  queueing-row links′ {added = added} {r = r} {k = k} q el ek p e key put =
       let row : r - 1 < 64 = omega (arith, q .most, h .sized .few) in
       rw (parents-store links′ (used + added) entry (r - 1) row, lasts-store links′ (used + added) entry (r - 1) row)
       (queueing-more q p e (h .entry-in) (omega (arith, parents-length links′, h .link-room, q .most)) (omega (arith, lasts-length links′, h .link-room, q .most))
-      (omega (arith, h .key-room, q .most)) (h .few-entries) k (key-is (omega (arith, q .most)) e (used + added) key))
+      (omega (arith, h .key-room, q .most)) (h .few-entries) k (key-is (omega (arith, q .most)) e (used + added) key) put)
 
 pub end-later : (e r : ℕ) {x : ℕ} → (e ≡ 0 → ⊥) → x ≡ r + 1 → x ≡ endAt e r
 end-later zero r h k = absurd (h refl)

@@ -19,7 +19,7 @@ pub mod AttemptLaws
 pub mod ChainScoreLaws
 pub mod AnchorLaws
 pub mod ScoreFloorLaws
-mod ScanLaws
+mod ApartLaws
 mod ExtensionLaws
 mod WeighLaws
 mod StepLaws

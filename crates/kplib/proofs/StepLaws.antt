@@ -8,16 +8,16 @@ use mathlib.Core.Bool.{Bool, true, false, cond}
 use mathlib.Core.List.{List, [], _∷_, reverse, reverse-cons}
 use lib.Dec.{eqb}
 use lib.IntN.{ℤ, pos, natAbs, _-ℤ_}
-use lib.ListN.{length, getD, set, take}
-use lib.Seq.{length-take-le}
+use lib.ListN.{length, getD, set}
 use lib.Ieee.{le}
 use borrow.Author.Tests.{eq-eqb, ne-eqb}
 use mir.Syntax.{w32}
 use mir.Val.{toZ, ofZ}
 use Rattle.paths.specs.Chains.{isChain}
-use Rattle.paths.specs.Queue.{keyOf, Walk, Taken, Queued, Ended}
+use Rattle.paths.specs.Heap.{Taken}
+use Rattle.paths.specs.Queue.{keyOf, entryOf, Walk, Queued, Ended}
 use Rattle.paths.proofs.QueueLaws.{all-append, chain-parts, chain-end, chain-length}
-use Rattle.paths.proofs.RunLaws.{taken-in, taken-queue, begin, step-on, end-empty, end-steps}
+use Rattle.paths.proofs.RunLaws.{taken-in, begin, step-on, end-empty, end-steps}
 use Rattle.kplib.specs.Sums.{sizeFrom, sizeOf}
 use Rattle.kplib.specs.Scoring.{AllBelow}
 use Rattle.kplib.specs.Search.{distanceTo, resultWith, startResult, noLower}
@@ -54,7 +54,7 @@ module _ {q : Told} {room : ℕ} {links keys : List ℕ} {at : Progress} (h : Se
   used-low = omega (arith, g .run .room, mul-le-mul-right (length (q .sizes)) (g .run .below))
 
   good : (e : ℕ) → e < at .used → isChain (followsTold q) (length (q .sizes)) (chainOf links e) ≡ true
-  good e l = g .run .queue .chains e l
+  good e l = g .run .queue .tree .chains e l
 
   short : (e : ℕ) → e < at .used → length (chainOf links e) ≤ length (q .sizes)
   short e l =
@@ -67,7 +67,7 @@ module _ {q : Told} {room : ℕ} {links keys : List ℕ} {at : Progress} (h : Se
   walk-at e l = record {
     parent-room = omega (arith, entry-room e l, parents-length links);
     row-room = omega (arith, entry-room e l, lasts-length links);
-    links = λ i p k. g .run .queue .links i p (omega arith);
+    links = λ i p k. g .run .queue .tree .links i p (omega arith);
     fits = omega (arith, short e l, few);
   }
 
@@ -91,14 +91,15 @@ module _ {q : Told} {room : ℕ} {links keys : List ℕ} {at : Progress} (h : Se
       omega (arith, mul-le-mul-right (length (q .sizes)) m, few)
 
   key-count : at .queued + at .count ≡ at .used
-  key-count = omega (arith, g .run .all, length-take-le (at .queued) keys (g .queued-in))
+  key-count = omega (arith, g .run .all, g .heap .many)
 
   pub counts-small : (at .used ≤ 1048576) × (at .queued ≤ 1048576) × (at .count ≤ 4096)
   counts-small = (omega (arith, used-low, all-few), omega (arith, used-low, all-few, key-count), omega (arith, g .run .below, h .maxpaths))
 
-  module _ {keys' : List ℕ} {e : ℕ} (l : length keys' ≡ length keys) (some : 0 < at .queued) (less : at .count < q .plan .s .maxpaths + 1) (k : Taken keys (at .queued) keys' e) where
+  module _ {keys' : List ℕ} {e : ℕ} (l : length keys' ≡ length keys) (some : 0 < at .queued) (less : at .count < q .plan .s .maxpaths + 1)
+      (k : (e ≡ entryOf (getD keys 0 0)) × Taken keys (at .queued) keys') where
     pub entry-in : e < at .used
-    entry-in = taken-in (g .run) (g .queued-in) k
+    entry-in = taken-in (g .run) (g .heap) (g .queued-in) some (k .1) (k .0)
 
     after : at .used + length (q .sizes) ≤ 1 + (q .plan .s .maxpaths + 1) * length (q .sizes)
     after = omega (arith, g .run .room, mul-le-mul-right (length (q .sizes)) less)
@@ -115,14 +116,15 @@ module _ {q : Told} {room : ℕ} {links keys : List ℕ} {at : Progress} (h : Se
       sized = h .sized;
       target-small = h .target-small;
       entry-in = entry-in;
-      end-is = he ∙ end-at (parentsOf links) (lastsOf links) e (λ i p z. g .run .queue .links i p (omega (arith, entry-in)));
+      end-is = he ∙ end-at (parentsOf links) (lastsOf links) e (λ i p z. g .run .queue .tree .links i p (omega (arith, entry-in)));
       size-is = size-back hs ∙ hs;
-      queue = taken-queue (g .run) (g .queued-in) k;
+      tree = g .run .queue .tree;
+      order = k .1 .order;
     }
 
     module _ (links' keys'' : List ℕ) {added : ℕ} {w : Weighed} {to : Progress}
-        (p : Queued (followsTold q) (length (q .sizes)) (distanceTold q) (parentsOf links) (lastsOf links) (take (at .queued - 1) keys') (at .used) e
-        (parentsOf links') (lastsOf links') (take (at .queued - 1 + added) keys'') added)
+        (p : Queued (followsTold q) (length (q .sizes)) (distanceTold q) (parentsOf links) (lastsOf links) keys' (at .queued - 1) (at .used) e
+        (parentsOf links') (lastsOf links') keys'' added)
         (within : at .queued - 1 + added ≤ length keys'')
         (hw : WeighedAs (q .plan) (q .sizes) (q .features) (q .partFeatures) (q .codes) (q .listSizes) (reverse (chainOf links e)) w)
         (hr : to ≡ advanced at e (w .scored) added) where
@@ -139,10 +141,13 @@ module _ {q : Told} {room : ℕ} {links keys : List ℕ} {at : Progress} (h : Se
           let same : resultWith (reverse (chainOf links' (r .entry))) (r .scored)
           ≡ cond (noLower (bestAt links at) (resultTold q (chainOf links e))) (resultTold q (chainOf links e)) (bestAt links at) =
           rw (p .kept (r .entry) in-old, result-is) (later-result r (at .best) x b (λ i. chainOf links i) hr) in
+          let next = step-on (g .run) (g .heap) (g .queued-in) some (k .1) (k .0) l less p in
           record {
             best-in = omega (arith, in-old);
             queued-in = within;
-            run = rw same (step-on (g .run) (g .queued-in) k less p);
+            waiting = next .0;
+            heap = next .1;
+            run = rw same (next .2);
           }
 
       pub gone-on : (Going q links' keys'' to) × (to .count ≡ at .count + 1)
@@ -163,11 +168,11 @@ module _ {q : Told} {room : ℕ} {links keys : List ℕ} {at : Progress} (h : Se
 
   -- none is queued
   pub gone-empty : at .queued ≡ 0 → Gone q links at
-  gone-empty z = ends true (eq-eqb (at .queued) 0 z) (end-empty (rw z at (g .run)))
+  gone-empty z = ends true (eq-eqb (at .queued) 0 z) (end-empty (g .waiting) (g .run) (g .heap .many ∙ z))
 
   -- all steps are made
   pub gone-steps : (at .queued ≡ 0 → ⊥) → at .count ≡ q .plan .s .maxpaths + 1 → Gone q links at
-  gone-steps z e = ends false (ne-eqb (at .queued) 0 z) (end-steps (g .run) e (omega (arith, length-take-le (at .queued) keys (g .queued-in))))
+  gone-steps z e = ends false (ne-eqb (at .queued) 0 z) (end-steps (g .run) e (omega (arith, g .heap .many)))
 
 pub pos-of : {n : ℕ} → (n ≡ 0 → ⊥) → 0 < n
 pos-of h = omega arith
@@ -186,5 +191,7 @@ going-first q links [] l hk hx = absurd (omega arith)
 going-first q links (y ∷ keys) l hk hx = rw (hk, hx) (record {
   best-in = omega arith;
   queued-in = omega arith;
+  waiting = keyOf (natAbs (pos 0 -ℤ q .plan .target)) 0 ∷ [];
+  heap = record { order = λ j u v. absurd (omega arith); many = omega arith; same = λ x. refl };
   run = begin noLower startResult (resultTold q) (followsTold q) (length (q .sizes)) (distanceTold q) (q .plan .s .maxpaths + 1) (parentsOf links) (lastsOf links);
 })

@@ -6,10 +6,11 @@ use mathlib.Core.List.{List, map, reverse}
 use lib.Dec.{eqb}
 use lib.Ieee.{le}
 use lib.IntN.{ℤ, natAbs}
-use lib.ListN.{length, take}
+use lib.ListN.{length}
 use Rattle.paths.specs.Chains.{firstAfter}
 use Rattle.paths.specs.Count.{mayFollow}
-use Rattle.paths.specs.Queue.{chainAt, Walk, Queue, Running, Ended}
+use Rattle.paths.specs.Heap.{Ordered, Heap}
+use Rattle.paths.specs.Queue.{chainAt, Walk, Tree, Running, Ended}
 use Rattle.params.specs.Checked.{Flat, Sized, Checked}
 use Rattle.params.specs.Numbers.{Table, Parts}
 use Rattle.kplib.specs.Sums.{sizeOf, featuresOf, totalOf}
@@ -133,7 +134,8 @@ pub record Extending (plan : Plan) (together : List Bool) (sizes : List ℤ) (li
   pub entry-in : entry < used
   pub end-is : end ≡ firstAfter (chainOf links entry)
   pub size-is : size ≡ sizeOf sizes (reverse (chainOf links entry))
-  pub queue : Queue (followsBy plan together) (length sizes) (distanceTo sizes (plan .target)) (parentsOf links) (lastsOf links) (take queued keys) used
+  pub tree : Tree (followsBy plan together) (length sizes) (parentsOf links) (lastsOf links) used
+  pub order : Ordered keys queued
 
 -- an entry whose chain is to be scored
 pub record Weighable (plan : Plan) (sizes features partFeatures : List ℤ) (codes : List ℕ) (listSizes : List ℤ) (links : List ℕ) (entry : ℕ) (scratch : List ℤ) : Type 0 where
@@ -172,11 +174,13 @@ notBegun = record { used = 1; queued = 1; count = 0; best = record { entry = 0; 
 abbrev pub bestAt : List ℕ → Progress → Result
 bestAt links at = resultWith (reverse (chainOf links (at .best .entry))) (at .best .scored)
 
--- where a search stands
+-- where a search stands: `waiting` is the queued keys in the order of queueing
 pub record Going (q : Told) (links keys : List ℕ) (at : Progress) : Type 0 where
   pub best-in : at .best .entry < at .used
   pub queued-in : at .queued ≤ length keys
-  pub run : Running noLower startResult (resultTold q) (followsTold q) (length (q .sizes)) (distanceTold q) (q .plan .s .maxpaths + 1) (parentsOf links) (lastsOf links) (take (at .queued) keys)
+  pub waiting : List ℕ
+  pub heap : Heap keys (at .queued) waiting
+  pub run : Running noLower startResult (resultTold q) (followsTold q) (length (q .sizes)) (distanceTold q) (q .plan .s .maxpaths + 1) (parentsOf links) (lastsOf links) waiting
       (at .used) (at .count) (bestAt links at)
 
 -- the chain of the best can be read back

@@ -1,5 +1,6 @@
 // The search core: part lists, graph, score, search.
 mod haplotype;
+mod heap;
 mod onetoone;
 pub mod pathscore;
 mod plan;

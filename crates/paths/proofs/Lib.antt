@@ -8,6 +8,7 @@ pub mod BestLaws
 pub mod Demand
 pub mod CountLaws
 pub mod TableLaws
+pub mod HeapLaws
 pub mod PickLaws
 pub mod QueueLaws
 pub mod RunLaws

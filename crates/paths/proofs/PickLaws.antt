@@ -1,15 +1,15 @@
 -- The least key names the chain that the step rule picks: the nearest, and the earliest queued among equals.
-use mathlib.Core.Path.{_≡_, refl, sym, ap, _∙_}
-use Prim.Native.Nat.{ℕ, zero, suc, _-_, _≤_, _<_}
+use mathlib.Core.Path.{_≡_, refl, _∙_}
+use Prim.Native.Nat.{ℕ, zero, suc, _≤_, _<_}
 use native.Mathlib.Omega.{arith}
 use mathlib.Core.Bool.{Bool, true, false}
 use mathlib.Core.List.{List, [], _∷_, map}
-use lib.ListN.{length, getD, set, take}
-use lib.Seq.{take-set-lt, getD-take, length-take-le, take-take}
+use lib.ListN.{length, getD}
 use borrow.Author.Tests.{le-leb, lt-leb}
 use Rattle.paths.specs.Search.{before, choose, pick}
 use Rattle.paths.specs.Best.{All}
-use Rattle.paths.specs.Queue.{keyOf, entryOf, without, Rising, Least}
+use Rattle.paths.specs.Queue.{keyOf, entryOf, Rising}
+use Rattle.paths.proofs.HeapLaws.{without}
 
 module _ {A : Type 0} (dist : A → ℕ) (P : A → Type 0) where
   -- what holds of each entry of a queue holds of the one that is picked and of the others
@@ -74,46 +74,3 @@ unfolding without
 rising-without i [] u = tt
 rising-without zero (k ∷ q) u = u .1
 rising-without (suc i) (k ∷ q) u = (all-without (λ j. entryOf k < entryOf j) i q (u .0), rising-without i q (u .1))
-
-pub length-without : {A : Type 0} (i : ℕ) (l : List A) → i < length l → length (without i l) ≡ length l - 1
-unfolding without
-length-without i [] h = absurd (omega arith)
-length-without zero (x ∷ l) h = omega arith
-length-without (suc i) (x ∷ l) h = omega (arith, length-without i l (omega arith))
-
--- what the scan found is the least of the list
-pub least-all : {keys : List ℕ} {n r : ℕ} → n ≤ length keys → Least keys n r → All (λ j. getD (take n keys) r 0 ≤ j) (take n keys)
-least-all {keys} {n} {r} h l =
-    let e : getD (take n keys) r 0 ≡ getD keys r 0 = getD-take n keys r 0 (l .within) in
-    all-from (λ j. getD (take n keys) r 0 ≤ j) 0 (take n keys) (λ i k.
-    let q : i < n = omega (arith, length-take-le n keys h) in
-    omega (arith, e, l .least i q, getD-take n keys i 0 q))
-
--- moving the later keys down by one: the place that is free goes up
-without-shift : (l : List ℕ) (i : ℕ) → suc i < length l → without (suc i) (set l i (getD l (suc i) 0)) ≡ without i l
-unfolding without
-without-shift [] i h = absurd (omega arith)
-without-shift (x ∷ []) i h = absurd (omega arith)
-without-shift (x ∷ (y ∷ l)) zero h = refl
-without-shift (x ∷ (y ∷ l)) (suc i) h = ap (λ (m : List ℕ). x ∷ m) (without-shift (y ∷ l) i (omega arith))
-
-without-last : (l : List ℕ) (i : ℕ) → length l ≡ suc i → without i l ≡ take i l
-unfolding without
-without-last [] i h = absurd (omega arith)
-without-last (x ∷ []) zero h = refl
-without-last (x ∷ (y ∷ l)) zero h = absurd (omega arith)
-without-last (x ∷ l) (suc i) h = ap (λ (m : List ℕ). x ∷ m) (without-last l i (omega arith))
-
--- one key moves down
-pub shift-on : (keys : List ℕ) (n i : ℕ) → 0 < i → i < n → n ≤ length keys → without i (take n (set keys (i - 1) (getD keys i 0))) ≡ without (i - 1) (take n keys)
-shift-on keys n zero p l h = absurd (omega arith)
-shift-on keys n (suc i) p l h =
-    let e : suc i - 1 ≡ i = omega arith in
-    let g : getD keys (suc i) 0 ≡ getD (take n keys) (suc i) 0 = sym (getD-take n keys (suc i) 0 l) in
-    rw (e, take-set-lt n keys i (getD keys (suc i) 0) (omega arith), g) (without-shift (take n keys) i (omega (arith, length-take-le n keys h)))
-
-pub shift-done : (keys : List ℕ) (n : ℕ) → 0 < n → n ≤ length keys → without (n - 1) (take n keys) ≡ take (n - 1) keys
-shift-done keys zero p h = absurd (omega arith)
-shift-done keys (suc n) p h =
-    let e : suc n - 1 ≡ n = omega arith in
-    rw e (without-last (take (suc n) keys) n (length-take-le (suc n) keys h) ∙ take-take n (suc n) keys (omega arith))

@@ -4,16 +4,17 @@ use Prim.Native.Nat.{ℕ, zero, suc, _+_, _-_, _≤_, _<_}
 use native.Mathlib.Omega.{arith}
 use mathlib.Core.Bool.{Bool, true, false, cond}
 use mathlib.Core.List.{List, [], _∷_, _++_, map}
-use lib.ListN.{length, getD, take}
-use lib.Seq.{length-take-le, getD-take}
+use lib.ListN.{length, getD}
 use Rattle.paths.specs.Chains.{extensions}
 use Rattle.paths.specs.Search.{none, pick, after, scored, left}
 use Rattle.paths.specs.Best.{best}
-use Rattle.paths.specs.Queue.{chainAt, keyOf, entryOf, Key, queuedChains, Taken, Queue, Queued, Running, Ended}
+use Rattle.paths.specs.Heap.{Heap, Taken}
+use Rattle.paths.specs.Queue.{chainAt, keyOf, entryOf, Key, queuedChains, Queue, Queued, Running, Ended}
 use Rattle.paths.proofs.BestLaws.{all-map}
 use Rattle.paths.proofs.TableLaws.{chain-root}
-use Rattle.paths.proofs.PickLaws.{all-at, pick-least, least-all, length-without}
-use Rattle.paths.proofs.QueueLaws.{queue-begin, queue-without}
+use Rattle.paths.proofs.HeapLaws.{without, front-stands, front-below, heap-more, heap-less}
+use Rattle.paths.proofs.PickLaws.{all-at, all-from, pick-least}
+use Rattle.paths.proofs.QueueLaws.{queue-begin, queue-without, queue-join, chains-join}
 
 module _ {A : Type 0} (D : A → ℕ) (X : A → List A) where
   one-scored : (f : ℕ) (Q : List A) (x : A) (q : List A) (c : A) (r : List A) → Q ≡ x ∷ q → pick D x q ≡ (c, r) → scored D X (suc f) Q ≡ c ∷ scored D X f (r ++ X c)
@@ -61,9 +62,10 @@ module _ {R : Type 0} (le : R → R → Bool) (start : R) (score : List ℕ → 
 module _ {R : Type 0} {le : R → R → Bool} {start : R} {score : List ℕ → R} {follows : List ℕ → ℕ → Bool} {v : ℕ} {D : List ℕ → ℕ} {steps : ℕ}
     {par row : List ℕ} {n k : ℕ} {b : R} where
   -- nothing is queued
-  pub end-empty : Running le start score follows v D steps par row [] n k b → Ended le start score follows v D steps k b true
+  pub end-empty : (keys : List ℕ) → Running le start score follows v D steps par row keys n k b → length keys ≡ 0 → Ended le start score follows v D steps k b true
   unfolding best
-  end-empty h =
+  end-empty (x ∷ keys) h z = absurd (omega arith)
+  end-empty [] h z =
       let e : scored D (λ c. extensions follows v c) (steps - k) [] ≡ [] = none-scored D (λ c. extensions follows v c) (steps - k) in
       let f : left D (λ c. extensions follows v c) (steps - k) [] ≡ [] = none-left D (λ c. extensions follows v c) (steps - k) in
       record {
@@ -88,55 +90,83 @@ module _ {R : Type 0} {le : R → R → Bool} {start : R} {score : List ℕ → 
       some (x ∷ l) p = refl
 
 module _ {R : Type 0} {le : R → R → Bool} {start : R} {score : List ℕ → R} {follows : List ℕ → ℕ → Bool} {v : ℕ} {D : List ℕ → ℕ} {steps : ℕ}
-    {par row keys : List ℕ} {n k q : ℕ} {b : R} {keys' : List ℕ} {e : ℕ}
-    (h : Running le start score follows v D steps par row (take q keys) n k b) (l : q ≤ length keys) (t : Taken keys q keys' e) where
+    {par row waiting keys : List ℕ} {n k q : ℕ} {b : R} {keys' : List ℕ} {e : ℕ}
+    (h : Running le start score follows v D steps par row waiting n k b) (o : Heap keys q waiting) (l : q ≤ length keys) (some : 0 < q)
+    (t : Taken keys q keys') (names : e ≡ entryOf (getD keys 0 0)) where
+  -- where the front key stands in the order of queueing
+  place : ℕ
+  place = front-stands o l some .0
+
+  in-it : place < length waiting
+  unfolding place
+  in-it = front-stands o l some .1
+
+  front : getD waiting place 0 ≡ getD keys 0 0
+  unfolding place
+  front = front-stands o l some .2
+
   -- the entry that is taken is one of the queue's
   pub taken-in : e < n
   taken-in =
-      let len = length-take-le q keys l in
-      let i = t .place in
-      let w : Key D par row n (getD (take q keys) i 0) = all-at (λ j. Key D par row n j) 0 (take q keys) i (omega (arith, t .at .within)) (h .queue .keyed) in
-      omega (arith, w .within, t .names, getD-take q keys i 0 (t .at .within))
+      let w : Key D par row n (getD waiting place 0) = all-at (λ j. Key D par row n j) 0 waiting place in-it (h .queue .keyed) in
+      omega (arith, w .within, names, ap entryOf front)
 
-  -- the queue without it
-  pub taken-queue : Queue follows v D par row (take (q - 1) keys') n
-  taken-queue = rw (t .rest) (queue-without (t .place) (h .queue))
+  -- the keys that wait then, in the order of queueing
+  rest : List ℕ
+  rest = without place waiting
 
-  picked : (x : List ℕ) × (r : List (List ℕ)) × (queuedChains par row (take q keys) ≡ x ∷ r) × (pick D x r ≡ (chainAt par row e, queuedChains par row (take (q - 1) keys')))
+  picked : (x : List ℕ) × (r : List (List ℕ)) × (queuedChains par row waiting ≡ x ∷ r) × (pick D x r ≡ (chainAt par row e, queuedChains par row rest))
+  unfolding rest
   picked =
-      let len = length-take-le q keys l in
-      let i = t .place in
-      let same : e ≡ entryOf (getD (take q keys) i 0) = t .names ∙ ap entryOf (sym (getD-take q keys i 0 (t .at .within))) in
-      let p = pick-least D (λ j. chainAt par row (entryOf j)) (take q keys) i (omega (arith, t .at .within))
-      (all-map (λ j. Key D par row n j) (λ j. j ≡ keyOf (D (chainAt par row (entryOf j))) (entryOf j)) (λ j w. w .is) (take q keys) (h .queue .keyed)) (h .queue .rising) (least-all l (t .at)) in
-      (p .0, p .1, p .2, rw (same, t .rest) (p .3))
+      let same : entryOf (getD waiting place 0) ≡ e = ap entryOf front ∙ sym names in
+      let p = pick-least D (λ j. chainAt par row (entryOf j)) waiting place in-it
+      (all-map (λ j. Key D par row n j) (λ j. j ≡ keyOf (D (chainAt par row (entryOf j))) (entryOf j)) (λ j w. w .is) waiting (h .queue .keyed)) (h .queue .rising)
+      (all-from (λ j. getD waiting place 0 ≤ j) 0 waiting (λ j w. omega (arith, front, front-below o l t j w))) in
+      (p .0, p .1, p .2, p .3 ∙ ap (λ (i : ℕ). (chainAt par row i, queuedChains par row (without place waiting))) same)
 
-  module _ {par' row' keys'' : List ℕ} {added : ℕ} (less : k < steps) (p : Queued follows v D par row (take (q - 1) keys') n e par' row' keys'' added) where
-    next-scored : scored D (λ c. extensions follows v c) (steps - k) (queuedChains par row (take q keys))
-        ≡ chainAt par row e ∷ scored D (λ c. extensions follows v c) (steps - (k + 1)) (queuedChains par' row' keys'')
+  module _ {par' row' keys'' : List ℕ} {added : ℕ} (kept : length keys' ≡ length keys) (less : k < steps) (p : Queued follows v D par row keys' (q - 1) n e par' row' keys'' added) where
+    next : List ℕ
+    next = rest ++ p .new
+
+    next-queue : Queue follows v D par' row' next (n + added)
+    unfolding next rest
+    next-queue = queue-join (queue-without place (h .queue)) (p .queue) (p .kept) (p .late) (omega arith)
+
+    next-chains : queuedChains par' row' next ≡ queuedChains par row rest ++ extensions follows v (chainAt par row e)
+    unfolding next rest
+    next-chains = chains-join (queue-without place (h .queue)) (p .queue) (p .kept) (p .late) (omega arith) ∙ rw (p .chains)
+
+    next-scored : scored D (λ c. extensions follows v c) (steps - k) (queuedChains par row waiting)
+        ≡ chainAt par row e ∷ scored D (λ c. extensions follows v c) (steps - (k + 1)) (queuedChains par' row' next)
     next-scored =
         let z : steps - k ≡ suc (steps - (k + 1)) = omega arith in
-        rw (z, p .chains) (one-scored D (λ c. extensions follows v c) (steps - (k + 1)) (queuedChains par row (take q keys)) (picked .0) (picked .1)
-        (chainAt par row e) (queuedChains par row (take (q - 1) keys')) (picked .2) (picked .3))
+        rw (z, next-chains) (one-scored D (λ c. extensions follows v c) (steps - (k + 1)) (queuedChains par row waiting) (picked .0) (picked .1)
+        (chainAt par row e) (queuedChains par row rest) (picked .2) (picked .3))
 
-    next-left : left D (λ c. extensions follows v c) (steps - k) (queuedChains par row (take q keys)) ≡ left D (λ c. extensions follows v c) (steps - (k + 1)) (queuedChains par' row' keys'')
+    next-left : left D (λ c. extensions follows v c) (steps - k) (queuedChains par row waiting) ≡ left D (λ c. extensions follows v c) (steps - (k + 1)) (queuedChains par' row' next)
     next-left =
         let z : steps - k ≡ suc (steps - (k + 1)) = omega arith in
-        rw (z, p .chains) (one-left D (λ c. extensions follows v c) (steps - (k + 1)) (queuedChains par row (take q keys)) (picked .0) (picked .1)
-        (chainAt par row e) (queuedChains par row (take (q - 1) keys')) (picked .2) (picked .3))
+        rw (z, next-chains) (one-left D (λ c. extensions follows v c) (steps - (k + 1)) (queuedChains par row waiting) (picked .0) (picked .1)
+        (chainAt par row e) (queuedChains par row rest) (picked .2) (picked .3))
+
+    next-heap : Heap keys'' (q - 1 + added) next
+    unfolding next rest
+    next-heap = heap-more (heap-less o l place in-it front t) (omega arith) (p .new) (p .heap)
 
     -- one step: the chain taken is scored, its result replaces the best unless it is lower, and its extensions are queued
-    pub step-on : Running le start score follows v D steps par' row' keys'' (n + added) (k + 1) (cond (le b (score (chainAt par row e))) (score (chainAt par row e)) b)
-    step-on =
-        let len = length-take-le q keys l in
-        let gone : length (take (q - 1) keys') ≡ q - 1 = ap length (t .rest) ∙ omega (arith, length-without (t .place) (take q keys) (omega (arith, t .at .within)), len) in
-        record {
-          queue = p .queue;
-          all = omega (arith, h .all, p .long, gone, len, t .at .within);
-          room = omega (arith, h .room, p .most);
-          below = omega arith;
-          counted = omega (arith, h .counted, ap length next-scored);
-          lefts = sym next-left ∙ h .lefts;
-          bests = sym (best-step le b (score (chainAt par row e)) (map score (scored D (λ c. extensions follows v c) (steps - (k + 1)) (queuedChains par' row' keys''))))
-              ∙ (rw next-scored at (h .bests));
-        }
+    pub step-on : (w : List ℕ) × (Heap keys'' (q - 1 + added) w)
+        × (Running le start score follows v D steps par' row' w (n + added) (k + 1) (cond (le b (score (chainAt par row e))) (score (chainAt par row e)) b))
+    step-on = (
+      next,
+      next-heap,
+      record {
+        queue = next-queue;
+        all = omega (arith, h .all, next-heap .many, o .many);
+        room = omega (arith, h .room, p .most);
+        below = omega arith;
+        counted = omega (arith, h .counted, ap length next-scored);
+        lefts = sym next-left ∙ h .lefts;
+        bests = sym (best-step le b (score (chainAt par row e)) (map score (scored D (λ c. extensions follows v c) (steps - (k + 1)) (queuedChains par' row' next))))
+            ∙ (rw next-scored at (h .bests));
+      },
+    )

@@ -5,4 +5,5 @@ pub mod Search
 pub mod Best
 pub mod Order
 pub mod Demand
+pub mod Heap
 pub mod Queue

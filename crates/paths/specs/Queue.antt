@@ -9,6 +9,7 @@ use Rattle.paths.specs.Chains.{extensions, isChain}
 use Rattle.paths.specs.Search.{none, scored, left}
 use Rattle.paths.specs.Best.{best, All}
 use Rattle.paths.specs.Demand.{scoredChains, leftChains}
+use Rattle.paths.specs.Heap.{Heap}
 
 -- the chain of entry k, where T is the chains of the entries before it
 abbrev pub entry : List (List ℕ) → ℕ → ℕ → ℕ → List ℕ
@@ -36,12 +37,6 @@ keyOf distance e = distance * 1048576 + e
 abbrev pub entryOf : ℕ → ℕ
 entryOf key = key % 1048576
 
--- l without what stands at place i
-unfoldable pub without : {A : Type 0} → ℕ → List A → List A
-without i [] = []
-without zero (x ∷ l) = l
-without (suc i) (x ∷ l) = x ∷ without i l
-
 -- the keys' entries rise: the keys stand in the order of queueing
 abbrev pub Rising : List ℕ → Type 0
 Rising [] = Unit {0}
@@ -56,18 +51,6 @@ pub record Key (D : List ℕ → ℕ) (parents rows : List ℕ) (n k : ℕ) : Ty
 abbrev pub queuedChains : List ℕ → List ℕ → List ℕ → List (List ℕ)
 queuedChains parents rows keys = map (λ k. chainAt parents rows (entryOf k)) keys
 
--- the least of the first n keys stands at place r
-pub record Least (keys : List ℕ) (n r : ℕ) : Type 0 where
-  pub within : r < n
-  pub least : (j : ℕ) → j < n → getD keys r 0 ≤ getD keys j 0
-
--- the least of the first n keys was taken out; it names entry e
-pub record Taken (keys : List ℕ) (n : ℕ) (keys' : List ℕ) (e : ℕ) : Type 0 where
-  pub place : ℕ
-  pub at : Least keys n place
-  pub names : e ≡ entryOf (getD keys place 0)
-  pub rest : take (n - 1) keys' ≡ without place (take n keys)
-
 -- entry e's chain can be read back into a list of `room` rows
 pub record Walk (parents rows : List ℕ) (e room : ℕ) : Type 0 where
   pub parent-room : e < length parents
@@ -75,24 +58,30 @@ pub record Walk (parents rows : List ℕ) (e room : ℕ) : Type 0 where
   pub links : Links parents (suc e)
   pub fits : length (chainAt parents rows e) ≤ room
 
--- the n entries of the queue, of which those that `keys` names still wait
-pub record Queue (follows : List ℕ → ℕ → Bool) (v : ℕ) (D : List ℕ → ℕ) (parents rows keys : List ℕ) (n : ℕ) : Type 0 where
+-- the first n entries: each is a chain, and has its parent before it
+pub record Tree (follows : List ℕ → ℕ → Bool) (v : ℕ) (parents rows : List ℕ) (n : ℕ) : Type 0 where
   pub some : 0 < n
   pub few : n ≤ 1048576
   pub chains : (e : ℕ) → e < n → isChain follows v (chainAt parents rows e) ≡ true
   pub links : Links parents n
+
+-- of the n entries those that `keys` names, in the order of queueing, still wait
+pub record Queue (follows : List ℕ → ℕ → Bool) (v : ℕ) (D : List ℕ → ℕ) (parents rows keys : List ℕ) (n : ℕ) : Type 0 where
+  pub tree : Tree follows v parents rows n
   pub keyed : All (λ k. Key D parents rows n k) keys
   pub rising : Rising keys
 
--- the extensions of entry e's chain stand behind the first n entries, and nothing else changed
-pub record Queued (follows : List ℕ → ℕ → Bool) (v : ℕ) (D : List ℕ → ℕ) (parents rows keys : List ℕ) (n e : ℕ) (parents' rows' keys' : List ℕ) (added : ℕ) : Type 0 where
+-- the extensions of entry e's chain stand behind the first n entries; `new` is their keys in the order of queueing, and these are put to the heap of q; nothing else changed
+pub record Queued (follows : List ℕ → ℕ → Bool) (v : ℕ) (D : List ℕ → ℕ) (parents rows keys : List ℕ) (q n e : ℕ) (parents' rows' keys' : List ℕ) (added : ℕ) : Type 0 where
   pub most : added ≤ v
-  pub long : length keys' ≡ length keys + added
   pub kept : (i : ℕ) → i < n → chainAt parents' rows' i ≡ chainAt parents rows i
-  pub queue : Queue follows v D parents' rows' keys' (n + added)
-  pub chains : queuedChains parents' rows' keys' ≡ queuedChains parents rows keys ++ extensions follows v (chainAt parents rows e)
+  pub new : List ℕ
+  pub queue : Queue follows v D parents' rows' new (n + added)
+  pub late : All (λ k. n ≤ entryOf k) new
+  pub heap : Heap keys' (q + added) (take q keys ++ new)
+  pub chains : queuedChains parents' rows' new ≡ extensions follows v (chainAt parents rows e)
 
--- after k steps: what is done and what is left come to the whole
+-- after k steps, where `keys` wait in the order of queueing: what is done and what is left come to the whole
 pub record Running {R : Type 0} (le : R → R → Bool) (start : R) (score : List ℕ → R) (follows : List ℕ → ℕ → Bool) (v : ℕ) (D : List ℕ → ℕ) (steps : ℕ)
     (parents rows keys : List ℕ) (n k : ℕ) (b : R) : Type 0 where
   pub queue : Queue follows v D parents rows keys n

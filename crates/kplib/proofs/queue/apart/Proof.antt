@@ -2,7 +2,7 @@
 use mathlib.Core.Path.{ap}
 use native.Mathlib.Omega.{arith}
 use lib.IntN.{natAbs}
-use Rattle.kplib.proofs.ScanLaws.{difference-fits, difference, minus-fits, minus-cast, same-cast, minus}
+use Rattle.kplib.proofs.ApartLaws.{difference-fits, difference, minus-fits, minus-cast, same-cast, minus}
 use Rattle.kplib.proofs.queue.apart.Statement.{statement}
 use Rattle.kplib.proofs.queue.apart.Tie as tie
 

@@ -1,4 +1,4 @@
--- Row by row, highest first: a row that extends the chain is put behind the entries with its key, and any other is passed over.
+-- Row by row, highest first: a row that extends the chain is put behind the entries, its key to the keys, and any other row is passed over.
 use mathlib.Core.Path.{_≡_, refl, _∙_}
 use Prim.Native.Nat.{ℕ, _-_, _≤_, _<_}
 use native.Mathlib.Omega.{arith}
@@ -32,8 +32,14 @@ turn c = c .before .before
 abbrev told : tie.After-extends Inv-loop μ-loop → tie.Start Inv-loop μ-loop
 told c = begun (turn c)
 
-abbrev keyed : tie.After-key Inv-loop μ-loop → tie.Then1 Inv-loop μ-loop
-keyed c = c .before .before .before
+abbrev asked : tie.After-put-key-arg Inv-loop μ-loop → tie.Then1 Inv-loop μ-loop
+asked c = c .before .before .before .before
+
+abbrev put : tie.After-slice-known3 Inv-loop μ-loop → tie.After-put-key Inv-loop μ-loop
+put c = c .before .before
+
+abbrev longer : tie.After-slice-known3 Inv-loop μ-loop → tie.Then1 Inv-loop μ-loop
+longer c = asked (put c .before)
 
 -- the row of a turn, and that it extends the chain
 abbrev row : tie.After-extends Inv-loop μ-loop → ℕ
@@ -55,13 +61,13 @@ mul-parent : tie.Need-mul-parent Inv-loop μ-loop
 mul-parent c = let h = c .before .before .pre in record { fits = omega (arith, h .entry-in, h .few-entries) }
 
 loop-holds : tie.Need-loop-holds Inv-loop μ-loop
-loop-holds c = (omega arith, refl, refl, queueing-begin (c .before .before .pre .queue))
+loop-holds c = (omega arith, refl, refl, let h = c .before .before .pre in queueing-begin (h .tree) (h .order) (omega (arith, h .key-room)))
 
 sub-r : tie.Need-sub-r Inv-loop μ-loop
 sub-r c = omega arith
 
-cast-t19 : tie.Need-cast-t19 Inv-loop μ-loop
-cast-t19 c = record { fits = omega (arith, begun (c .before) .pre .sized .few) }
+cast-t20 : tie.Need-cast-t20 Inv-loop μ-loop
+cast-t20 c = record { fits = omega (arith, begun (c .before) .pre .sized .few) }
 
 extends-requires : tie.Need-extends-requires Inv-loop μ-loop
 extends-requires c κs = let h = begun (c .before) .pre in (end-in h, omega (arith, h .sized .few))
@@ -97,28 +103,26 @@ key-requires c κs =
     let k = key-sizes h (row-in (t .before)) (extending t) in
     (k .0, k .1, omega (arith, h .few-entries, turn (t .before) .loop .inv .3 .most))
 
-add-keys : tie.Need-add-keys Inv-loop μ-loop
-add-keys c = record { fits = omega (arith, told (keyed c .before) .pre .key-room, turn (keyed c .before) .loop .inv .3 .most) }
+add-put-key : tie.Need-add-put-key Inv-loop μ-loop
+add-put-key c = let t = asked c .before in record { fits = omega (arith, told t .pre .key-room, turn t .loop .inv .3 .most) }
 
-mul-keys : tie.Need-mul-keys Inv-loop μ-loop
-mul-keys c = record { fits = omega (arith, told (keyed c .before) .pre .key-room, turn (keyed c .before) .loop .inv .3 .most) }
-
-slice-write-keys : tie.Need-slice-write-keys Inv-loop μ-loop
-slice-write-keys c = omega (arith, told (keyed c .before) .pre .key-room, turn (keyed c .before) .loop .inv .3 .most)
+put-key-requires : tie.Need-put-key-requires Inv-loop μ-loop
+put-key-requires c κs = let t = asked c .before in let q = turn t .loop .inv .3 in (omega (arith, told t .pre .key-room, q .most), q .heap .order)
 
 add-added : tie.Need-add-added Inv-loop μ-loop
-add-added c = record { fits = omega (arith, told (keyed c .before) .pre .sized .few, turn (keyed c .before) .loop .inv .3 .most) }
+add-added c = let t = longer c .before in record { fits = omega (arith, told t .pre .sized .few, turn t .loop .inv .3 .most) }
 
 loop-less : tie.Need-loop-less Inv-loop μ-loop
 loop-less c = omega arith
 
 loop-again : tie.Need-loop-again Inv-loop μ-loop
 loop-again c =
-    let l = turn (keyed c .before) .loop in (
+    let t = longer c in
+    let l = turn (t .before) .loop in (
       omega arith,
       simp length-set (l .inv .1),
-      simp length-set (l .inv .2),
-      queueing-row (told (keyed c .before) .pre) (l .links) (l .inv .3) (l .inv .1) (l .inv .2) (omega arith) (extending (keyed c)) (c .key .ensures),
+      put c .put-key .kept .0 ∙ l .inv .2,
+      queueing-row (told (t .before) .pre) (l .links) (l .inv .3) (l .inv .1) (l .inv .2) (omega arith) (extending t) (put c .before .before .key .ensures) (put c .put-key .ensures),
     )
 
 loop-less-2 : tie.Need-loop-less-2 Inv-loop μ-loop
@@ -140,7 +144,7 @@ returns : tie.Need-returns Inv-loop μ-loop
 returns c =
     let h = begun (c .before) .pre in
     let l = c .before .loop in
-    (queueing-done (l .inv .3) (omega arith) (omega (arith, h .key-room)) (omega (arith, h .key-room, l .inv .3 .most)), omega (arith, h .key-room, l .inv .3 .most))
+    (queueing-done (l .inv .3) (omega arith), omega (arith, h .key-room, l .inv .3 .most))
 
 pub queue-extensions-spec : {M : Type 1} → statement M
 queue-extensions-spec =
@@ -152,7 +156,7 @@ queue-extensions-spec =
     mul-parent
     loop-holds
     sub-r
-    cast-t19
+    cast-t20
     extends-requires
     add-new
     cast-links
@@ -163,9 +167,8 @@ queue-extensions-spec =
     shared-slice-copy-out-key
     add-key
     key-requires
-    add-keys
-    mul-keys
-    slice-write-keys
+    add-put-key
+    put-key-requires
     add-added
     loop-less
     loop-again

@@ -45,7 +45,7 @@ end-node-requires c κs =
     entry-room (b .0) (b .1 .2) _ (entered k)
 
 sub-queue-extensions : tie.Need-sub-queue-extensions
-sub-queue-extensions c = search needs
+sub-queue-extensions c = let b = begin (taken (weighed (c .before .before .before .before) .before)) .pre in omega (arith, b .1 .0)
 
 queue-extensions-requires : tie.Need-queue-extensions-requires
 queue-extensions-requires c κs =
