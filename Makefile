@@ -47,7 +47,7 @@ wrong:
 runs:
 	tools/run-examples
 	SHEET_NEEDS_PROGRAM=1 SHEET_WRITER=target/bin/copy_job tools/test_sheet
-	set -e; NDIGOMARR_ARCHIVE=$$(tools/library); export NDIGOMARR_ARCHIVE; oracle/run --short; bindings/test
+	set -e; ARCHIVE_MADE=$$(tools/library); export ARCHIVE_MADE; oracle/run --short; bindings/test
 
 # What stands on one line runs at the same time. rt ci stands last: its last line, 'N passed, 0 failed', is the gate's. It proves all from nothing, so what runs before it builds for itself.
 test:

@@ -58,6 +58,8 @@ def apply_edit(folder, edit):
         word, _, rest = line.partition(":")
         value = rest.removeprefix(" ")
         if word == "file":
+            if not re.match("(src|specs)/", value) or ".." in Path(value).parts:
+                raise Fault(f"{edit.path}:{number}: 'file: {value}' is no file below src/ or specs/ of the crate; {EXAMPLE}")
             path = folder / value
         elif word == "old":
             old = value

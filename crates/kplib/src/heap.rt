@@ -1,5 +1,5 @@
-// A binary heap of numbers at the front of a lent slice: the places below place i are 2i + 1 and 2i + 2, and no key is below the one
-// above it. A key that goes in or moves is not stored on its way: a hole goes up or down, and the key fills it at the end.
+// A binary heap of numbers at the front of a lent slice: the places below place i are 2i + 1 and 2i + 2, and no key is less than the
+// one above it. A key that goes in or moves is not stored on its way: a hole goes up or down, and the key fills it at the end.
 ghost use mathlib.Core.Path.{_≡_};
 ghost use Prim.Native.Nat.{_+_, _*_, _<_, _≤_};
 ghost use mathlib.Core.List.{[], _∷_, _++_};
@@ -25,7 +25,7 @@ pub(crate) fn put_key(keys: &mut [u64], n: usize, key: u64)
     keys[i] = key;
 }
 
-// The least of the places below place i.
+// The place of the least of the keys right below place i.
 fn least_below(keys: &[u64], n: usize, i: usize) -> usize
     requires { do ⌜ (n ≤ (← ⟦keys.len()⟧)) × (2 * i + 1 < n) ⌝ }
     ensures { λ r. ⌜ LeastBelow (now (keys .entry)) n i r ⌝ }
@@ -41,7 +41,7 @@ fn least_below(keys: &[u64], n: usize, i: usize) -> usize
     left
 }
 
-// Replaces the front one of n keys.
+// Puts a key in the place of the front one of n keys.
 fn replace_front(keys: &mut [u64], n: usize, key: u64)
     requires { do ⌜ (0 < n) × (n ≤ (← ⟦keys.len()⟧)) × Ordered (now keys) n ⌝ }
     ensures { λ _. ⌜ Heap (now (keys .exit)) n (take n (set (now (keys .entry)) 0 key)) ⌝ }

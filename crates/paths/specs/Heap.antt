@@ -10,7 +10,7 @@ use Rattle.paths.specs.Sums.{bit}
 abbrev pub aboveOf : ℕ → ℕ
 aboveOf j = (j - 1) / 2
 
--- no key of the first n is below the one above it
+-- no key of the first n is less than the one above it
 abbrev pub Ordered : List ℕ → ℕ → Type 0
 Ordered keys n = (j : ℕ) → 0 < j → j < n → getD keys (aboveOf j) 0 ≤ getD keys j 0
 
