@@ -120,10 +120,13 @@ impl Case {
             ends: starts.iter().map(|start| start + width(shape)).collect(),
             sizes: variants.iter().map(Change::size).collect(),
             features: variants.iter().flat_map(|change| change.features(shape.k)).collect(),
+            // a table's rows have their own numbers, given when it is made: no timed call fills them in
+            numbers: (0..).take(shape.variants).collect(),
             part_sizes: parts.iter().map(Change::size).collect(),
             part_features: parts.iter().flat_map(|change| change.features(shape.k)).collect(),
             queue_room: queue_need(&judged, shape.variants),
             answer_room: shape.variants,
+            record_buffer: vec![0; shape.variants],
             settings: judged,
             starts,
         };

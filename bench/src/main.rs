@@ -106,6 +106,7 @@ fn judges(answer: &Answer) -> judge::answer::Answer {
     judge::answer::Answer {
         refusal: 0,
         rows: answer.rows.iter().map(|&row| row as u32).collect(),
+        records: answer.records.clone(),
         target: match answer.target {
             Target::Nothing => judge::answer::Target::Nothing,
             Target::Whole => judge::answer::Target::Whole,

@@ -1,4 +1,4 @@
-/* The worked example from C, and from C++: two variants, one part, and the row that explains it. */
+/* The worked example from C, and from C++: two variants with their record numbers, one part, and the row and record that explain it. */
 #include "ndigomarr.h"
 
 #include <stdio.h>
@@ -10,7 +10,7 @@
 #define LANGUAGE "C"
 #endif
 
-enum { K = 1, ENTRIES = 4, V = 2, MAXPATHS = 10, ROOM = 1 + (MAXPATHS + 1) * V };
+enum { K = 1, ENTRIES = 4, V = 2, MAXPATHS = 10, ROOM = 1 + (MAXPATHS + 1) * V, MARK = 7 };
 
 static int failed;
 
@@ -48,7 +48,18 @@ static void set(uint32_t *settings)
     settings[ND_SETTING_SEQSIM] = bits(0.5f);
 }
 
-static uint32_t search(const uint32_t *settings, uint32_t *rows, uint32_t *report)
+/* What a search is lent to write its answer to. */
+struct answer {
+    uint32_t rows[V], records[V], report[ND_REPORT_LEN];
+};
+
+static struct answer unwritten(void)
+{
+    struct answer answer = {{MARK, MARK}, {MARK, MARK}, {MARK}};
+    return answer;
+}
+
+static uint32_t search(const uint32_t *settings, const uint32_t *record_numbers, size_t records_len, struct answer *answer)
 {
     uint64_t starts[V] = {10, 20}, ends[V] = {10, 20}, keys[ROOM];
     int32_t sizes[V] = {2, 2}, features[V * ENTRIES], part_sizes[1] = {2}, part_features[ENTRIES];
@@ -58,25 +69,43 @@ static uint32_t search(const uint32_t *settings, uint32_t *rows, uint32_t *repor
     count("AG", part_features);
     expect("chain count", nd_count_chains(starts, V, ends, V, true, 4096, &chains), ND_ACCEPTED);
     expect("chains", chains, 4);
-    return nd_apply_haplotype(settings, starts, V, ends, V, sizes, V, features, V * ENTRIES, part_sizes, 1,
-                              part_features, ENTRIES, links, ROOM, keys, ROOM, rows, V, report);
+    return nd_apply_haplotype(settings, starts, V, ends, V, sizes, V, features, V * ENTRIES, record_numbers, V,
+                              part_sizes, 1, part_features, ENTRIES, links, ROOM, keys, ROOM, answer->rows, V,
+                              answer->records, records_len, answer->report);
 }
 
 static void worked_example(void)
 {
-    uint32_t settings[ND_SETTINGS_LEN], rows[V] = {7, 7}, report[ND_REPORT_LEN];
+    const uint32_t record_numbers[V] = {4071300268u, 31};
+    uint32_t settings[ND_SETTINGS_LEN];
+    struct answer answer = unwritten();
     set(settings);
-    expect("refusal", search(settings, rows, report), ND_ACCEPTED);
-    expect("rows", report[ND_ROWS], 1);
-    expect("row", rows[0], 0);
-    expect("the buffer's rest", rows[1], 7);
-    expect("target", report[ND_TARGET], 1);
-    expect("score", report[ND_SCORE], 0x3f800000);
-    expect("scored", report[ND_SCORED], 4);
-    expect("complete", report[ND_COMPLETE], 1);
+    expect("refusal", search(settings, record_numbers, V, &answer), ND_ACCEPTED);
+    expect("rows", answer.report[ND_ROWS], 1);
+    expect("row", answer.rows[0], 0);
+    expect("the rows' rest", answer.rows[1], MARK);
+    expect("record", answer.records[0], record_numbers[0]);
+    expect("the records' rest", answer.records[1], MARK);
+    expect("target", answer.report[ND_TARGET], 1);
+    expect("score", answer.report[ND_SCORE], 0x3f800000);
+    expect("scored", answer.report[ND_SCORED], 4);
+    expect("complete", answer.report[ND_COMPLETE], 1);
     settings[ND_SETTING_K] = 256 + K;
-    expect("k 257", search(settings, rows, report), ND_REFUSED_BAD_K);
-    expect("its report", report[ND_SCORE], 0);
+    expect("k 257", search(settings, record_numbers, V, &answer), ND_REFUSED_BAD_K);
+    expect("its report", answer.report[ND_SCORE], 0);
+}
+
+/* A refused search writes its report alone. */
+static void refused_records(const char *what, uint32_t first, uint32_t second, size_t records_len, uint32_t wanted)
+{
+    const uint32_t record_numbers[V] = {first, second};
+    uint32_t settings[ND_SETTINGS_LEN];
+    struct answer answer = unwritten();
+    set(settings);
+    expect(what, search(settings, record_numbers, records_len, &answer), wanted);
+    expect("its report", answer.report[ND_ROWS], 0);
+    expect("its rows", answer.rows[0] == MARK && answer.rows[1] == MARK, 1);
+    expect("its records", answer.records[0] == MARK && answer.records[1] == MARK, 1);
 }
 
 static void program_text(void)
@@ -102,6 +131,9 @@ static void refusals(void)
 int main(void)
 {
     worked_example();
+    refused_records("a repeated record number", 31, 31, V, ND_REFUSED_REPEATED_NUMBER);
+    refused_records("room for one record", 31, 32, V - 1, ND_REFUSED_ANSWER_ROOM);
+    refused_records("both", 31, 31, V - 1, ND_REFUSED_REPEATED_NUMBER);
     program_text();
     refusals();
     puts(failed ? "the " LANGUAGE " binding differs" : "the " LANGUAGE " binding agrees");

@@ -1,7 +1,8 @@
 /* Ndigomarr for C and C++: the functions of libndigomarr.a, which tools/library proves and writes.
  *
  * Each function asks nothing of its caller but that every pointer and its length belong together
- * and that no lent buffer overlaps another. An empty slice still needs a pointer that is not null.
+ * and that what is written overlaps nothing else that is lent. An empty slice still needs a pointer
+ * that is not null.
  * Each but nd_answer, which returns a length, returns 0 or the number of a refusal. On a refusal
  * every lent buffer is as it was, but for *place, *count and the report, which are then 0.
  *
@@ -18,8 +19,8 @@
 extern "C" {
 #endif
 
-/* The refusals, each with the table's words. 1 to 13 are returned; 20 to 26 stand in nd_answer's
- * text, beside those; 30 is the Rattle reader's and writer's.
+/* The refusals, each with the table's words. 1 to 14 are returned, and some of 1 to 13 stand in
+ * nd_answer's text too; 20 to 26 stand there alone; 30 is the Rattle reader's and writer's.
  * Made from docs/refusals.tsv by tools/refusals --write. */
 enum nd_refusal {
     ND_ACCEPTED = 0,
@@ -36,6 +37,7 @@ enum nd_refusal {
     ND_REFUSED_QUEUE_ROOM = 11, /* search mode, and queue room under 1 + (maxpaths + 1) × V entries */
     ND_REFUSED_ANSWER_ROOM = 12, /* answer room under V rows */
     ND_REFUSED_TOO_MANY_LETTERS = 13, /* a sequence over its letter limit */
+    ND_REFUSED_REPEATED_NUMBER = 14, /* a repeated record number */
     ND_REFUSED_UNKNOWN_KIND = 20, /* unknown kind */
     ND_REFUSED_CUT_SHORT = 21, /* input ends inside a record or without 0x00 */
     ND_REFUSED_OUT_OF_PLACE = 22, /* out of place */
@@ -68,7 +70,7 @@ uint32_t nd_count_chains(const uint64_t *starts, size_t starts_len, const uint64
 
 /* What stands in the report of a search. */
 enum nd_report {
-    ND_ROWS,     /* how many row numbers stand at the front of rows */
+    ND_ROWS,     /* how many rows stand at the front of rows, and records at that of records */
     ND_TARGET,   /* 0 no part list, 1 the whole haplotype, 1 more for each part left out */
     ND_SCORE,    /* the bits of a float, as the next two */
     ND_SIZESIM,
@@ -98,18 +100,24 @@ enum nd_settings {
 };
 
 /* The path of a table that best explains a haplotype. Rows are row numbers of the table handed
- * over, from 0, ascending, at the front of rows, whose rest stays as it was. Of equally good paths
- * the later one wins. V is starts_len, m is part_sizes_len; feature rows of 4^k entries lie one
- * behind the other. links and keys, the queue, hold at least 1 + (maxpaths + 1) * V entries each in
- * a search; their content afterwards is open. rows holds at least V. Refuses by 1 to 12; the report
- * is then all zeros. */
+ * over, from 0, ascending, at the front of rows. Of equally good paths the later one wins.
+ * record_numbers has a number of the caller's own for each variant, no two alike (the row numbers
+ * will do); those of the answer's rows stand at the front of records, in the rows' order. They
+ * change nothing else of an answer. What lies in rows and records behind that stays as it was.
+ * V is starts_len, m is part_sizes_len; feature rows of 4^k entries lie one behind the other. links
+ * and keys, the queue, hold at least 1 + (maxpaths + 1) * V entries each in a search; their content
+ * afterwards is open. Refuses by 1 to 12 and by 14 (a repeated record number), which comes after 8
+ * and before 9; 6 is also for other than V record numbers, and 12 for fewer than V entries in rows
+ * or in records. The report is then all zeros. */
 uint32_t nd_apply_haplotype(const uint32_t settings[ND_SETTINGS_LEN], const uint64_t *starts,
                             size_t starts_len, const uint64_t *ends, size_t ends_len,
                             const int32_t *sizes, size_t sizes_len, const int32_t *features,
-                            size_t features_len, const int32_t *part_sizes, size_t part_sizes_len,
-                            const int32_t *part_features, size_t part_features_len,
-                            uint32_t *links, size_t links_len, uint64_t *keys, size_t keys_len,
-                            uint32_t *rows, size_t rows_len, uint32_t report[ND_REPORT_LEN]);
+                            size_t features_len, const uint32_t *record_numbers,
+                            size_t record_numbers_len, const int32_t *part_sizes,
+                            size_t part_sizes_len, const int32_t *part_features,
+                            size_t part_features_len, uint32_t *links, size_t links_len,
+                            uint64_t *keys, size_t keys_len, uint32_t *rows, size_t rows_len,
+                            uint32_t *records, size_t records_len, uint32_t report[ND_REPORT_LEN]);
 
 /* How long a text the program may print. */
 enum { ND_TEXT_LEN = 8192 };

@@ -1,9 +1,10 @@
 //! Places insertions and deletions: which rows of a variant table best explain a haplotype.
 //!
-//! A safe wrapper of a library whose every function is proved to meet its contract. Three things to
-//! know about an [`Answer`]: its rows are row numbers of the [`Table`] handed over, from 0; the
-//! search stops after `maxpaths` + 1 paths, and `complete` says whether those were all; of two
-//! equally good paths the later one wins.
+//! A safe wrapper of a library whose every function is proved to meet its contract. Four things to
+//! know about an [`Answer`]: its rows are row numbers of the [`Table`] handed over, from 0; its
+//! records are those rows' record numbers, which are the row numbers unless the table has others
+//! ([`Table::with_record_numbers`]); the search stops after `maxpaths` + 1 paths, and `complete` says
+//! whether those were all; of two equally good paths the later one wins.
 //!
 //! ```
 //! use ndigomarr::{apply_haplotype, Haplotype, Settings, Table, Target};
@@ -17,6 +18,7 @@
 //! let settings = Settings { k: 1, minkfreq: 1, ..Settings::default() };
 //! let answer = apply_haplotype(&settings, &table, &haplotype)?;
 //! assert_eq!(answer.rows, [0]);
+//! assert_eq!(answer.records, [0]);
 //! assert_eq!(answer.score, 1.0);
 //! assert_eq!(answer.target, Target::Whole);
 //! assert_eq!((answer.scored, answer.complete), (4, true));
@@ -99,6 +101,8 @@ pub enum Target {
 pub struct Answer {
     /// Row numbers of the table handed over, ascending from 0. They are not names.
     pub rows: Vec<usize>,
+    /// The record number of each of these rows, in the rows' order.
+    pub records: Vec<u32>,
     pub target: Target,
     pub score: f32,
     pub sizesim: f32,

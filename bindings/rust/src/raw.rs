@@ -22,6 +22,8 @@ mod archive {
             sizes_len: usize,
             features: *const i32,
             features_len: usize,
+            record_numbers: *const u32,
+            record_numbers_len: usize,
             part_sizes: *const i32,
             part_sizes_len: usize,
             part_features: *const i32,
@@ -32,6 +34,8 @@ mod archive {
             keys_len: usize,
             rows: *mut u32,
             rows_len: usize,
+            records: *mut u32,
+            records_len: usize,
             report: *mut [u32; 7],
         ) -> u32;
     }
@@ -84,11 +88,14 @@ impl Room {
 pub fn apply_haplotype(settings: &Settings, table: &Table, haplotype: &Haplotype, room: &mut Room) -> Result<Answer, Refusal> {
     room.grow(settings, table.len());
     let mut rows = vec![0; table.len()];
+    let mut records = vec![0; table.len()];
     let mut report = [0; 7];
-    let number = search(settings, table, haplotype, room, &mut rows, &mut report);
+    let number = search(settings, table, haplotype, room, &mut rows, &mut records, &mut report);
     let [count, target, score, sizesim, seqsim, scored, complete] = report;
+    records.truncate(count as usize);
     let answer = Answer {
         rows: rows.iter().take(count as usize).map(|&row| row as usize).collect(),
+        records,
         target: target_of(target),
         score: f32::from_bits(score),
         sizesim: f32::from_bits(sizesim),
@@ -127,7 +134,15 @@ fn words(s: &Settings) -> [u32; 13] {
     ]
 }
 
-fn search(settings: &Settings, table: &Table, haplotype: &Haplotype, room: &mut Room, rows: &mut [u32], report: &mut [u32; 7]) -> u32 {
+fn search(
+    settings: &Settings,
+    table: &Table,
+    haplotype: &Haplotype,
+    room: &mut Room,
+    rows: &mut [u32],
+    records: &mut [u32],
+    report: &mut [u32; 7],
+) -> u32 {
     unsafe {
         archive::nd_apply_haplotype(
             &words(settings),
@@ -139,6 +154,8 @@ fn search(settings: &Settings, table: &Table, haplotype: &Haplotype, room: &mut 
             table.sizes().len(),
             table.features().as_ptr(),
             table.features().len(),
+            table.record_numbers().as_ptr(),
+            table.record_numbers().len(),
             haplotype.sizes().as_ptr(),
             haplotype.sizes().len(),
             haplotype.features().as_ptr(),
@@ -149,7 +166,57 @@ fn search(settings: &Settings, table: &Table, haplotype: &Haplotype, room: &mut 
             room.keys.len(),
             rows.as_mut_ptr(),
             rows.len(),
+            records.as_mut_ptr(),
+            records.len(),
             report,
         )
+    }
+}
+
+/// What a safe caller cannot see: the lent buffers themselves.
+#[cfg(test)]
+mod tests {
+    use super::{search, Haplotype, Room, Settings, Table};
+
+    const MARK: u32 = 0xdead_0001;
+
+    /// The refusal of a search over rows 0 AG, 1 CT and 2 GC for a haplotype of rows 0 and 2, and what buffers of these lengths hold then.
+    fn searched(record_numbers: &[u32], rows: usize, records: usize) -> (u32, Vec<u32>, Vec<u32>) {
+        let settings = Settings { k: 1, minkfreq: 1, maxpaths: 10, ..Settings::default() };
+        let mut table = Table::new(1);
+        for (at, letters) in [b"AG", b"CT", b"GC"].into_iter().enumerate() {
+            table.add(at as u64, at as u64, 2, letters, false).expect("few letters");
+        }
+        let mut haplotype = Haplotype::new(1);
+        haplotype.add(2, b"AG", false).expect("few letters");
+        haplotype.add(2, b"GC", false).expect("few letters");
+        let table = table.with_record_numbers(record_numbers);
+        let mut room = Room::new();
+        room.grow(&settings, table.len());
+        let (mut rows, mut records) = (vec![MARK; rows], vec![MARK; records]);
+        let number = search(&settings, &table, &haplotype, &mut room, &mut rows, &mut records, &mut [MARK; 7]);
+        (number, rows, records)
+    }
+
+    #[test]
+    fn the_rest_of_both_buffers_is_unchanged() {
+        assert_eq!(searched(&[50, 60, 40], 3, 3), (0, vec![0, 2, MARK], vec![50, 40, MARK]));
+        assert_eq!(searched(&[50, 60, 40], 4, 5), (0, vec![0, 2, MARK, MARK], vec![50, 40, MARK, MARK, MARK]));
+    }
+
+    #[test]
+    fn either_buffer_too_short_is_a_12() {
+        for (rows, records) in [(3, 2), (3, 0), (2, 3), (2, 2)] {
+            assert_eq!(searched(&[50, 60, 40], rows, records), (12, vec![MARK; rows], vec![MARK; records]));
+        }
+    }
+
+    #[test]
+    fn a_refusal_of_the_numbers_leaves_both_buffers() {
+        for (record_numbers, wanted) in [(&[50, 60, 50][..], 14), (&[50, 60], 6), (&[50, 60, 40, 30], 6)] {
+            assert_eq!(searched(record_numbers, 3, 3), (wanted, vec![MARK; 3], vec![MARK; 3]));
+            // both come before the second buffer's 12
+            assert_eq!(searched(record_numbers, 3, 2), (wanted, vec![MARK; 3], vec![MARK; 2]));
+        }
     }
 }

@@ -44,6 +44,7 @@ mod tests {
         assert_eq!(said(0), None);
         assert_eq!(said(1).as_deref(), Some("refused 1: k not 1 to 6"));
         assert_eq!(said(12).as_deref(), Some("refused 12: answer room under V rows"));
+        assert_eq!(said(14).as_deref(), Some("refused 14: a repeated record number"));
         assert_eq!(said(2_000).as_deref(), Some("refused 2000: not in the table of refusals"));
     }
 }

@@ -1,7 +1,8 @@
 //! What a search is given: the variant table and the haplotype's parts, as flat rows.
 use crate::{seq_to_kmer, Refusal};
 
-/// Variants in the order of their starts. A variant's row number is how many were added before it.
+/// Variants in the order of their starts. A variant's row number is how many were added before it; its record number names it in
+/// an answer, and is its row number where the caller has no other.
 #[derive(Clone, Debug, Default, PartialEq)]
 pub struct Table {
     k: u8,
@@ -9,12 +10,37 @@ pub struct Table {
     ends: Vec<u64>,
     sizes: Vec<i32>,
     features: Vec<i32>,
+    record_numbers: Vec<u32>,
 }
 
 impl Table {
-    /// A table of no rows, whose letters will be counted by windows of `k`.
+    /// A table of no rows, whose letters will be counted by windows of `k`. Each variant that is added gets its row number as its
+    /// record number.
     pub fn new(k: u8) -> Self {
         Self { k, ..Self::default() }
+    }
+
+    /// The same rows with the caller's own record numbers, one for each row, in the rows' order; a variant added later gets its row
+    /// number again, which is a 14 where that number was given already. A search refuses other than one for each row (6) and a repeated one (14); nothing else depends on them.
+    ///
+    /// ```
+    /// use ndigomarr::{apply_haplotype, Haplotype, Settings, Table};
+    ///
+    /// let mut table = Table::new(1);
+    /// table.add(10, 10, 2, b"CT", false)?;
+    /// table.add(20, 20, 2, b"AG", false)?;
+    /// let table = table.with_record_numbers(&[40_713, 268]);
+    /// let mut haplotype = Haplotype::new(1);
+    /// haplotype.add(2, b"AG", false)?;
+    ///
+    /// let settings = Settings { k: 1, minkfreq: 1, ..Settings::default() };
+    /// let answer = apply_haplotype(&settings, &table, &haplotype)?;
+    /// assert_eq!(answer.rows, [1]);
+    /// assert_eq!(answer.records, [268]);
+    /// # Ok::<(), ndigomarr::Refusal>(())
+    /// ```
+    pub fn with_record_numbers(self, record_numbers: &[u32]) -> Self {
+        Self { record_numbers: record_numbers.to_vec(), ..self }
     }
 
     /// Adds a variant; its letters are counted, downwards for a `negative` sequence.
@@ -26,6 +52,7 @@ impl Table {
 
     /// Adds a variant whose features were counted already.
     pub fn add_counted(&mut self, start: u64, end: u64, size: i32, features: &[i32]) {
+        self.record_numbers.push(self.starts.len() as u32);
         self.starts.push(start);
         self.ends.push(end);
         self.sizes.push(size);
@@ -55,6 +82,10 @@ impl Table {
 
     pub(crate) fn features(&self) -> &[i32] {
         &self.features
+    }
+
+    pub(crate) fn record_numbers(&self) -> &[u32] {
+        &self.record_numbers
     }
 }
 

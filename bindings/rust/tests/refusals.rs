@@ -23,6 +23,13 @@ fn haplotype(parts: usize) -> Haplotype {
     haplotype
 }
 
+/// A variant that `change` spoils, and a record number that is there already.
+fn repeated(change: impl Fn(&mut Table)) -> Table {
+    let mut table = table(2);
+    change(&mut table);
+    table.with_record_numbers(&[7, 8, 7])
+}
+
 fn refusal(settings: &Settings, table: &Table, haplotype: &Haplotype) -> Refusal {
     apply_haplotype(settings, table, haplotype).expect_err("refused")
 }
@@ -95,6 +102,43 @@ fn sizes_and_rows_over_their_limits() {
 }
 
 #[test]
+fn other_than_one_record_number_for_each_variant() {
+    for numbers in [&[][..], &[0, 1], &[0, 1, 2, 3]] {
+        assert_eq!(number(&one_letter(), &table(3).with_record_numbers(numbers), &haplotype(1)), 6);
+    }
+    // it stands with the other lengths: after 4 and 5, before 7
+    assert_eq!(number(&one_letter(), &table(0).with_record_numbers(&[0]), &haplotype(1)), 4);
+    assert_eq!(number(&one_letter(), &table(65).with_record_numbers(&[0]), &haplotype(1)), 5);
+    let mut turned = Table::new(1);
+    turned.add_counted(2, 1, 1, &[1, 0, 0, 0]);
+    assert_eq!(number(&one_letter(), &turned.with_record_numbers(&[0, 1]), &haplotype(1)), 6);
+}
+
+#[test]
+fn a_repeated_record_number() {
+    let with = |numbers: &[u32]| number(&one_letter(), &table(4).with_record_numbers(numbers), &haplotype(1));
+    assert_eq!(with(&[5, 5, 6, 7]), 14);
+    assert_eq!(with(&[5, 6, 7, 5]), 14);
+    assert_eq!(with(&[9, u32::MAX, 0, u32::MAX]), 14);
+    let mut most: Vec<u32> = (0..64).collect();
+    assert!(apply_haplotype(&one_letter(), &table(64).with_record_numbers(&most), &haplotype(1)).is_ok());
+    most[63] = 0;
+    assert_eq!(number(&one_letter(), &table(64).with_record_numbers(&most), &haplotype(1)), 14);
+}
+
+#[test]
+fn a_repeated_record_number_comes_after_8_and_before_9() {
+    let row = [1, 0, 0, 0];
+    assert_eq!(number(&one_letter(), &repeated(|table| table.add_counted(9, 8, 1, &row)), &haplotype(1)), 7);
+    assert_eq!(number(&one_letter(), &repeated(|table| table.add_counted(0, 9, 1, &row)), &haplotype(1)), 8);
+    assert_eq!(number(&one_letter(), &repeated(|table| table.add_counted(9, 9, 131_073, &row)), &haplotype(1)), 14);
+    assert_eq!(number(&one_letter(), &repeated(|table| table.add_counted(9, 9, 1, &[131_073, 0, 0, 0])), &haplotype(1)), 14);
+    let mut part = haplotype(1);
+    part.add_counted(131_073, &row);
+    assert_eq!(number(&one_letter(), &repeated(|table| table.add_counted(9, 9, 1, &row)), &part), 14);
+}
+
+#[test]
 fn letters_that_are_not_counted() {
     let mut table = Table::new(7);
     assert_eq!(table.add(1, 1, 1, b"A", false).map_err(Refusal::number), Err(1));
@@ -108,6 +152,8 @@ fn letters_that_are_not_counted() {
 fn a_refusal_says_the_tables_words() {
     let said = refusal(&Settings { k: 9, ..one_letter() }, &table(1), &haplotype(1));
     assert_eq!(said.to_string(), "refused 1: k not 1 to 6");
+    let repeated = refusal(&one_letter(), &table(2).with_record_numbers(&[3, 3]), &haplotype(1));
+    assert_eq!(repeated.to_string(), "refused 14: a repeated record number");
     let error: Box<dyn std::error::Error> = said.into();
     assert_eq!(error.to_string(), said.to_string());
 }

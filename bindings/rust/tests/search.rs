@@ -39,11 +39,12 @@ fn haplotype(parts: &[&[u8]]) -> Haplotype {
 }
 
 fn nothing(scored: u32, complete: bool) -> Answer {
-    Answer { rows: vec![], target: Target::Nothing, score: 0.0, sizesim: 0.0, seqsim: 0.0, scored, complete }
+    Answer { rows: vec![], records: vec![], target: Target::Nothing, score: 0.0, sizesim: 0.0, seqsim: 0.0, scored, complete }
 }
 
+/// The records are the row numbers, as for any table that is given no others.
 fn found(rows: &[usize], target: Target, score: f32, scored: u32) -> Answer {
-    Answer { rows: rows.to_vec(), target, score, sizesim: 1.0, seqsim: 1.0, scored, complete: true }
+    Answer { rows: rows.to_vec(), records: rows.iter().map(|&row| row as u32).collect(), target, score, sizesim: 1.0, seqsim: 1.0, scored, complete: true }
 }
 
 #[test]

@@ -1,6 +1,7 @@
 -- What is shown of the promises as a whole.
 pub mod Bench
 pub mod Demand3Laws
+pub mod RecordNumbersLaws
 pub mod Worked
 pub mod NoParts
 pub mod PartOrderLaws

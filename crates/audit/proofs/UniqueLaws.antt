@@ -43,6 +43,10 @@ agree x y p q = (
 both : {A B R : Type 0} {a : A} {b : B} (x : A × B) → (x .1 ≡ b) × ((x .0 ≡ a) × R) → (x ≡ (a, b)) × R
 both x p = let d = p .1 .0 in let e = p .0 in ((λ i. (d i, e i)), p .1 .1)
 
+-- records, rows and what else is said, each by an equation of its own
+recorded : {A B P R : Type 0} {a : A} {b : B} (x : A × B) → (x .1 ≡ b) × (P × ((x .0 ≡ a) × R)) → (x ≡ (a, b)) × (P × R)
+recorded x p = let q = both x (p .0, p .1 .1) in (q .0, (p .1 .0, q .1))
+
 pub unique : Unique
 unique = record {
   sizesim = λ a b. one;
@@ -55,10 +59,12 @@ unique = record {
   magnitude = λ x. one;
   row-over = λ a limit. one;
   search-mode = λ s v. one;
+  queue-room = λ links keys. one;
   call-fault = λ s starts ends sizes features partSizes partFeatures queueRoom answerRoom. one;
   count-fault = λ starts ends cap. one;
   count-chains = λ starts ends full cap. one;
   apply-haplotype = λ s starts ends sizes features partSizes partFeatures links keys rows. agree;
+  apply-numbered = λ s starts ends sizes features numbers partSizes partFeatures links keys rows records x y p q. agree x y (recorded (x .says) p) (recorded (y .says) q);
   u8-at = λ s at. one;
   u32-at = λ s at. one;
   u64-at = λ s at. one;
@@ -77,12 +83,13 @@ unique = record {
   read-job = λ bytes t. two;
   write-job = λ s t out. through (λ r. outAfter r (jobBytes (jobFrom s t)) out);
   put-refused = λ out at n. stored;
-  put-answer = λ out at rows a. stored;
+  put-answer = λ out at rows records a. stored;
   answer = λ input out. two;
   nd-seq-to-kmer = λ letters k negative row. two;
   nd-seqsim = λ a b minkfreq place. two;
   nd-sizesim = λ a b place. two;
   nd-count-chains = λ starts ends full cap count. two;
   nd-answer = λ job text. two;
-  nd-apply-haplotype = λ settings starts ends sizes features partSizes partFeatures links keys rows report x y p q. agree x y (both (x .says) p) (both (y .says) q);
+  nd-apply-haplotype = λ settings starts ends sizes features numbers partSizes partFeatures links keys rows records report x y p q.
+      agree x y (recorded (x .says) (both (x .says .1) p)) (recorded (y .says) (both (y .says .1) q));
 }

@@ -1,5 +1,6 @@
 pub mod Bench
 pub mod Demand3
+pub mod RecordNumbers
 pub mod Worked
 pub mod NoParts
 pub mod PartOrder

@@ -11,11 +11,13 @@ use Rattle.metrics.specs.declared.Sim.{Sim}
 use Rattle.metrics.specs.declared.kmer.Counted.{Counted}
 use Rattle.metrics.specs.Promises.{SizesimPromise, SeqsimPromise, OverlapsPromise, SeqToKmerPromise, ClearRowPromise, EntriesPromise, MagnitudePromise, RowOverPromise, BitsOfPromise}
 use Rattle.params.specs.declared.Settings.{Settings}
-use Rattle.params.specs.Promises.{SearchModePromise, CallFaultPromise, CountFaultPromise}
+use Rattle.params.specs.Promises.{SearchModePromise, QueueRoomPromise, CallFaultPromise, CountFaultPromise}
 use Rattle.kplib.specs.Answer.{searches}
 use Rattle.kplib.specs.declared.vargraph.ChainCount.{ChainCount}
 use Rattle.kplib.specs.declared.traverse.Answer.{Answer}
 use Rattle.kplib.specs.Promises.{callLent, CountChainsPromise, ApplyHaplotypePromise}
+use Rattle.dive.specs.Numbered.{numberedSearches}
+use Rattle.dive.specs.Promises.{numberedLent, ApplyNumberedPromise}
 use Rattle.form.specs.declared.records.Kind.{Kind}
 use Rattle.form.specs.declared.records.Record.{Record}
 use Rattle.form.specs.declared.records.Scan.{Scan}
@@ -44,7 +46,7 @@ ReadsInto bytes t u r =
     ReadJobPromise bytes (t .starts) (t .ends) (t .sizes) (t .negatives) (t .counts) (t .partSizes) (t .partNegatives) (t .partCounts) (t .letters)
     (u .starts) (u .ends) (u .sizes) (u .negatives) (u .counts) (u .partSizes) (u .partNegatives) (u .partCounts) (u .letters) r
 
--- what a search leaves: the queue's two slices, the rows, and what it says
+-- what a search leaves: the queue's two slices, the rows, and what it says (with record numbers, the records and the answer)
 pub record Left (A : Type 0) : Type 0 where
   pub links : List ℕ
   pub keys : List ℕ
@@ -68,6 +70,7 @@ pub record Unique : Type 0 where
   pub magnitude : (x : ℤ) → One ℕ (MagnitudePromise x)
   pub row-over : (a : List ℤ) (limit : ℕ) → One Bool (RowOverPromise a limit)
   pub search-mode : (s : Settings) (v : ℕ) → One Bool (SearchModePromise s v)
+  pub queue-room : (links keys : ℕ) → One ℕ (QueueRoomPromise links keys)
   pub call-fault : (s : Settings) (starts ends : List ℕ) (sizes features partSizes partFeatures : List ℤ) (queueRoom answerRoom : ℕ)
       → One ℕ (CallFaultPromise s starts ends sizes features partSizes partFeatures queueRoom answerRoom)
   pub count-fault : (starts ends : List ℕ) (cap : ℕ) → One ℕ (CountFaultPromise starts ends cap)
@@ -75,6 +78,10 @@ pub record Unique : Type 0 where
   pub apply-haplotype : (s : Settings) (starts ends : List ℕ) (sizes features partSizes partFeatures : List ℤ) (links keys rows : List ℕ)
       → Agree Answer (searches (callLent s starts ends sizes features partSizes partFeatures links keys rows))
       (λ x. ApplyHaplotypePromise s starts ends sizes features partSizes partFeatures links keys rows (x .links) (x .keys) (x .rows) (x .says))
+  pub apply-numbered : (s : Settings) (starts ends : List ℕ) (sizes features : List ℤ) (numbers : List ℕ) (partSizes partFeatures : List ℤ) (links keys rows records : List ℕ)
+      → Agree (List ℕ × Answer) (numberedSearches (numberedLent s starts ends sizes features numbers partSizes partFeatures links keys rows records))
+      (λ x. ApplyNumberedPromise s starts ends sizes features numbers partSizes partFeatures links keys rows records
+      (x .links) (x .keys) (x .rows) (x .says .0) (x .says .1))
   pub u8-at : (s : List ℕ) (at : ℕ) → One ℕ (U8AtPromise s at)
   pub u32-at : (s : List ℕ) (at : ℕ) → One ℕ (U32AtPromise s at)
   pub u64-at : (s : List ℕ) (at : ℕ) → One ℕ (U64AtPromise s at)
@@ -94,14 +101,14 @@ pub record Unique : Type 0 where
   pub write-job : (s : Settings) (t : Lent) (out : List ℕ)
       → Two (List ℕ) Writing (WriteJobPromise s (t .starts) (t .ends) (t .sizes) (t .negatives) (t .counts) (t .partSizes) (t .partNegatives) (t .partCounts) (t .letters) out)
   pub put-refused : (out : List ℕ) (at n : ℕ) → Two (List ℕ) ℕ (PutRefusedPromise out at n)
-  pub put-answer : (out : List ℕ) (at : ℕ) (rows : List ℕ) (a : Answer) → Two (List ℕ) ℕ (PutAnswerPromise out at rows a)
+  pub put-answer : (out : List ℕ) (at : ℕ) (rows records : List ℕ) (a : Answer) → Two (List ℕ) ℕ (PutAnswerPromise out at rows records a)
   pub answer : (input out : List ℕ) → Two (List ℕ) ℕ (AnswerPromise input out)
   pub nd-seq-to-kmer : (letters : List ℕ) (k : ℕ) (negative : Bool) (row : List ℤ) → Two (List ℤ) ℕ (NdSeqToKmerPromise letters k negative row)
   pub nd-seqsim : (a b : List ℤ) (minkfreq : ℕ) (place : Float) → Two Float ℕ (NdSeqsimPromise a b minkfreq place)
   pub nd-sizesim : (a b : ℕ) (place : Float) → Two Float ℕ (NdSizesimPromise a b place)
   pub nd-count-chains : (starts ends : List ℕ) (full : Bool) (cap count : ℕ) → Two ℕ ℕ (NdCountChainsPromise starts ends full cap count)
   pub nd-answer : (job text : List ℕ) → Two (List ℕ) ℕ (NdAnswerPromise job text)
-  pub nd-apply-haplotype : (settings starts ends : List ℕ) (sizes features partSizes partFeatures : List ℤ) (links keys rows report : List ℕ)
-      → Agree (List ℕ × ℕ) (searches (callLent (settingsOfWords settings) starts ends sizes features partSizes partFeatures links keys rows))
-      (λ x. NdApplyHaplotypePromise settings starts ends sizes features partSizes partFeatures links keys rows report
-      (x .links) (x .keys) (x .rows) (x .says .0) (x .says .1))
+  pub nd-apply-haplotype : (settings starts ends : List ℕ) (sizes features : List ℤ) (numbers : List ℕ) (partSizes partFeatures : List ℤ) (links keys rows records report : List ℕ)
+      → Agree (List ℕ × (List ℕ × ℕ)) (numberedSearches (numberedLent (settingsOfWords settings) starts ends sizes features numbers partSizes partFeatures links keys rows records))
+      (λ x. NdApplyHaplotypePromise settings starts ends sizes features numbers partSizes partFeatures links keys rows records report
+      (x .links) (x .keys) (x .rows) (x .says .0) (x .says .1 .0) (x .says .1 .1))

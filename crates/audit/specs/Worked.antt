@@ -11,6 +11,7 @@ use Rattle.params.specs.Numbers.{Table, Parts, Call, tableOf, partsOf, callOf, 
 use Rattle.kplib.specs.Score.{chainScore}
 use Rattle.kplib.specs.Search.{scoredIn}
 use Rattle.kplib.specs.Answer.{answerOf, rowsOf}
+use Rattle.dive.specs.Numbered.{Numbered, recordsOf}
 use Rattle.form.specs.Job.{Job, jobBytes}
 use Rattle.text.specs.Text.{bytesOf}
 use Rattle.desk.specs.Desk.{deskText}
@@ -59,10 +60,11 @@ job = record {
   parts = record { size = pos 2; negative = false; letters = ag } ∷ [];
 }
 
--- the seven lines that document 01 prints
+-- the lines that document 01 prints, and document 02's `records` (P3) after `rows`
 abbrev pub lines : List ℕ
 lines =
     bytesOf "rows 0\n"
+    ++ bytesOf "records 0\n"
     ++ bytesOf "score 3f800000\n"
     ++ bytesOf "sizesim 3f800000\n"
     ++ bytesOf "seqsim 3f800000\n"
@@ -74,6 +76,10 @@ lines =
 abbrev pub call : Call
 call = callOf settings variants part 23 2
 
+-- the same with the record numbers 40 and 7, and room for two records
+abbrev pub numbered : Numbered
+numbered = record { call = call; numbers = 40 ∷ (7 ∷ []); recordRoom = 2 }
+
 pub record Worked : Type 0 where
   -- its checks all pass
   pub accepted : firstFault call ≡ 0
@@ -84,5 +90,7 @@ pub record Worked : Type 0 where
   -- the answer that document 01 prints
   pub answer : answerOf call ≡ record { refusal = 0; rows = 1; target = Whole; score = whole 1; sizesim = whole 1; seqsim = whole 1; scored = 4; complete = true }
   pub rows : rowsOf call ≡ 0 ∷ []
+  -- the record of row 0
+  pub records : recordsOf numbered ≡ 40 ∷ []
   -- the program, given the job's bytes, prints these lines
   pub printed : deskText (jobBytes job) ≡ lines

@@ -7,19 +7,21 @@ use Prim.Native.Nat.{ℕ, zero, suc, _+_, _-_, _^_, _≤_}
 use native.Mathlib.Omega.{arith}
 use lib.ListN.{length}
 use lib.Dec.{eqb}
+use borrow.Author.Tests.{ltb-false}
 use lib.Ieee.{Float, lt}
 use Rattle.metrics.specs.Similarity.{whole}
 use Rattle.paths.specs.Best.{best}
-use Rattle.params.specs.Numbers.{Table, Parts, Call, firstFault}
+use Rattle.params.specs.Numbers.{Table, Parts}
 use Rattle.kplib.specs.Parts.{partLists, wholeOf}
 use Rattle.kplib.specs.Sums.{Total, totalOf}
 use Rattle.kplib.specs.Score.{sign, gapOf, scoreValue, sizesimOfTotals, seqsimOfTotals, start, targetOf, afterList, afterLists, totalScore, chainScore}
 use Rattle.kplib.specs.OneToOne.{nodeTotal, aloneScore, latestOf, overNodes, noLone, oneToOne}
 use Rattle.kplib.specs.Search.{Result, noLower, startResult, resultOf, scoredIn}
-use Rattle.kplib.specs.Answer.{Found, searched, matchedAlone, inSearchMode, foundAfter, answerOf}
+use Rattle.kplib.specs.Answer.{Found, searched, matchedAlone, inSearchMode, foundAfter}
+use Rattle.dive.specs.Numbered.{Numbered, numberedRules, numberedFault, numberedAnswer}
 use Rattle.params.specs.declared.Settings.{Settings}
 use Rattle.kplib.specs.declared.pathscore.Scored.{Scored}
-use Rattle.params.proofs.CheckedLaws.{accepted}
+use Rattle.params.proofs.CheckLaws.{none-given}
 use Rattle.capi.specs.Report.{targetNumber}
 
 -- a result whose target leaves out at most n parts
@@ -112,16 +114,22 @@ alone-within s t p =
     (after-within s p (node-total node) start (wholeOf (length (p .sizes))) (omega arith)))
     noLone 0 (length (t .sizes) + 2) (omega arith)
 
-pub target-within : (c : Call) → targetNumber (answerOf c .target) ≤ 65
-unfolding answerOf
-target-within c = go (firstFault c) refl
+-- an accepted call passes the table's third row on lengths: at most 64 parts
+few-parts : (n : Numbered) → numberedFault n ≡ 0 → length (n .call .parts .sizes) ≤ 64
+unfolding numberedFault
+few-parts n e = ltb-false 64 (length (n .call .parts .sizes)) (none-given (numberedRules n) refl e .1 .1 .1 .1 .1 .0)
+
+pub target-within : (n : Numbered) → targetNumber (numberedAnswer n .target) ≤ 65
+unfolding numberedAnswer
+target-within n = go (numberedFault n) refl
   where
-    go : (n : ℕ) → firstFault c ≡ n → targetNumber (foundAfter n c .scored .target) ≤ 65
+    go : (fault : ℕ) → numberedFault n ≡ fault → targetNumber (foundAfter fault (n .call) .scored .target) ≤ 65
     go zero e =
-        let few = accepted c e .part-sized .few in
+        let few = few-parts n e in
+        let c = n .call in
         let s = c .settings in
         let t = c .table in
         let p = c .parts in
         let found = either (λ (f : Found). Within (length (p .sizes)) (f .scored)) (inSearchMode c) (searched s t p) (matchedAlone s t p) (searched-within s t p) (alone-within s t p) in
         omega arith
-    go (suc n) e = omega arith
+    go (suc fault) e = omega arith

@@ -11,8 +11,8 @@ use Rattle.metrics.specs.Letters.{countsOf, counterAnswer, countedNumber, rowAf
 use Rattle.metrics.specs.Placed.{placed}
 use Rattle.metrics.specs.Similarity.{sizesimOf, seqsimOf, number, value}
 use Rattle.kplib.specs.Graph.{cappedCount, countNumber, countValue}
-use Rattle.kplib.specs.Answer.{answerOf, rowsOf}
-use Rattle.kplib.specs.Promises.{callLent, QueueKept}
+use Rattle.dive.specs.Numbered.{numberedAnswer, numberedRows, recordsOf}
+use Rattle.dive.specs.Promises.{numberedLent, NumberedQueueKept}
 use Rattle.desk.specs.Desk.{deskText}
 use Rattle.capi.specs.Words.{settingsOfWords}
 use Rattle.capi.specs.Report.{reportOf}
@@ -34,12 +34,13 @@ NdCountChainsPromise starts ends full cap count count' r =
 abbrev pub NdAnswerPromise : List ℕ → List ℕ → List ℕ → ℕ → Type 0
 NdAnswerPromise job text text' r = (r ≡ length (deskText job)) × (text' ≡ placed text (deskText job))
 
-abbrev pub NdApplyHaplotypePromise : List ℕ → List ℕ → List ℕ → List ℤ → List ℤ → List ℤ → List ℤ → List ℕ → List ℕ → List ℕ → List ℕ
-    → List ℕ → List ℕ → List ℕ → List ℕ → ℕ → Type 0
-NdApplyHaplotypePromise settings starts ends sizes features partSizes partFeatures links keys rows report links' keys' rows' report' r =
-    let c = callLent (settingsOfWords settings) starts ends sizes features partSizes partFeatures links keys rows in
-    (r ≡ answerOf c .refusal)
-    × ((report' ≡ reportOf (answerOf c))
-    × ((rows' ≡ placed rows (rowsOf c))
-    × (QueueKept c links links'
-    × QueueKept c keys keys')))
+abbrev pub NdApplyHaplotypePromise : List ℕ → List ℕ → List ℕ → List ℤ → List ℤ → List ℕ → List ℤ → List ℤ → List ℕ → List ℕ → List ℕ → List ℕ → List ℕ
+    → List ℕ → List ℕ → List ℕ → List ℕ → List ℕ → ℕ → Type 0
+NdApplyHaplotypePromise settings starts ends sizes features numbers partSizes partFeatures links keys rows records report links' keys' rows' records' report' r =
+    let n = numberedLent (settingsOfWords settings) starts ends sizes features numbers partSizes partFeatures links keys rows records in
+    (r ≡ numberedAnswer n .refusal)
+    × ((report' ≡ reportOf (numberedAnswer n))
+    × ((rows' ≡ placed rows (numberedRows n))
+    × ((records' ≡ placed records (recordsOf n))
+    × (NumberedQueueKept n links links'
+    × NumberedQueueKept n keys keys'))))

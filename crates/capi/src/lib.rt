@@ -96,29 +96,33 @@ pub extern "C" fn nd_apply_haplotype(
     ends: &[u64],
     sizes: &[i32],
     features: &[i32],
+    record_numbers: &[u32],
     part_sizes: &[i32],
     part_features: &[i32],
     links: &mut [u32],
     keys: &mut [u64],
     rows: &mut [u32],
+    records: &mut [u32],
     report: &mut [u32; 7],
 ) -> u32
     ensures { λ r. ⌜ NdApplyHaplotypePromise (now (settings .entry)) (now (starts .entry)) (now (ends .entry)) (now (sizes .entry)) (now (features .entry))
-        (now («part_sizes» .entry)) (now («part_features» .entry)) (now (links .entry)) (now (keys .entry)) (now (rows .entry)) (now (report .entry))
-        (now (links .exit)) (now (keys .exit)) (now (rows .exit)) (now (report .exit)) r ⌝ }
+        (now («record_numbers» .entry)) (now («part_sizes» .entry)) (now («part_features» .entry)) (now (links .entry)) (now (keys .entry)) (now (rows .entry))
+        (now (records .entry)) (now (report .entry)) (now (links .exit)) (now (keys .exit)) (now (rows .exit)) (now (records .exit)) (now (report .exit)) r ⌝ }
 {
     let s = settings_of_words(settings);
-    let answer = kplib::traverse::apply_haplotype(
+    let answer = dive::apply_numbered(
         s,
         starts,
         ends,
         sizes,
         features,
+        record_numbers,
         part_sizes,
         part_features,
         links,
         keys,
         rows,
+        records,
     );
     put_report(answer, report);
     answer.refusal

@@ -1,24 +1,60 @@
--- What the desk asks of the search's answer: k 0 is refused by 1, and the rows are no more than the room that they were placed in.
-use Prim.Native.Nat.{ℕ, _≤_}
+-- What the desk asks of a numbered answer: k 0 is refused by 1, a table's row numbers stand at the front of all, and rows and records are no more than the room that
+-- they were placed in.
+use Prim.Native.Nat.{ℕ, zero, suc, _≤_}
 use native.Mathlib.Omega.{arith}
-use mathlib.Core.Path.{_≡_, sym, ap, _∙_}
-use mathlib.Core.List.{List, _++_}
-use lib.ListN.{length, take, drop, length-append, length-drop}
-use lib.Seq.{take-at}
+use mathlib.Core.Path.{_≡_, refl, sym, ap, _∙_}
+use mathlib.Core.Bool.{Bool, true, false}
+use mathlib.Core.List.{List, [], _∷_, _++_}
+use lib.Dec.{ltb}
+use lib.ListN.{length, getD, take, drop, length-append, length-drop, length-map}
+use lib.Seq.{take-at, take-all, take-append-le}
+use borrow.Author.Tests.{ltb-true, ltb-false}
 use Rattle.params.specs.declared.Settings.{Settings}
 use Rattle.kplib.specs.declared.traverse.Answer.{Answer}
-use Rattle.params.specs.Numbers.{Table, Parts, Call, callOf, badK, firstFault}
-use Rattle.kplib.specs.Answer.{answerOf, rowsOf, queueRoom}
+use Rattle.params.specs.Numbers.{Table, Parts, Call, callOf, badK}
+use Rattle.kplib.specs.Answer.{queueRoom}
+use Rattle.dive.specs.Numbered.{Numbered, numberedFault, numberedAnswer, numberedRows, recordsAt, recordsOf}
 use Rattle.metrics.specs.Placed.{placed}
 use Rattle.text.specs.Text.{answerText}
 use Rattle.text.specs.Written.{Written}
 use Rattle.text.proofs.TextLaws.{answer-short}
+use Rattle.desk.specs.Desk.{rowNumbers, numberedByRow, numberedText}
 use Rattle.desk.specs.Memory.{searchText, Printed}
 use Rattle.desk.proofs.DeskLaws.{printed-as}
 
-pub refused-k-zero : (c : Call) → c .settings .k ≡ 0 → answerOf c .refusal ≡ 1
-unfolding answerOf firstFault badK
+pub refused-k-zero : (c : Call) → c .settings .k ≡ 0 → numberedAnswer (numberedByRow c) .refusal ≡ 1
+unfolding numberedAnswer numberedFault badK
 refused-k-zero c e = rw e
+
+-- n row numbers, and the first v of them
+pub row-count : (n : ℕ) → length (rowNumbers n) ≡ n
+unfolding rowNumbers
+row-count zero = refl
+row-count (suc n) = let h = row-count n in simp length-append (omega arith)
+
+front-numbers : (v n : ℕ) → v ≤ n → take v (rowNumbers n) ≡ rowNumbers v
+unfolding rowNumbers
+front-numbers zero zero h = refl
+front-numbers (suc v) zero h = let z : ⊥ = omega arith in absurd z
+front-numbers v (suc n) h = go (ltb n v) refl (front-numbers v n)
+  where
+    go : (t : Bool) → ltb n v ≡ t → (v ≤ n → take v (rowNumbers n) ≡ rowNumbers v) → take v (rowNumbers n ++ (n ∷ [])) ≡ rowNumbers v
+    go true f before =
+        let a = ltb-true n v f in
+        let e : v ≡ suc n = omega arith in
+        let c = row-count (suc n) in
+        rw e (take-all (suc n) (rowNumbers (suc n)) (omega arith))
+    go false f before =
+        let c = row-count n in
+        let a = ltb-false n v f in
+        take-append-le v (rowNumbers n) (n ∷ []) (omega arith) ∙ before a
+
+-- what is lent of the program's 16 numbers
+pub lent-by-row : {xs : List ℕ} (v : ℕ) → xs ≡ rowNumbers 16 → v ≤ 16 → take v xs ≡ rowNumbers v
+lent-by-row v e h = rw e (front-numbers v 16 h)
+
+pub lent-count : {xs : List ℕ} (v : ℕ) → xs ≡ rowNumbers 16 → v ≤ 16 → v ≡ length (take v xs)
+lent-count v e h = sym (ap length (lent-by-row v e h) ∙ row-count v)
 
 -- rows that were placed in a buffer, which kept its length, are no more than it has
 placed-few : (old rows new : List ℕ) → new ≡ placed old rows → length new ≡ length old → length rows ≤ length old
@@ -28,34 +64,55 @@ placed-few old rows new e l =
     let c = length-drop (length rows) old in
     omega arith
 
--- what the search answered in the program's room, as text
-module _ (s : Settings) (t : Table) (p : Parts) (links keys old : List ℕ) where
-  abbrev call : Call
-  call = callOf s t p (queueRoom links keys) (length old)
+-- what was placed at the front, taken again
+pub take-placed : {A : Type 0} (old new : List A) (n : ℕ) → length new ≡ n → take n (placed old new) ≡ new
+take-placed old new n e = take-at new (drop (length new) old) n e
 
-  module _ (link-room : 1025 ≡ length links) (key-room : 1025 ≡ length keys) (row-room : length old ≡ 16)
-      (a : Answer) (is : a ≡ answerOf call) (new : List ℕ) (stands : new ≡ placed old (rowsOf call)) where
-    queue-is : queueRoom links keys ≡ 1025
-    queue-is = rw (sym link-room, sym key-room)
+as-many-records : (numbers rows : List ℕ) → length (recordsAt numbers rows) ≡ length rows
+unfolding recordsAt
+as-many-records numbers rows = length-map rows (λ r. getD numbers r 0)
 
-    rows-are : a .rows ≡ length (rowsOf call)
-    unfolding answerOf rowsOf
-    rows-are = ap (λ (x : Answer). x .rows) is
+-- what was answered in the program's room, as text
+module _ (s : Settings) (t : Table) (p : Parts) (numbers links keys rows records : List ℕ) where
+  abbrev asked : Numbered
+  asked = record { call = callOf s t p (queueRoom links keys) (length rows); numbers = numbers; recordRoom = length records }
 
-    rows-taken : take (a .rows) new ≡ rowsOf call
-    rows-taken = rw stands (take-at (rowsOf call) (drop (length (rowsOf call)) old) (a .rows) (sym rows-are))
+  abbrev held : Numbered
+  held = numberedByRow (callOf s t p 1025 16)
 
-    answer-text : answerText a (take (a .rows) new) ≡ searchText s t p
-    unfolding searchText
-    answer-text =
-        let held = callOf s t p 1025 16 in
-        let g : a ≡ answerOf held = rw (queue-is, row-room) at is in
-        let h : take (a .rows) new ≡ rowsOf held = rw (queue-is, row-room) at rows-taken in
-        ap (λ (x : Answer). answerText x (take (a .rows) new)) g ∙ ap (answerText (answerOf held)) h
+  module _ (by-row : numbers ≡ rowNumbers (length (t .starts))) (link-room : 1025 ≡ length links) (key-room : 1025 ≡ length keys)
+      (row-room : length rows ≡ 16) (record-room : length records ≡ 16) where
+    asked-is : asked ≡ held
+    asked-is = rw (by-row, sym link-room, sym key-room, row-room, record-room)
 
-    pub answer-printed : length new ≡ 16 → {out out' : List ℕ} {r : ℕ} → Written out 0 (answerText a (take (a .rows) new)) out' r → Printed out (searchText s t p) out' r
-    answer-printed l w =
-        let e : length (take (a .rows) new) ≡ length (rowsOf call) = ap length rows-taken in
-        let f = placed-few old (rowsOf call) new stands (l ∙ sym row-room) in
-        let g = answer-short a (take (a .rows) new) in
-        printed-as (record { written = w; short = omega arith }) answer-text
+    module _ (a : Answer) (is : a ≡ numberedAnswer asked) (rows' : List ℕ) (stands : rows' ≡ placed rows (numberedRows asked))
+        (records' : List ℕ) (records-stand : records' ≡ placed records (recordsOf asked)) where
+      rows-are : a .rows ≡ length (numberedRows asked)
+      unfolding numberedAnswer numberedRows
+      rows-are = ap (λ (x : Answer). x .rows) is
+
+      records-are : a .rows ≡ length (recordsOf asked)
+      records-are = rows-are ∙ sym (as-many-records numbers (numberedRows asked))
+
+      rows-taken : take (a .rows) rows' ≡ numberedRows asked
+      rows-taken = rw stands (take-placed rows (numberedRows asked) (a .rows) (sym rows-are))
+
+      records-taken : take (a .rows) records' ≡ recordsOf asked
+      records-taken = rw records-stand (take-placed records (recordsOf asked) (a .rows) (sym records-are))
+
+      answer-text : answerText a (take (a .rows) rows') (take (a .rows) records') ≡ searchText s t p
+      unfolding searchText
+      answer-text =
+          ap (λ (xs : List ℕ). answerText a xs (take (a .rows) records')) rows-taken
+          ∙ ap (λ (xs : List ℕ). answerText a (numberedRows asked) xs) records-taken
+          ∙ ap (λ (x : Answer). answerText x (numberedRows asked) (recordsOf asked)) is
+          ∙ ap (λ (n : Numbered). numberedText n) asked-is
+
+      pub answer-printed : length rows' ≡ 16 → {out out' : List ℕ} {r : ℕ} → Written out 0 (answerText a (take (a .rows) rows') (take (a .rows) records')) out' r
+          → Printed out (searchText s t p) out' r
+      answer-printed l w =
+          let e : length (take (a .rows) rows') ≡ length (numberedRows asked) = ap length rows-taken in
+          let f : length (take (a .rows) records') ≡ length (numberedRows asked) = ap length records-taken ∙ as-many-records numbers (numberedRows asked) in
+          let g = placed-few rows (numberedRows asked) rows' stands (l ∙ sym row-room) in
+          let h = answer-short a (take (a .rows) rows') (take (a .rows) records') in
+          printed-as (record { written = w; short = omega arith }) answer-text

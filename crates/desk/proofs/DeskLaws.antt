@@ -23,7 +23,7 @@ pub printed-as : {t u : List ℕ} {r : ℕ} {xs ys : List ℕ} → Printed t xs 
 printed-as {t} {u} {r} {xs} {ys} p e = subst (λ (l : List ℕ). Printed t l u r) e p
 
 -- what is printed into a buffer with room for it is placed at its front
-pub printed-placed : {t u : List ℕ} {r : ℕ} {xs : List ℕ} → Printed t xs u r → 269 ≤ length t → (r ≡ length xs) × (u ≡ placed t xs)
+pub printed-placed : {t u : List ℕ} {r : ℕ} {xs : List ℕ} → Printed t xs u r → 453 ≤ length t → (r ≡ length xs) × (u ≡ placed t xs)
 printed-placed {t} {u} {r} {xs} p h =
     let w = p .written .next in
     let s = p .short in

@@ -182,9 +182,12 @@ module _ (job : Job) (more : List ℕ) where
         part-rows (job .settings .k) (job .parts) more,
       )
 
-  search-held : searchText (job .settings) (tableFrom (job .settings .k) (heldIn job more)) (partsFrom (job .settings .k) (heldIn job more)) ≡ jobText job
+  search-job : searchText (job .settings) (tableOfJob job) (partsOfJob job) ≡ jobText job
   unfolding searchText jobText
-  search-held = rw (table-held, parts-held)
+  search-job = refl
+
+  search-held : searchText (job .settings) (tableFrom (job .settings .k) (heldIn job more)) (partsFrom (job .settings .k) (heldIn job more)) ≡ jobText job
+  search-held = rw (table-held, parts-held) search-job
 
   module _ (v : length (job .variants) ≤ 16) (p : length (job .parts) ≤ 8) where
     pub text-held : heldText (job .settings) (heldIn job more) ≡ readText (Held job)
@@ -202,6 +205,7 @@ module _ (job : Job) (more : List ℕ) where
         record {
           variants = simp length-map v;
           parts = simp length-map p;
+          starts-alike = simp length-map;
           alike = simp length-map;
           part-alike = simp length-map;
           letters-end = simp length-append (omega arith);

@@ -6,8 +6,7 @@ use mathlib.Core.Path.{_≡_, refl, sym, ap, subst, _∙_}
 use mathlib.Core.Bool.{Bool, true, false, cond}
 use mathlib.Core.List.{List, _++_, map}
 use lib.IntN.{pos}
-use lib.ListN.{length, take, drop, replicate, length-append, length-map, length-drop}
-use lib.Seq.{take-at}
+use lib.ListN.{length, drop, replicate, length-append, length-map, length-drop}
 use borrow.Author.Tests.{ltb-false, leb-true, le-leb, ne-eqb}
 use Rattle.params.specs.declared.Settings.{Settings}
 use Rattle.paths.proofs.BooleanLaws.{and-both}
@@ -23,6 +22,7 @@ use Rattle.form.proofs.LetterLaws.{letters-within}
 use Rattle.text.specs.Text.{refusedText}
 use Rattle.desk.specs.Desk.{tooLarge, jobText, readText}
 use Rattle.desk.specs.Memory.{heldText, cut, toldAs, readingText, Fits, Front, Loaded}
+use Rattle.desk.proofs.AnswerLaws.{take-placed}
 use Rattle.desk.proofs.FaultLaws.{form-fault}
 use Rattle.desk.proofs.MemoryLaws.{heldIn, text-held, fits-held}
 
@@ -67,9 +67,6 @@ module _ {read : Reading} (t : Lent) where
 
     pub given-loaded : Loaded read t → Front (c .variants) (c .parts) t
     given-loaded l = subst (λ (x : Reading). Loaded x t) e l
-
-take-placed : {A : Type 0} (old new : List A) (n : ℕ) → length new ≡ n → take n (placed old new) ≡ new
-take-placed old new n e = take-at new (drop (length new) old) n e
 
 placed-long : {A : Type 0} (old new : List A) (n : ℕ) → n ≡ length new → n ≤ length (placed old new)
 placed-long old new n e = rw length-append (omega arith)

@@ -1,5 +1,5 @@
 -- Document 01, "Job form and program": the text that the program prints for the bytes that it is given.
-use Prim.Native.Nat.{ℕ}
+use Prim.Native.Nat.{ℕ, zero, suc}
 use mathlib.Core.Bool.{Bool, _||_, cond}
 use mathlib.Core.List.{List, [], _∷_, _++_, map}
 use lib.Dec.{ltb}
@@ -7,7 +7,7 @@ use lib.IntN.{ℤ}
 use lib.ListN.{length}
 use Rattle.metrics.specs.Letters.{countsOf}
 use Rattle.params.specs.Numbers.{Table, Parts, Call, tableOf, partsOf, callOf}
-use Rattle.kplib.specs.Answer.{answerOf, rowsOf}
+use Rattle.dive.specs.Numbered.{Numbered, numberedAnswer, numberedRows, recordsOf}
 use Rattle.form.specs.Job.{Variant, Part, Job, Read, Faulty, Held, readJob}
 use Rattle.text.specs.Text.{refusedText, answerText}
 
@@ -39,8 +39,20 @@ tooLarge job =
 abbrev pub callOfJob : Job → Call
 callOfJob job = callOf (job .settings) (tableOfJob job) (partsOfJob job) 1025 16
 
+-- the numbers from 0 up to and without n
+unfoldable pub rowNumbers : ℕ → List ℕ
+rowNumbers zero = []
+rowNumbers (suc n) = rowNumbers n ++ (n ∷ [])
+
+-- document 02, P3: a job in the present form gets its row numbers as record numbers; there is room for 16 records
+abbrev pub numberedByRow : Call → Numbered
+numberedByRow c = record { call = c; numbers = rowNumbers (length (c .table .starts)); recordRoom = 16 }
+
+abbrev pub numberedText : Numbered → List ℕ
+numberedText n = answerText (numberedAnswer n) (numberedRows n) (recordsOf n)
+
 unfoldable pub jobText : Job → List ℕ
-jobText job = answerText (answerOf (callOfJob job)) (rowsOf (callOfJob job))
+jobText job = numberedText (numberedByRow (callOfJob job))
 
 unfoldable pub readText : Read → List ℕ
 readText (Faulty n) = refusedText n

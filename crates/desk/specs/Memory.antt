@@ -7,19 +7,19 @@ use lib.Dec.{ltb, eqb}
 use lib.ListN.{length, take, drop}
 use Rattle.params.specs.declared.Settings.{Settings}
 use Rattle.params.specs.Numbers.{Table, Parts, tableOf, partsOf, callOf}
-use Rattle.kplib.specs.Answer.{answerOf, rowsOf}
 use Rattle.reader.specs.declared.Reading.{Reading}
 use Rattle.reader.specs.declared.Reading.the-variants.{Refused as Declined, Job as Given}
 use Rattle.form.specs.Lent.{Lent, lent}
 use Rattle.form.specs.Lent.{sum}
-use Rattle.text.specs.Text.{refusedText, answerText}
+use Rattle.text.specs.Text.{refusedText}
 use Rattle.text.specs.Written.{Written}
+use Rattle.desk.specs.Desk.{numberedByRow, numberedText}
 use Rattle.desk.specs.Rows.{rowsFrom}
 
--- a text stored at the front of a slice, and of at most 269 bytes: 16 rows, six more lines
+-- a text stored at the front of a slice, and of at most 453 bytes: 16 rows, 16 records, six more lines
 pub record Printed (old text new : List ℕ) (r : ℕ) : Type 0 where
   pub written : Written old 0 text new r
-  pub short : length text ≤ 269
+  pub short : length text ≤ 453
 
 -- the table and the parts that nine slices give once their letters are counted
 abbrev pub tableFrom : ℕ → Lent → Table
@@ -29,7 +29,7 @@ abbrev pub partsFrom : ℕ → Lent → Parts
 partsFrom k t = partsOf (t .partSizes) (rowsFrom k (t .partNegatives) (t .partCounts) (drop (sum (t .counts)) (t .letters)))
 
 unfoldable pub searchText : Settings → Table → Parts → List ℕ
-searchText s t p = answerText (answerOf (callOf s t p 1025 16)) (rowsOf (callOf s t p 1025 16))
+searchText s t p = numberedText (numberedByRow (callOf s t p 1025 16))
 
 -- 26 for k over 4 or maxpaths over 63, 1 for k 0, and else 0
 unfoldable pub limitFault : Settings → ℕ
@@ -42,6 +42,7 @@ heldText s t = cond (eqb (limitFault s) 0) (searchText s (tableFrom (s .k) t) (p
 pub record Fits (t : Lent) : Type 0 where
   pub variants : length (t .counts) ≤ 16
   pub parts : length (t .partCounts) ≤ 8
+  pub starts-alike : length (t .starts) ≡ length (t .counts)
   pub alike : length (t .negatives) ≡ length (t .counts)
   pub part-alike : length (t .partNegatives) ≡ length (t .partCounts)
   pub letters-end : sum (t .counts) + sum (t .partCounts) ≤ length (t .letters)

@@ -4,8 +4,9 @@ use crate::room::key_room;
 use crate::room::letter_room;
 use crate::room::link_room;
 use crate::room::part_table;
+use crate::room::row_numbers;
 use crate::room::variant_table;
-use kplib::traverse::apply_haplotype;
+use dive::apply_numbered;
 use metrics::kmer::entries;
 use metrics::refusals::BAD_K;
 use metrics::refusals::LITTLE_ROOM;
@@ -24,6 +25,7 @@ ghost use Rattle.form.specs.Lent.{lent};
 ghost use Rattle.desk.specs.Desk.{readText};
 ghost use Rattle.desk.specs.Memory.{searchText, limitFault, heldText, toldAs, readingText, Fits, Loaded, Printed};
 
+// A job's record numbers are its row numbers.
 fn search(
     s: Settings,
     starts: &[u64],
@@ -34,6 +36,7 @@ fn search(
     part_features: &[i32],
     out: &mut [u8],
 ) -> usize
+    requires { ⌜ length (now starts) ≤ 16 ⌝ }
     ensures { λ r. ⌜ Printed (now (out .entry)) (searchText s
         (tableOf (now (starts .entry)) (now (ends .entry)) (now (sizes .entry)) (now (features .entry)))
         (partsOf (now («part_sizes» .entry)) (now («part_features» .entry)))) (now (out .exit)) r ⌝ }
@@ -41,19 +44,23 @@ fn search(
     let mut links = link_room();
     let mut keys = key_room();
     let mut rows = [0u32; 16];
-    let a = apply_haplotype(
+    let mut records = [0u32; 16];
+    let numbers = row_numbers();
+    let a = apply_numbered(
         s,
         starts,
         ends,
         sizes,
         features,
+        &numbers[..starts.len()],
         part_sizes,
         part_features,
         &mut links,
         &mut keys,
         &mut rows,
+        &mut records,
     );
-    put_answer(out, 0, &rows, a)
+    put_answer(out, 0, &rows, &records, a)
 }
 
 // The program's own limits. k 0 has no features to count: 1 is the first row of the table of refusals.

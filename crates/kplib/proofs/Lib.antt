@@ -24,6 +24,6 @@ mod ExtensionLaws
 mod WeighLaws
 mod StepLaws
 mod SearchedLaws
-mod PlaceLaws
+pub mod PlaceLaws
 pub mod FoundLaws
 mod CountedLaws

@@ -1,7 +1,7 @@
 // The answer of a call: the search's, or the one-to-one match's (traverse.rs).
 ghost use mathlib.Core.Path.{_≡_};
 ghost use mathlib.Core.List.{[], reverse};
-ghost use Prim.Native.Nat.{_≤_, min};
+ghost use Prim.Native.Nat.{_≤_};
 ghost use lib.ListN.{length};
 ghost use Rattle.paths.specs.Queue.{Walk};
 ghost use Rattle.params.specs.Numbers.{tableOf, partsOf};
@@ -23,6 +23,7 @@ use crate::steps::search;
 use crate::vargraph::Row;
 use params::Settings;
 use params::checks::call_fault;
+use params::checks::queue_room;
 use params::graphparams::search_mode;
 
 // `rows` is how many row numbers stand at the front of the answer buffer; `refusal` is 0 where the job was accepted.
@@ -201,13 +202,6 @@ fn answer_alone(
     let target = scored.target;
     let n = place_row(lone.row, target, rows);
     answer_with(0, n, scored, starts.len() + 2, true)
-}
-
-// The queue holds as many entries as both of its slices have.
-fn queue_room(links: usize, keys: usize) -> usize
-    ensures { λ r. ⌜ r ≡ min links keys ⌝ }
-{
-    if links < keys { links } else { keys }
 }
 
 // The best chain of a table for a haplotype, or the best node alone. `links` and `keys` are the queue's room.

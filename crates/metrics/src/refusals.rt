@@ -26,6 +26,8 @@ pub const QUEUE_ROOM: u32 = 11;
 pub const ANSWER_ROOM: u32 = 12;
 // a sequence over its letter limit
 pub const TOO_MANY_LETTERS: u32 = 13;
+// a repeated record number
+pub const REPEATED_NUMBER: u32 = 14;
 // unknown kind
 pub const UNKNOWN_KIND: u32 = 20;
 // input ends inside a record or without 0x00

@@ -1,6 +1,6 @@
 -- The promise of each public function, said once: the function's `ensures` and `Unique` (crates/audit) cite it by name.
 -- Its arguments are the function's own, in their order, a lent slice by what it holds at entry; then the result r.
-use Prim.Native.Nat.{ℕ}
+use Prim.Native.Nat.{ℕ, min}
 use mathlib.Core.Path.{_≡_}
 use mathlib.Core.Bool.{Bool}
 use mathlib.Core.List.{List}
@@ -10,6 +10,9 @@ use Rattle.params.specs.Numbers.{tableOf, partsOf, callOf, searchMode, f
 
 abbrev pub SearchModePromise : Settings → ℕ → Bool → Type 0
 SearchModePromise s v r = r ≡ searchMode s v
+
+abbrev pub QueueRoomPromise : ℕ → ℕ → ℕ → Type 0
+QueueRoomPromise links keys r = r ≡ min links keys
 
 abbrev pub CallFaultPromise : Settings → List ℕ → List ℕ → List ℤ → List ℤ → List ℤ → List ℤ → ℕ → ℕ → ℕ → Type 0
 CallFaultPromise s starts ends sizes features partSizes partFeatures queueRoom answerRoom r =

@@ -22,7 +22,7 @@ ghost use lib.ListN.{length};
 ghost use Rattle.params.specs.Numbers.{tableOf, partsOf, firstOf, startAfterEnd, fallingStart, badSize, badRow, littleQueueRoom};
 ghost use Rattle.params.specs.Numbers.{lengthRules, boundRules, limitRules, roomRules};
 ghost use Rattle.params.specs.CheckSteps.{Shaped};
-ghost use Rattle.params.specs.Promises.{CallFaultPromise, CountFaultPromise};
+ghost use Rattle.params.specs.Promises.{QueueRoomPromise, CallFaultPromise, CountFaultPromise};
 
 // 4 to 6. The features are asked last, when V and m are known to be at most 64.
 fn length_fault(
@@ -191,7 +191,14 @@ fn room_fault(s: Settings, v: usize, queue_room: usize, answer_room: usize) -> u
     ACCEPTED
 }
 
-// The number of the first refusal of a call, 0 where it is accepted. Queue room is that of the shortest of the queue's slices.
+// The queue holds as many entries as both of its slices have.
+pub fn queue_room(links: usize, keys: usize) -> usize
+    ensures { λ r. ⌜ QueueRoomPromise links keys r ⌝ }
+{
+    if links < keys { links } else { keys }
+}
+
+// The number of the first refusal of a call, 0 where it is accepted.
 pub fn call_fault(
     s: Settings,
     starts: &[u64],

@@ -10,7 +10,7 @@ use lib.ListN.{length, getD, take, set, length-append}
 use lib.Seq.{sets, take-suc, set-out, length-sets}
 use borrow.Author.Tests.{lt-ltb, le-ltb, ltb-true, ltb-false}
 use Rattle.fields.proofs.FieldLaws.{sets-append}
-use Rattle.text.specs.Text.{hexDigit, hex2, digitsWithin, rowText, rowsText}
+use Rattle.text.specs.Text.{hexDigit, hex2, digitsWithin, entryText, entriesText}
 use Rattle.text.specs.Written.{behind, Written}
 
 -- what is stored past the end
@@ -101,18 +101,19 @@ last-digit {t} {u} {w} {i} {r} {q} n (suc left) l h p s =
     let f : Written t i (digitsWithin left (n / 10)) u r = rw e at p in
     rw (le-ltb n 10 h) (written-then f s)
 
--- rows one behind the other
-rows-snoc : (rows : List ℕ) (row : ℕ) → rowsText (rows ++ (row ∷ [])) ≡ rowsText rows ++ rowText row
-unfolding rowsText
-rows-snoc [] row = append-nil (rowText row)
-rows-snoc (r ∷ rows) row = ap (λ (l : List ℕ). rowText r ++ l) (rows-snoc rows row) ∙ sym (append-assoc (rowText r) (rowsText rows) (rowText row))
+-- rows or records one behind the other
+entries-snoc : (entries : List ℕ) (entry : ℕ) → entriesText (entries ++ (entry ∷ [])) ≡ entriesText entries ++ entryText entry
+unfolding entriesText
+entries-snoc [] entry = append-nil (entryText entry)
+entries-snoc (e ∷ entries) entry =
+    ap (λ (l : List ℕ). entryText e ++ l) (entries-snoc entries entry) ∙ sym (append-assoc (entryText e) (entriesText entries) (entryText entry))
 
-pub no-rows : (t : List ℕ) (i : ℕ) (rows : List ℕ) → Written t i (rowsText (take 0 rows)) t i
-unfolding rowsText
-no-rows t i rows = written-none t i
+pub no-entries : (t : List ℕ) (i : ℕ) (entries : List ℕ) → Written t i (entriesText (take 0 entries)) t i
+unfolding entriesText
+no-entries t i entries = written-none t i
 
-pub next-row : {t u w : List ℕ} {at end r : ℕ} (i : ℕ) (rows : List ℕ) → i < length rows →
-    Written t at (rowsText (take i rows)) u end → Written u end (rowText (getD rows i 0)) w r → Written t at (rowsText (take (i + 1) rows)) w r
-next-row i rows h p q =
-    let e : take (i + 1) rows ≡ take i rows ++ (getD rows i 0 ∷ []) = rw (add-one i) (take-suc rows i 0 h) in
-    written-as (written-then p q) (sym (ap rowsText e ∙ rows-snoc (take i rows) (getD rows i 0)))
+pub next-entry : {t u w : List ℕ} {at end r : ℕ} (i : ℕ) (entries : List ℕ) → i < length entries →
+    Written t at (entriesText (take i entries)) u end → Written u end (entryText (getD entries i 0)) w r → Written t at (entriesText (take (i + 1) entries)) w r
+next-entry i entries h p q =
+    let e : take (i + 1) entries ≡ take i entries ++ (getD entries i 0 ∷ []) = rw (add-one i) (take-suc entries i 0 h) in
+    written-as (written-then p q) (sym (ap entriesText e ∙ entries-snoc (take i entries) (getD entries i 0)))

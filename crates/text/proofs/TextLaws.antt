@@ -1,29 +1,24 @@
 -- Which text an answer has, and how long it is at most: eight hexadecimal digits a float, at most ten decimal digits a number.
-use Prim.Native.Nat.{ℕ, zero, suc, _+_, _*_, _/_, _%_, _≤_, _<_}
+use Prim.Native.Nat.{ℕ, zero, suc, _+_, _*_, _/_, _%_, _≤_}
 use native.Mathlib.Omega.{arith}
 use mathlib.Core.Path.{_≡_, refl}
 use mathlib.Core.Bool.{Bool, true, false, cond}
 use mathlib.Core.List.{List, [], _∷_, _++_}
 use lib.Dec.{ltb, eqb}
 use lib.Ieee.{Float, binary32, toBits}
-use lib.ListN.{length, take, length-append}
-use lib.Seq.{take-all}
+use lib.ListN.{length, length-append}
 use borrow.Author.Tests.{eq-eqb, ne-eqb}
 use Rattle.kplib.specs.declared.traverse.Answer.{Answer}
-use Rattle.text.specs.Text.{bytesOf, digitsWithin, hex2, hex4, hex8, numberLine, floatLine, flagLine, yesOrNo, rowText, rowsText, rowsLine, isWhole}
-use Rattle.text.specs.Text.{similarityLines, reachLines, sevenLines, refusedText, answerText}
+use Rattle.text.specs.Text.{bytesOf, digitsWithin, hex2, hex4, hex8, numberLine, floatLine, flagLine, yesOrNo, entryText, entriesText, listLine, isWhole}
+use Rattle.text.specs.Text.{similarityLines, reachLines, eightLines, refusedText, answerText}
 
-pub text-refused : (a : Answer) (rows : List ℕ) → (a .refusal ≡ 0 → ⊥) → refusedText (a .refusal) ≡ answerText a rows
+pub text-refused : (a : Answer) (rows records : List ℕ) → (a .refusal ≡ 0 → ⊥) → refusedText (a .refusal) ≡ answerText a rows records
 unfolding answerText
-text-refused a rows h = simp (ne-eqb (a .refusal) 0 h)
+text-refused a rows records h = simp (ne-eqb (a .refusal) 0 h)
 
-pub text-accepted : (a : Answer) (rows : List ℕ) → a .refusal ≡ 0 → sevenLines rows a ≡ answerText a rows
+pub text-accepted : (a : Answer) (rows records : List ℕ) → a .refusal ≡ 0 → eightLines rows records a ≡ answerText a rows records
 unfolding answerText
-text-accepted a rows h = simp (eq-eqb (a .refusal) 0 h)
-
--- fewer rows than the answer counts: all of them
-pub text-of-all : (a : Answer) (rows : List ℕ) → a .refusal ≡ 0 → length rows < a .rows → sevenLines rows a ≡ answerText a (take (a .rows) rows)
-text-of-all a rows h few = rw (take-all (a .rows) rows (omega arith)) (text-accepted a rows h)
+text-accepted a rows records h = simp (eq-eqb (a .refusal) 0 h)
 
 digits-short : (left n : ℕ) → length (digitsWithin left n) ≤ left
 unfolding digitsWithin
@@ -58,18 +53,18 @@ flag-short word flag = let h = yes-or-no-short flag in simp length-append (omega
 one-more : {n : ℕ} → n ≤ 10 → suc n ≤ 11
 one-more h = omega arith
 
-row-short : (row : ℕ) → length (rowText row) ≤ 11
-unfolding rowText bytesOf
-row-short row = one-more (digits-short 10 _)
+entry-short : (entry : ℕ) → length (entryText entry) ≤ 11
+unfolding entryText bytesOf
+entry-short entry = one-more (digits-short 10 _)
 
-rows-short : (rows : List ℕ) → length (rowsText rows) ≤ 11 * length rows
-unfolding rowsText
-rows-short [] = omega arith
-rows-short (row ∷ rows) = let h = row-short row in let g = rows-short rows in simp length-append (omega arith)
+entries-short : (entries : List ℕ) → length (entriesText entries) ≤ 11 * length entries
+unfolding entriesText
+entries-short [] = omega arith
+entries-short (entry ∷ entries) = let h = entry-short entry in let g = entries-short entries in simp length-append (omega arith)
 
-rows-line-short : (rows : List ℕ) → length (rowsLine rows) ≤ 5 + 11 * length rows
-unfolding rowsLine bytesOf
-rows-line-short rows = let h = rows-short rows in simp length-append (omega arith)
+list-short : (word entries : List ℕ) → length (listLine word entries) ≤ length word + 1 + 11 * length entries
+unfolding listLine bytesOf
+list-short word entries = let h = entries-short entries in simp length-append (omega arith)
 
 similarities-short : (a : Answer) → length (similarityLines a) ≤ 48
 unfolding similarityLines bytesOf
@@ -87,10 +82,11 @@ reach-short a =
     let j = flag-short (bytesOf "complete ") (a .complete) in
     simp length-append (omega arith)
 
-seven-short : (rows : List ℕ) (a : Answer) → length (sevenLines rows a) ≤ 93 + 11 * length rows
-unfolding sevenLines
-seven-short rows a =
-    let h = rows-line-short rows in
+eight-short : (rows records : List ℕ) (a : Answer) → length (eightLines rows records a) ≤ 101 + 11 * length rows + 11 * length records
+unfolding eightLines bytesOf
+eight-short rows records a =
+    let g = list-short (bytesOf "rows") rows in
+    let h = list-short (bytesOf "records") records in
     let i = similarities-short a in
     let j = reach-short a in
     simp length-append (omega arith)
@@ -99,10 +95,10 @@ pub refused-short : (n : ℕ) → length (refusedText n) ≤ 19
 unfolding refusedText bytesOf
 refused-short n = number-short (bytesOf "refused ") n
 
-pub answer-short : (a : Answer) (rows : List ℕ) → length (answerText a rows) ≤ 93 + 11 * length rows
+pub answer-short : (a : Answer) (rows records : List ℕ) → length (answerText a rows records) ≤ 101 + 11 * length rows + 11 * length records
 unfolding answerText
-answer-short a rows = go (eqb (a .refusal) 0)
+answer-short a rows records = go (eqb (a .refusal) 0)
   where
-    go : (t : Bool) → length (cond t (sevenLines rows a) (refusedText (a .refusal))) ≤ 93 + 11 * length rows
-    go true = seven-short rows a
+    go : (t : Bool) → length (cond t (eightLines rows records a) (refusedText (a .refusal))) ≤ 101 + 11 * length rows + 11 * length records
+    go true = eight-short rows records a
     go false = let h = refused-short (a .refusal) in omega arith

@@ -10,6 +10,6 @@ use Rattle.text.specs.Written.{Written}
 abbrev pub PutRefusedPromise : List ℕ → ℕ → ℕ → List ℕ → ℕ → Type 0
 PutRefusedPromise out at n out' r = Written out at (refusedText n) out' r
 
--- the rows are the first of those lent, as many as the answer counts, or all where fewer are lent
-abbrev pub PutAnswerPromise : List ℕ → ℕ → List ℕ → Answer → List ℕ → ℕ → Type 0
-PutAnswerPromise out at rows a out' r = Written out at (answerText a (take (a .rows) rows)) out' r
+-- the rows, and their records, are the first of those lent, as many as the answer counts, or all where fewer are lent
+abbrev pub PutAnswerPromise : List ℕ → ℕ → List ℕ → List ℕ → Answer → List ℕ → ℕ → Type 0
+PutAnswerPromise out at rows records a out' r = Written out at (answerText a (take (a .rows) rows) (take (a .rows) records)) out' r

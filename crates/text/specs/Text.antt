@@ -51,16 +51,16 @@ yesOrNo false = bytesOf "no\n"
 unfoldable pub flagLine : List ℕ → Bool → List ℕ
 flagLine word flag = word ++ yesOrNo flag
 
--- several rows are parted by one space; no rows prints `rows` alone
-unfoldable pub rowText : ℕ → List ℕ
-rowText row = bytesOf " " ++ decimal row
+-- several rows, or records (document 02, P3), are parted by one space; none prints the word alone
+unfoldable pub entryText : ℕ → List ℕ
+entryText entry = bytesOf " " ++ decimal entry
 
-unfoldable pub rowsText : List ℕ → List ℕ
-rowsText [] = []
-rowsText (row ∷ rows) = rowText row ++ rowsText rows
+unfoldable pub entriesText : List ℕ → List ℕ
+entriesText [] = []
+entriesText (entry ∷ entries) = entryText entry ++ entriesText entries
 
-unfoldable pub rowsLine : List ℕ → List ℕ
-rowsLine rows = bytesOf "rows" ++ rowsText rows ++ bytesOf "\n"
+unfoldable pub listLine : List ℕ → List ℕ → List ℕ
+listLine word entries = word ++ entriesText entries ++ bytesOf "\n"
 
 -- `full` is yes for the whole haplotype
 unfoldable pub isWhole : Target → Bool
@@ -80,12 +80,13 @@ reachLines a =
     ++ numberLine (bytesOf "scored ") (a .scored)
     ++ flagLine (bytesOf "complete ") (a .complete)
 
-unfoldable pub sevenLines : List ℕ → Answer → List ℕ
-sevenLines rows a = rowsLine rows ++ similarityLines a ++ reachLines a
+-- `records` directly after `rows`, then document 01's other six
+unfoldable pub eightLines : List ℕ → List ℕ → Answer → List ℕ
+eightLines rows records a = listLine (bytesOf "rows") rows ++ listLine (bytesOf "records") records ++ similarityLines a ++ reachLines a
 
 unfoldable pub refusedText : ℕ → List ℕ
 refusedText n = numberLine (bytesOf "refused ") n
 
--- `refused N`, or the seven lines
-unfoldable pub answerText : Answer → List ℕ → List ℕ
-answerText a rows = cond (eqb (a .refusal) 0) (sevenLines rows a) (refusedText (a .refusal))
+-- `refused N`, or the eight lines
+unfoldable pub answerText : Answer → List ℕ → List ℕ → List ℕ
+answerText a rows records = cond (eqb (a .refusal) 0) (eightLines rows records a) (refusedText (a .refusal))

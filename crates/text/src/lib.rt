@@ -2,8 +2,8 @@
 mod lines;
 mod pieces;
 
+use crate::lines::put_eight;
 use crate::lines::put_number_line;
-use crate::lines::put_seven;
 use kplib::traverse::Answer;
 ghost use Rattle.text.specs.Promises.{PutRefusedPromise, PutAnswerPromise};
 
@@ -14,16 +14,12 @@ pub fn put_refused(out: &mut [u8], at: usize, n: u32) -> usize
     put_number_line(out, at, b"refused ", n)
 }
 
-// `refused N`, or the seven lines of an answer whose rows stand at the front of `rows`.
-pub fn put_answer(out: &mut [u8], at: usize, rows: &[u32], a: Answer) -> usize
-    ensures { λ r. ⌜ PutAnswerPromise (now (out .entry)) at (now (rows .entry)) a (now (out .exit)) r ⌝ }
+// `refused N`, or the eight lines of an answer whose rows stand at the front of `rows` and their record numbers at that of `records`.
+pub fn put_answer(out: &mut [u8], at: usize, rows: &[u32], records: &[u32], a: Answer) -> usize
+    ensures { λ r. ⌜ PutAnswerPromise (now (out .entry)) at (now (rows .entry)) (now (records .entry)) a (now (out .exit)) r ⌝ }
 {
     if a.refusal != 0 {
         return put_refused(out, at, a.refusal);
     }
-    let n = a.rows as usize;
-    if rows.len() < n {
-        return put_seven(out, at, rows, a);
-    }
-    put_seven(out, at, &rows[..n], a)
+    put_eight(out, at, rows, records, a)
 }

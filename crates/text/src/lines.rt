@@ -6,35 +6,46 @@ use kplib::pathscore::Target;
 use kplib::traverse::Answer;
 use metrics::floats::bits_of;
 ghost use mathlib.Core.Path.{_≡_};
-ghost use Rattle.text.specs.Text.{rowText, rowsText, rowsLine, floatLine, flagLine, numberLine, isWhole, similarityLines, reachLines, sevenLines};
+ghost use lib.ListN.{take};
+ghost use Rattle.text.specs.Text.{entryText, entriesText, listLine, floatLine, flagLine, numberLine, isWhole, similarityLines, reachLines, eightLines};
 ghost use Rattle.text.specs.Written.{Written};
 
-// A row number with the space before it.
-fn put_row(out: &mut [u8], at: usize, row: u32) -> usize
-    ensures { λ r. ⌜ Written (now (out .entry)) at (rowText row) (now (out .exit)) r ⌝ }
+// A row or a record number with the space before it.
+fn put_entry(out: &mut [u8], at: usize, entry: u32) -> usize
+    ensures { λ r. ⌜ Written (now (out .entry)) at (entryText entry) (now (out .exit)) r ⌝ }
 {
     let a = put_bytes(out, at, b" ");
-    put_digits(out, a, row, 10)
+    put_digits(out, a, entry, 10)
 }
 
-fn put_rows(out: &mut [u8], at: usize, rows: &[u32]) -> usize
-    ensures { λ r. ⌜ Written (now (out .entry)) at (rowsText (now (rows .entry))) (now (out .exit)) r ⌝ }
+fn put_entries(out: &mut [u8], at: usize, entries: &[u32]) -> usize
+    ensures { λ r. ⌜ Written (now (out .entry)) at (entriesText (now (entries .entry))) (now (out .exit)) r ⌝ }
 {
     let mut i = 0usize;
     let mut end = at;
-    while i < rows.len() {
-        end = put_row(out, end, rows[i]);
+    while i < entries.len() {
+        end = put_entry(out, end, entries[i]);
         i += 1;
     }
     end
 }
 
-fn put_rows_line(out: &mut [u8], at: usize, rows: &[u32]) -> usize
-    ensures { λ r. ⌜ Written (now (out .entry)) at (rowsLine (now (rows .entry))) (now (out .exit)) r ⌝ }
+fn put_list_line(out: &mut [u8], at: usize, word: &[u8], entries: &[u32]) -> usize
+    ensures { λ r. ⌜ Written (now (out .entry)) at (listLine (now (word .entry)) (now (entries .entry))) (now (out .exit)) r ⌝ }
 {
-    let a = put_bytes(out, at, b"rows");
-    let b = put_rows(out, a, rows);
+    let a = put_bytes(out, at, word);
+    let b = put_entries(out, a, entries);
     put_bytes(out, b, b"\n")
+}
+
+// The first n of the entries, or all where there are fewer.
+fn put_front_line(out: &mut [u8], at: usize, word: &[u8], entries: &[u32], n: usize) -> usize
+    ensures { λ r. ⌜ Written (now (out .entry)) at (listLine (now (word .entry)) (take n (now (entries .entry)))) (now (out .exit)) r ⌝ }
+{
+    if entries.len() < n {
+        return put_list_line(out, at, word, entries);
+    }
+    put_list_line(out, at, word, &entries[..n])
 }
 
 fn put_float_line(out: &mut [u8], at: usize, word: &[u8], x: f32) -> usize
@@ -93,10 +104,19 @@ fn put_reach(out: &mut [u8], at: usize, a: Answer) -> usize
     put_flag_line(out, d, b"complete ", a.complete)
 }
 
-pub(crate) fn put_seven(out: &mut [u8], at: usize, rows: &[u32], a: Answer) -> usize
-    ensures { λ r. ⌜ Written (now (out .entry)) at (sevenLines (now (rows .entry)) a) (now (out .exit)) r ⌝ }
+// The lines of an accepted answer, with as many rows and records as it counts.
+pub(crate) fn put_eight(
+    out: &mut [u8],
+    at: usize,
+    rows: &[u32],
+    records: &[u32],
+    a: Answer,
+) -> usize
+    ensures { λ r. ⌜ Written (now (out .entry)) at (eightLines (take (a .rows) (now (rows .entry))) (take (a .rows) (now (records .entry))) a) (now (out .exit)) r ⌝ }
 {
-    let b = put_rows_line(out, at, rows);
-    let d = put_similarities(out, b, a);
-    put_reach(out, d, a)
+    let n = a.rows as usize;
+    let b = put_front_line(out, at, b"rows", rows, n);
+    let d = put_front_line(out, b, b"records", records, n);
+    let e = put_similarities(out, d, a);
+    put_reach(out, e, a)
 }

@@ -1,4 +1,5 @@
 //! An answer and its lines.
+use crate::rules::DOCUMENT;
 
 #[derive(Clone, Copy, Debug, PartialEq, Eq)]
 pub enum Target {
@@ -13,6 +14,8 @@ pub enum Target {
 pub struct Answer {
     pub refusal: u32,
     pub rows: Vec<u32>,
+    /// the rows' record numbers
+    pub records: Vec<u32>,
     pub target: Target,
     pub score: u32,
     pub sizesim: u32,
@@ -26,6 +29,7 @@ impl Answer {
         Answer {
             refusal: number,
             rows: vec![],
+            records: vec![],
             target: Target::Nothing,
             score: 0,
             sizesim: 0,
@@ -37,19 +41,32 @@ impl Answer {
 
     /// What the program prints.
     pub fn text(&self) -> String {
+        self.text_in(DOCUMENT.lines())
+    }
+
+    /// The lines of these words, in their order.
+    pub fn text_in(&self, lines: &[&str]) -> String {
         if self.refusal != 0 {
             return format!("refused {}\n", self.refusal);
         }
-        let yes = |b: bool| if b { "yes" } else { "no" };
-        let rows: String = self.rows.iter().map(|row| format!(" {row}")).collect();
-        format!(
-            "rows{rows}\nscore {:08x}\nsizesim {:08x}\nseqsim {:08x}\nfull {}\nscored {}\ncomplete {}\n",
-            self.score,
-            self.sizesim,
-            self.seqsim,
-            yes(self.target == Target::Whole),
-            self.scored,
-            yes(self.complete)
-        )
+        lines.iter().map(|&word| format!("{word}{}\n", self.after(word))).collect()
+    }
+
+    /// What stands in its line after a word.
+    fn after(&self, word: &str) -> String {
+        let list = |numbers: &[u32]| numbers.iter().map(|number| format!(" {number}")).collect();
+        let bits = |float: u32| format!(" {float:08x}");
+        let yes = |b: bool| if b { " yes" } else { " no" }.to_string();
+        match word {
+            "rows" => list(&self.rows),
+            "records" => list(&self.records),
+            "score" => bits(self.score),
+            "sizesim" => bits(self.sizesim),
+            "seqsim" => bits(self.seqsim),
+            "full" => yes(self.target == Target::Whole),
+            "scored" => format!(" {}", self.scored),
+            "complete" => yes(self.complete),
+            _ => unreachable!("no line of an answer: {word}"),
+        }
     }
 }

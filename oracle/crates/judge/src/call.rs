@@ -1,4 +1,4 @@
-//! A job as the library is asked it: flat slices and lent room, and the refusals 1 to 12 in the table's order.
+//! A job as the library is asked it: flat slices and lent room, and the refusals 1 to 12 and 14 in the table's order.
 use crate::job::{Job, Settings};
 use crate::rules::Rules;
 use crate::rust;
@@ -10,10 +10,14 @@ pub struct Call {
     pub ends: Vec<u64>,
     pub sizes: Vec<i32>,
     pub features: Vec<i32>,
+    /// the variants' record numbers
+    pub numbers: Vec<u32>,
     pub part_sizes: Vec<i32>,
     pub part_features: Vec<i32>,
     pub queue_room: usize,
     pub answer_room: usize,
+    /// what the second answer buffer, that of the records, holds before the call
+    pub record_buffer: Vec<u32>,
 }
 
 /// The sum of a row's magnitudes.
@@ -27,12 +31,12 @@ pub fn queue_need(settings: &Settings, variants: usize) -> usize {
 }
 
 impl Call {
-    /// The features by the Rust's own counter. A k that is refused anyway gets none.
+    /// The features by the Rust's own counter, the rows' own numbers as record numbers. A k that is refused anyway gets no features.
     pub fn of_job(job: &Job) -> Call {
-        Call::of_job_by(job, rust::features)
+        Call::of_job_by(job, (0..).take(job.variants.len()).collect(), rust::features)
     }
 
-    pub fn of_job_by(job: &Job, features: impl Fn(u8, &[u8], bool) -> Vec<i32>) -> Call {
+    pub fn of_job_by(job: &Job, numbers: Vec<u32>, features: impl Fn(u8, &[u8], bool) -> Vec<i32>) -> Call {
         let k = job.settings.k;
         let row = |letters: &[u8], negative: bool| match k {
             1..=6 => features(k, letters, negative),
@@ -44,10 +48,12 @@ impl Call {
             ends: job.variants.iter().map(|v| v.end).collect(),
             sizes: job.variants.iter().map(|v| v.size).collect(),
             features: job.variants.iter().flat_map(|v| row(&v.letters, v.negative)).collect(),
+            numbers,
             part_sizes: job.parts.iter().map(|p| p.size).collect(),
             part_features: job.parts.iter().flat_map(|p| row(&p.letters, p.negative)).collect(),
             queue_room: queue_need(&job.settings, job.variants.len()).min(1 << 19),
             answer_room: job.variants.len(),
+            record_buffer: vec![0; job.variants.len()],
         }
     }
 
@@ -59,12 +65,18 @@ impl Call {
         !rules.is_one_to_one(&self.settings, self.starts.len())
     }
 
+    /// What document 01 has lent beside V starts and m part sizes: how long it is, and should be.
+    fn lengths(&self, v: usize, m: usize) -> [(usize, usize); 4] {
+        let e = self.settings.entries();
+        [(self.ends.len(), v), (self.sizes.len(), v), (self.features.len(), v * e), (self.part_features.len(), m * e)]
+    }
+
     /// The first refusal that applies, or 0.
     pub fn refusal(&self, rules: &Rules) -> u32 {
         rules.refusals().iter().copied().find(|&number| self.is_refused_by(rules, number)).unwrap_or(0)
     }
 
-    /// Document 01's table. A row may count on those before it.
+    /// Document 01's table, with what document 02 adds to it. A row may count on those before it.
     pub fn is_refused_by(&self, rules: &Rules, number: u32) -> bool {
         let s = &self.settings;
         let (v, m) = (self.starts.len(), self.part_sizes.len());
@@ -75,13 +87,14 @@ impl Call {
             3 => s.wholes().into_iter().zip([4_095, 65_535, 65_535, 12, 16_777_216]).any(|(whole, top)| whole > top),
             4 => v == 0,
             5 => v > 64 || m > 64,
-            6 => [self.ends.len(), self.sizes.len()] != [v; 2] || [self.features.len(), self.part_features.len()] != [v, m].map(|n| n * s.entries()),
+            6 => self.lengths(v, m).into_iter().any(|(lent, wanted)| lent != wanted) || rules.numbers_disagree(self.numbers.len(), v),
             7 => self.starts.iter().zip(&self.ends).any(|(&start, &end)| rules.is_reversed(start, end)),
             8 => self.starts.windows(2).any(|pair| rules.falls(pair[1], pair[0])),
             9 => self.sizes.iter().chain(&self.part_sizes).any(|&size| rules.size_is_over(size)),
             10 => rows().any(|row| magnitudes(row) > 131_072),
             11 => self.searches(rules) && self.queue_room < queue_need(s, v),
-            12 => self.answer_room < v,
+            12 => self.answer_room < v || rules.second_is_short(self.record_buffer.len(), v, self.searches(rules)),
+            14 => rules.repeats(&self.numbers),
             _ => unreachable!("no refusal of the table: {number}"),
         }
     }

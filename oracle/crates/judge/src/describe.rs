@@ -50,15 +50,17 @@ pub fn bytes(bytes: &[u8]) -> String {
 pub fn call(call: &Call) -> String {
     let show = |row: &[i32]| if row.len() > 64 { format!("{:?}..", &row[..64]) } else { format!("{row:?}") };
     format!(
-        "{}; starts {:?} ends {:?} sizes {:?} features {} part sizes {:?} part features {} queue room {} answer room {}",
+        "{}; starts {:?} ends {:?} sizes {:?} features {} record numbers {:?} part sizes {:?} part features {} queue room {} answer room {} second buffer {:?}",
         settings(&call.settings),
         call.starts,
         call.ends,
         call.sizes,
         show(&call.features),
+        call.numbers,
         call.part_sizes,
         show(&call.part_features),
         call.queue_room,
-        call.answer_room
+        call.answer_room,
+        call.record_buffer
     )
 }

@@ -1,4 +1,4 @@
-//! Document 01's counting, scoring and search once more, in whole numbers and without kanpig's Rust, so that two
+//! The documents' counting, scoring, search and records once more, in whole numbers and without kanpig's Rust, so that two
 //! independent readings are compared. In the paper's order; what it says in one sentence is asked of `Rules`.
 use crate::answer::{Answer, Target};
 use crate::call::Call;
@@ -213,6 +213,7 @@ pub fn call_answer(rules: &Rules, call: &Call, met: &mut Met) -> Answer {
     Answer {
         refusal,
         rows: best.rows.iter().map(|&row| rules.row_number(row)).collect(),
+        records: rules.records(&call.numbers, &best.rows),
         target: best.target,
         score: best.score.to_bits(),
         sizesim: best.sizesim.to_bits(),
@@ -222,9 +223,14 @@ pub fn call_answer(rules: &Rules, call: &Call, met: &mut Met) -> Answer {
     }
 }
 
-/// The job as a call, its features counted by the rules.
+/// What the second buffer holds after a call so answered.
+pub fn record_buffer(rules: &Rules, call: &Call, answer: &Answer) -> Vec<u32> {
+    rules.second_after(&call.record_buffer, &answer.records, answer.refusal != 0)
+}
+
+/// The job as a call, its features counted and its record numbers given by the rules.
 pub fn call_of(rules: &Rules, job: &Job) -> Call {
-    Call::of_job_by(job, |k, letters, negative| features(rules, k, letters, negative))
+    Call::of_job_by(job, rules.present_numbers(job.variants.len()), |k, letters, negative| features(rules, k, letters, negative))
 }
 
 /// The answer to a program's input.
@@ -233,4 +239,9 @@ pub fn program_answer(rules: &Rules, bytes: &[u8], met: &mut Met) -> Answer {
         Err(number) => Answer::refused(number),
         Ok(job) => call_answer(rules, &call_of(rules, &job), met),
     }
+}
+
+/// What the program would print by these rules.
+pub fn program_text(rules: &Rules, bytes: &[u8]) -> String {
+    program_answer(rules, bytes, &mut Met::default()).text_in(rules.lines())
 }

@@ -1,5 +1,5 @@
 //! Seeded jobs that reach what document 01 speaks of: ties, zero and negative sizes, squish, bare graphs, one-to-one,
-//! thresholds and penalties at telling values, every kind of refusal, and sums at their limits.
+//! thresholds and penalties at telling values, every kind of refusal, sums at their limits, and record numbers of all kinds.
 use crate::call::{queue_need, Call};
 use crate::job::{record_length, shape, Job, Part, Settings, Variant};
 use crate::random::Random;
@@ -309,7 +309,25 @@ pub fn call(r: &mut Random, budget: u64) -> Call {
     if r.chance(5) {
         disturb_job(r, &mut job);
     }
-    let mut call = Call::of_job(&job);
+    let mut call = lent(r, &job, budget);
+    number(r, &mut call);
+    call
+}
+
+/// A library call of the program's size, more of them at fault.
+pub fn small_call(r: &mut Random) -> Call {
+    let mut job = job(r, PROGRAM);
+    if r.chance(30) {
+        disturb_job(r, &mut job);
+    }
+    let mut call = lent(r, &job, 100_000);
+    number(r, &mut call);
+    call
+}
+
+/// The call of a job, with room of some length.
+fn lent(r: &mut Random, job: &Job, budget: u64) -> Call {
+    let mut call = Call::of_job(job);
     if call.refusal(&DOCUMENT) == 0 && r.chance(20) {
         scatter(r, &mut call);
     }
@@ -325,6 +343,61 @@ pub fn call(r: &mut Random, budget: u64) -> Call {
         disturb_call(r, &mut call);
     }
     call
+}
+
+/// Different numbers: the row numbers, alike in half their bits, near each other, at the ends of the range, or any.
+fn different(r: &mut Random, v: usize) -> Vec<u32> {
+    let style = r.below(7);
+    let mut numbers = vec![];
+    while numbers.len() < v {
+        let any = r.next() as u32;
+        let number = match style {
+            0 => numbers.len() as u32,
+            1 => any & 0xffff_0000 | 7,
+            2 => any & 0xffff | 0x8000_0000,
+            3 => any % 1000,
+            4 if r.chance(50) => r.pick(&[0, 1, 0x7fff_ffff, 0x8000_0000, u32::MAX - 1, u32::MAX]),
+            _ => any,
+        };
+        if !numbers.contains(&number) {
+            numbers.push(number);
+        }
+    }
+    numbers
+}
+
+/// One of the numbers put in another's place, beside it or anywhere.
+fn repeat(r: &mut Random, numbers: &mut [u32]) {
+    let v = numbers.len() as u64;
+    if v < 2 {
+        return;
+    }
+    let from = r.below(v - 1) as usize;
+    let to = if r.chance(40) { from + 1 } else { from + 1 + r.below(v - 1 - from as u64) as usize };
+    numbers[to] = numbers[from];
+}
+
+/// Record numbers and the second buffer, mostly V different ones and room for them. A call that is refused anyway has a repeated number more often.
+fn number(r: &mut Random, call: &mut Call) {
+    let v = call.starts.len();
+    let refused = call.refusal(&DOCUMENT) != 0;
+    call.numbers = different(r, v);
+    if r.chance(if refused { 50 } else { 6 }) {
+        repeat(r, &mut call.numbers);
+    }
+    match r.below(100) {
+        0 => drop(call.numbers.pop()),
+        1 => call.numbers.push(r.pick(&[0, u32::MAX])),
+        2 => call.numbers.clear(),
+        _ => {}
+    }
+    let room = match r.below(40) {
+        0 => v.saturating_sub(1),
+        1 => r.below(v as u64 + 1) as usize,
+        2..=16 => v + r.pick(&[1, 7, 64]),
+        _ => v,
+    };
+    call.record_buffer = (0..room).map(|_| r.next() as u32).collect();
 }
 
 /// Features that no letters give: any signs, up to the limit.

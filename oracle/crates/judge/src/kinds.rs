@@ -1,5 +1,5 @@
 //! What a job reached, in words that are counted.
-use crate::answer::Target;
+use crate::answer::{Answer, Target};
 use crate::call::{magnitudes, Call};
 use crate::job::Job;
 use crate::met::Met;
@@ -29,7 +29,7 @@ pub fn merge(into: &mut Counts, from: Counts) {
 fn of_answer(counts: &mut Counts, judged: &Judged) {
     let a = &judged.answer;
     add(counts, match judged.by {
-        By::Table => "by: document 01's refusals",
+        By::Table => "by: the documents' refusals",
         By::Unchanged => "by: the unchanged Rust, nothing ties",
         By::Ordered => "by: the second build, something ties",
         By::Squish => "by: the second build, squish and the empty chain",
@@ -134,6 +134,40 @@ pub fn of_judged(counts: &mut Counts, call: &Call, judged: &Judged, met: &Met) {
     if judged.answer.refusal == 0 {
         of_call(counts, call);
         of_met(counts, met);
+    }
+}
+
+/// What the record numbers of a call and its second buffer show. A kind that no call shows is counted too, as 0.
+pub fn of_numbers(counts: &mut Counts, call: &Call, answer: &Answer) {
+    let (v, room, numbers) = (call.starts.len(), call.record_buffer.len(), &call.numbers);
+    let pairs = || (0..numbers.len()).flat_map(|s| (0..s).map(move |r| (r, s)));
+    let repeated = |r: usize, s: usize| numbers[r] == numbers[s];
+    let is_refused_by = |list: &[u32]| list.iter().any(|&number| call.is_refused_by(&DOCUMENT, number));
+    let any_repeated = DOCUMENT.repeats(numbers);
+    let seen = [
+        (numbers.iter().copied().eq(0..v as u32), "numbers: the row numbers"),
+        (!any_repeated && numbers.windows(2).any(|pair| pair[0] > pair[1]), "numbers: different, in no order"),
+        (pairs().any(|(r, s)| !repeated(r, s) && (numbers[r] ^ numbers[s]) & 0xffff == 0), "numbers: different, alike in 16 bits"),
+        (numbers.contains(&0), "numbers: 0"),
+        (numbers.contains(&u32::MAX), "numbers: 4,294,967,295"),
+        (pairs().any(|(r, s)| repeated(r, s) && s == r + 1), "numbers: one repeated, neighbours"),
+        (pairs().any(|(r, s)| repeated(r, s) && s > r + 1), "numbers: one repeated, far apart"),
+        (numbers.len() < v, "numbers: fewer than V"),
+        (numbers.len() > v, "numbers: more than V"),
+        (any_repeated && (1..=8).contains(&answer.refusal), "numbers: one repeated, refused earlier"),
+        (answer.refusal == 14, "numbers: refused 14"),
+        (answer.refusal == 14 && is_refused_by(&[9, 10]), "numbers: refused 14, and 9 or 10 holds"),
+        (answer.refusal == 14 && is_refused_by(&[11, 12]), "numbers: refused 14, and 11 or 12 holds"),
+        (room < v, "second buffer: under V"),
+        (room == v, "second buffer: V"),
+        (room > v, "second buffer: over V"),
+        (answer.refusal == 12 && call.answer_room >= v, "second buffer: alone the 12"),
+        (answer.refusal == 12 && call.answer_room >= v && !call.searches(&DOCUMENT), "second buffer: alone the 12, one-to-one"),
+        (answer.records.windows(2).any(|pair| pair[0] > pair[1]), "records: falling"),
+        (!answer.records.is_empty() && answer.records != answer.rows, "records: other than the rows"),
+    ];
+    for (is, kind) in seen {
+        *counts.entry(kind.to_string()).or_default() += u64::from(is);
     }
 }
 

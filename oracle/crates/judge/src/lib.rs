@@ -1,12 +1,12 @@
-//! The judge: what document 01 and kanpig's Rust together say about a job.
+//! The judge: what documents 01 and 02 and kanpig's Rust together say about a job.
 //!
 //! - `job`: a job, its bytes, and the faults of the job form.
-//! - `call`: a job as the library is asked it, and the refusals 1 to 12.
+//! - `call`: a job as the library is asked it, and the refusals 1 to 12 and 14.
 //! - `rust`: the answer by kanpig's Rust, unchanged or ordered.
-//! - `answer`: an answer and its seven lines.
+//! - `answer`: an answer and its eight lines.
 //! - `program`: what the program must print for given bytes.
-//! - `rules`: document 01's sentences, each a rule; `mistakes`: the same with one rule misread, planted to be found.
-//! - `document`: document 01 written down once more, independent of the Rust; `met`: what it met on its way.
+//! - `rules`: the documents' sentences, each a rule; `mistakes`: the same with one rule misread, planted to be found.
+//! - `document`: the documents written down once more, independent of the Rust; `met`: what it met on its way.
 //! - `library`: the library of this project, linked.
 //! - `generate`, `exhaust`: the jobs that are compared; `random`: the numbers they are made from.
 //! - `kinds`: what a job reached, to be counted.

@@ -9,6 +9,8 @@ pub struct Said {
     /// the answer buffer past its rows
     pub rest_unchanged: bool,
     pub queue_unchanged: bool,
+    /// the second buffer, whole
+    pub record_buffer: Vec<u32>,
 }
 
 #[cfg(not(feature = "linked"))]
@@ -39,8 +41,10 @@ mod linked {
             settings: *const [u32; 13],
             starts: *const u64, starts_len: usize, ends: *const u64, ends_len: usize,
             sizes: *const i32, sizes_len: usize, features: *const i32, features_len: usize,
+            record_numbers: *const u32, record_numbers_len: usize,
             part_sizes: *const i32, part_sizes_len: usize, part_features: *const i32, part_features_len: usize,
             links: *mut u32, links_len: usize, keys: *mut u64, keys_len: usize, rows: *mut u32, rows_len: usize,
+            records: *mut u32, records_len: usize,
             report: *mut [u32; 7],
         ) -> u32;
         fn nd_count_chains(starts: *const u64, starts_len: usize, ends: *const u64, ends_len: usize, full: bool, cap: u32, count: *mut u32) -> u32;
@@ -59,11 +63,31 @@ mod linked {
         [s.k.into(), squish, one_to_one, full, s.maxpaths, s.maxnodes, s.fnmax, s.pileupmax, s.minkfreq, sizesim, seqsim, fpenalty, gpenalty]
     }
 
-    /// The buffers hold marks before the call, so that what was left alone is seen.
+    /// The answer in a refusal's number, the fronts of the buffers and the words of the report after the first.
+    fn answer_of(refusal: u32, rows: &[u32], records: &[u32], [target, score, sizesim, seqsim, scored, complete]: [u32; 6]) -> Answer {
+        Answer {
+            refusal,
+            rows: rows.to_vec(),
+            records: records.to_vec(),
+            target: match target {
+                0 => Target::Nothing,
+                1 => Target::Whole,
+                more => Target::Partial(more - 1),
+            },
+            score,
+            sizesim,
+            seqsim,
+            scored,
+            complete: complete == 1,
+        }
+    }
+
+    /// The buffers hold marks before the call, the second what the call says, so that what was left alone is seen.
     pub fn answer(call: &Call) -> Result<Said, String> {
         let mut links = vec![MARK; call.queue_room];
         let mut keys = vec![MARK_KEY; call.queue_room + 1];
         let mut rows = vec![MARK; call.answer_room];
+        let mut record_buffer = call.record_buffer.clone();
         let mut report = [MARK; 7];
         // SAFETY: every pointer comes with its slice's length, and no two overlap.
         let refusal = unsafe {
@@ -71,33 +95,24 @@ mod linked {
                 &words(&call.settings),
                 call.starts.as_ptr(), call.starts.len(), call.ends.as_ptr(), call.ends.len(),
                 call.sizes.as_ptr(), call.sizes.len(), call.features.as_ptr(), call.features.len(),
+                call.numbers.as_ptr(), call.numbers.len(),
                 call.part_sizes.as_ptr(), call.part_sizes.len(), call.part_features.as_ptr(), call.part_features.len(),
                 links.as_mut_ptr(), links.len(), keys.as_mut_ptr(), keys.len(), rows.as_mut_ptr(), rows.len(),
+                record_buffer.as_mut_ptr(), record_buffer.len(),
                 &mut report,
             )
         };
-        let [row_count, target, score, sizesim, seqsim, scored, complete] = report;
+        let [row_count, words @ ..] = report;
         let count = row_count as usize;
-        if count > rows.len() {
-            return Err(format!("{count} rows in a buffer of {}", rows.len()));
+        let least = rows.len().min(record_buffer.len());
+        if count > least {
+            return Err(format!("{count} rows in buffers of {least}"));
         }
         Ok(Said {
-            answer: Answer {
-                refusal,
-                rows: rows[..count].to_vec(),
-                target: match target {
-                    0 => Target::Nothing,
-                    1 => Target::Whole,
-                    more => Target::Partial(more - 1),
-                },
-                score,
-                sizesim,
-                seqsim,
-                scored,
-                complete: complete == 1,
-            },
+            answer: answer_of(refusal, &rows[..count], &record_buffer[..count], words),
             rest_unchanged: rows[count..].iter().all(|&x| x == MARK),
             queue_unchanged: links.iter().all(|&x| x == MARK) && keys.iter().all(|&x| x == MARK_KEY),
+            record_buffer,
         })
     }
 

@@ -1,4 +1,4 @@
-//! The planted mistakes: document 01 with one rule misread, each under its words.
+//! The planted mistakes: the documents with one rule misread, each under its words.
 use crate::answer::Target;
 use crate::rules::{Rules, DOCUMENT, SIZE_LIMIT};
 
@@ -66,8 +66,39 @@ mistakes! {
     "equal starts refused": falls = |start, before| start <= before;
     "a start equal to its end refused": is_reversed = |start, end| start >= end;
     "a size at its limit refused": size_is_over = |size| size.unsigned_abs() >= SIZE_LIMIT;
-    "9 looked for before 7 and 8": refusals = || &[1, 2, 3, 4, 5, 6, 9, 7, 8, 10, 11, 12];
+    "9 looked for before 7 and 8": refusals = || &[1, 2, 3, 4, 5, 6, 9, 7, 8, 14, 10, 11, 12];
     "22 looked for before 21": form_faults = || &[20, 22, 21, 24, 13, 23, 25];
     "padding not looked at": form_faults = || &[20, 21, 22, 24, 13, 25];
     "bytes after the end not looked at": form_faults = || &[20, 21, 22, 24, 13, 23];
+    "14 looked for after 9": refusals = || &[1, 2, 3, 4, 5, 6, 7, 8, 9, 14, 10, 11, 12];
+    "14 looked for before 8": refusals = || &[1, 2, 3, 4, 5, 6, 7, 14, 8, 9, 10, 11, 12];
+    "14 looked for with the rooms, as the last": refusals = || &[1, 2, 3, 4, 5, 6, 7, 8, 9, 10, 11, 12, 14];
+    "14 looked for before the lengths": refusals = || &[1, 2, 3, 4, 5, 14, 6, 7, 8, 9, 10, 11, 12];
+    "14 not looked for": refusals = || &[1, 2, 3, 4, 5, 6, 7, 8, 9, 10, 11, 12];
+    "14 for neighbours only": repeats = |numbers| numbers.windows(2).any(|pair| pair[0] == pair[1]);
+    "14 for the first number only": repeats = |numbers| numbers.iter().skip(1).any(|number| *number == numbers[0]);
+    "14 for a number that falls": repeats = |numbers| numbers.windows(2).any(|pair| pair[0] >= pair[1]);
+    "record numbers compared by 16 bits": repeats = |numbers| DOCUMENT.repeats(&numbers.iter().map(|number| number & 0xffff).collect::<Vec<u32>>());
+    "record number 0 taken as none": repeats = |numbers| DOCUMENT.repeats(&numbers.iter().copied().filter(|&number| number != 0).collect::<Vec<u32>>());
+    "more record numbers than variants accepted": numbers_disagree = |numbers, v| numbers < v;
+    "the second buffer's room not asked": second_is_short = |_, _, _| false;
+    "the second buffer's room asked in search mode only": second_is_short = |room, v, searches| searches && room < v;
+    "the second buffer may be one short": second_is_short = |room, v, _| room + 1 < v;
+    "a second buffer of V entries refused": second_is_short = |room, v, _| room <= v;
+    "the records of the nodes": records = |numbers, rows| rows.iter().map(|&row| numbers.get(row + 1).copied().unwrap_or(0)).collect();
+    "records in the table's order, from its first row": records = |numbers, rows| numbers[..rows.len()].to_vec();
+    "records from the chain's end": records = |numbers, rows| DOCUMENT.records(numbers, rows).into_iter().rev().collect();
+    "records in ascending order": records = |numbers, rows| {
+        let mut records = DOCUMENT.records(numbers, rows);
+        records.sort();
+        records
+    };
+    "rows given as records": records = |_, rows| rows.iter().map(|&row| row as u32).collect();
+    "the rest of the second buffer set to 0": second_after = |before, records, refused|
+        if refused { before.to_vec() } else { DOCUMENT.second_after(&vec![0; before.len()], records, refused) };
+    "a refusal clears the second buffer": second_after =
+        |before, records, refused| if refused { vec![0; before.len()] } else { DOCUMENT.second_after(before, records, refused) };
+    "the records at the second buffer's end": second_after = |before, records, _| [&before[..before.len() - records.len()], records].concat();
+    "a job's record numbers from 1": present_numbers = |v| (1..=v as u32).collect();
+    "`records` printed last": lines = || &["rows", "score", "sizesim", "seqsim", "full", "scored", "complete", "records"];
 }

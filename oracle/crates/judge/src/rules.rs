@@ -1,8 +1,9 @@
-//! The sentences of document 01 that a mistake misreads, in its order, each a rule with a name. `DOCUMENT` holds them as the
-//! paper says them; document.rs, call.rs and job.rs ask for them by name. The other limits stand where call.rs and program.rs ask them.
+//! The sentences of document 01 that a mistake misreads, in its order, and then document 02's, each a rule with a name. `DOCUMENT` holds
+//! them as the papers say them; document.rs, call.rs and job.rs ask for them by name. The other limits stand where call.rs and program.rs ask them.
 use crate::answer::Target;
 use crate::document::{PartList, Scored};
 use crate::job::Settings;
+use std::collections::HashSet;
 use std::ops::Range;
 
 /// Makes of each rule a field of `Rules`, its value in `DOCUMENT`, and the method that asks for it.
@@ -55,9 +56,9 @@ rules! {
         start < before
     }
 
-    /// "Checked in this order"
+    /// "Checked in this order"; document 02, P3: "14 for a repeated number, after 8 and before 9"
     fn refusals() -> &'static [u32] {
-        &[1, 2, 3, 4, 5, 6, 7, 8, 9, 10, 11, 12]
+        &[1, 2, 3, 4, 5, 6, 7, 8, 14, 9, 10, 11, 12]
     }
 
     // From letters to similarity
@@ -224,5 +225,43 @@ rules! {
     /// after 0x00. Within a record in that order."
     fn form_faults() -> &'static [u32] {
         &[20, 21, 22, 24, 13, 23, 25]
+    }
+
+    /// "seven lines"; document 02, P3: "one more line, `records`, directly after `rows`"
+    fn lines() -> &'static [&'static str] {
+        &["rows", "records", "score", "sizesim", "seqsim", "full", "scored", "complete"]
+    }
+
+    // Document 02, P3: a station record number on every variant
+
+    /// "Each variant carries a u32 record number": 6 for other than V of them
+    fn numbers_disagree(numbers: usize, v: usize) -> bool {
+        numbers != v
+    }
+
+    /// 14: "a repeated number"
+    fn repeats(numbers: &[u32]) -> bool {
+        let different: HashSet<&u32> = numbers.iter().collect();
+        different.len() < numbers.len()
+    }
+
+    /// "a second lent buffer, at least V entries"; "the second buffer too short is a 12", in search mode and in one-to-one
+    fn second_is_short(room: usize, v: usize, _searches: bool) -> bool {
+        room < v
+    }
+
+    /// "the answer lists these in the rows' order"
+    fn records(numbers: &[u32], rows: &[usize]) -> Vec<u32> {
+        rows.iter().map(|&row| numbers[row]).collect()
+    }
+
+    /// The second buffer as the first: the records stand at its front "and its rest is unchanged"; a refusal leaves it as it was.
+    fn second_after(before: &[u32], records: &[u32], _refused: bool) -> Vec<u32> {
+        records.iter().chain(before.iter().skip(records.len())).copied().collect()
+    }
+
+    /// "A job in the present form gets its row numbers as record numbers."
+    fn present_numbers(v: usize) -> Vec<u32> {
+        (0..v as u32).collect()
     }
 }

@@ -83,6 +83,7 @@ macro_rules! build {
                         end: call.ends[r],
                         size: call.sizes[r].into(),
                         kfeat: floats(&call.features[r * e..(r + 1) * e]),
+                        number: call.numbers[r],
                     })
                     .collect();
                 let mut variants = Variants::new(records, call.settings.k);
@@ -126,6 +127,7 @@ macro_rules! build {
                 Answer {
                     refusal: 0,
                     rows: best.path.iter().map(|node| node.index() as u32 - 1).collect(),
+                    records: best.path.iter().map(|&node| variants.graph[node].entry.as_ref().expect("a variant's node").number).collect(),
                     target,
                     score: best.score.to_bits(),
                     sizesim: best.sizesim.to_bits(),
@@ -205,7 +207,7 @@ fn search(call: &Call) -> Judged {
     }
 }
 
-/// The judge's answer to a call: document 01's refusals, else the Rust's.
+/// The judge's answer to a call: the documents' refusals, else the Rust's.
 pub fn judged(call: &Call) -> Judged {
     match call.refusal(&DOCUMENT) {
         0 if call.searches(&DOCUMENT) => search(call),

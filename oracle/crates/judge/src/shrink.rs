@@ -1,6 +1,30 @@
-//! The smallest job found that still shows something: pieces are left out or made plain as long as it still does.
-use crate::job::{self, Job};
+//! The smallest job or call found that still shows something: pieces are left out or made plain as long as it still does.
+use crate::call::{queue_need, Call};
+use crate::job::{self, Job, Settings};
 use crate::rules::DOCUMENT;
+use std::collections::BTreeSet;
+
+/// Settings with one of them plain.
+fn plainer(settings: &Settings) -> Vec<Settings> {
+    let mut all = vec![];
+    let mut with = |change: &dyn Fn(&mut Settings)| {
+        let mut one = settings.clone();
+        change(&mut one);
+        all.push(one);
+    };
+    with(&|s| s.squish = false);
+    with(&|s| s.one_to_one = false);
+    with(&|s| s.full = true);
+    for (value, field) in [(9, 0), (9, 1), (0, 2), (5, 3), (0, 4), (1, 4), (1, 0), (0, 0)] {
+        with(&|s| *[&mut s.maxpaths, &mut s.maxnodes, &mut s.fnmax, &mut s.pileupmax, &mut s.minkfreq][field] = value);
+    }
+    for field in 0..4 {
+        for value in [0.0, 0.5] {
+            with(&|s| *[&mut s.sizesim, &mut s.seqsim, &mut s.fpenalty, &mut s.gpenalty][field] = value);
+        }
+    }
+    all
+}
 
 fn smaller(job: &Job) -> Vec<Job> {
     let mut all = vec![];
@@ -37,24 +61,22 @@ fn smaller(job: &Job) -> Vec<Job> {
         with(&|j| j.parts[i].negative = false);
     }
     with(&|j| j.settings.k = 1);
-    with(&|j| j.settings.squish = false);
-    with(&|j| j.settings.one_to_one = false);
-    with(&|j| j.settings.full = true);
-    for (value, field) in [(9, 0), (9, 1), (0, 2), (5, 3), (0, 4), (1, 4), (1, 0), (0, 0)] {
-        with(&|j| {
-            let s = &mut j.settings;
-            *[&mut s.maxpaths, &mut s.maxnodes, &mut s.fnmax, &mut s.pileupmax, &mut s.minkfreq][field] = value;
-        });
-    }
-    for field in 0..4 {
-        for value in [0.0, 0.5] {
-            with(&|j| {
-                let s = &mut j.settings;
-                *[&mut s.sizesim, &mut s.seqsim, &mut s.fpenalty, &mut s.gpenalty][field] = value;
-            });
-        }
+    for settings in plainer(&job.settings) {
+        with(&|j| j.settings = settings.clone());
     }
     all
+}
+
+/// How far settings are from the plain ones.
+fn settings_weight(s: &Settings) -> u64 {
+    let plain = [9, 9, 0, 5, 0];
+    let wholes: u64 = s.wholes().iter().zip(plain).map(|(&x, p)| 10 * u64::from(x != p) + u64::from(x > p)).sum();
+    let floats: u64 = s
+        .floats()
+        .iter()
+        .map(|x| if x.to_bits() == 0 { 0 } else if *x == 0.5 { 1 } else { 3 })
+        .sum();
+    wholes + floats + 10 * u64::from(s.k) + 5 * (u64::from(s.squish) + u64::from(s.one_to_one) + u64::from(!s.full))
 }
 
 /// A measure that falls with every step taken, so that shrinking ends.
@@ -65,23 +87,13 @@ fn weight(job: &Job) -> u64 {
             + u64::from(size < 0)
             + u64::from(negative)
     };
-    let s = &job.settings;
     let variants: u64 = job
         .variants
         .iter()
         .map(|v| 1000 + sequence(&v.letters, v.size, v.negative) + (v.start >> 1) .min(1 << 40) + v.end.min(1 << 40))
         .sum();
     let parts: u64 = job.parts.iter().map(|p| 1000 + sequence(&p.letters, p.size, p.negative)).sum();
-    let plain = [9, 9, 0, 5, 0];
-    let wholes: u64 = s.wholes().iter().zip(plain).map(|(&x, p)| 10 * u64::from(x != p) + u64::from(x > p)).sum();
-    let floats: u64 = s
-        .floats()
-        .iter()
-        .map(|x| if x.to_bits() == 0 { 0 } else if *x == 0.5 { 1 } else { 3 })
-        .sum();
-    variants + parts + wholes + floats
-        + 10 * u64::from(s.k)
-        + 5 * (u64::from(s.squish) + u64::from(s.one_to_one) + u64::from(!s.full))
+    variants + parts + settings_weight(&job.settings)
 }
 
 /// Steps as long as some smaller job still shows it.
@@ -111,6 +123,102 @@ pub fn bytes(bytes: Vec<u8>, shows: impl Fn(&[u8]) -> bool) -> Vec<u8> {
         match next {
             Some(fewer) => bytes = fewer,
             None => return bytes,
+        }
+    }
+}
+
+/// An entry taken out where there is one.
+fn leave_out<T>(list: &mut Vec<T>, at: usize, entries: usize) {
+    let from = (at * entries).min(list.len());
+    list.drain(from..(from + entries).min(list.len()));
+}
+
+fn without_row(call: &mut Call, row: usize) {
+    let e = call.settings.entries();
+    leave_out(&mut call.starts, row, 1);
+    leave_out(&mut call.ends, row, 1);
+    leave_out(&mut call.sizes, row, 1);
+    leave_out(&mut call.features, row, e);
+    leave_out(&mut call.numbers, row, 1);
+    call.answer_room = call.answer_room.saturating_sub(1);
+    call.record_buffer.pop();
+}
+
+/// Numbers as small as may be, equal where these are and in their order.
+fn ranks(numbers: &[u32]) -> Vec<u32> {
+    let different: BTreeSet<u32> = numbers.iter().copied().collect();
+    numbers.iter().map(|&number| different.range(..number).count() as u32).collect()
+}
+
+/// A row or a part left out or made plain.
+fn fewer(call: &Call, with: &mut dyn FnMut(&dyn Fn(&mut Call))) {
+    for row in 0..call.starts.len() {
+        with(&|c| without_row(c, row));
+        with(&|c| {
+            c.starts[row] = row as u64;
+            c.ends.iter_mut().skip(row).take(1).for_each(|end| *end = row as u64);
+        });
+    }
+    for part in 0..call.part_sizes.len() {
+        with(&|c| leave_out(&mut c.part_sizes, part, 1));
+        with(&|c| {
+            leave_out(&mut c.part_sizes, part, 1);
+            leave_out(&mut c.part_features, part, c.settings.entries());
+        });
+        with(&|c| c.part_sizes[part] = 1);
+    }
+    for at in 0..call.sizes.len() {
+        with(&|c| c.sizes[at] = 1);
+    }
+}
+
+fn smaller_call(call: &Call) -> Vec<Call> {
+    let mut all = vec![];
+    let mut with = |change: &dyn Fn(&mut Call)| {
+        let mut one = call.clone();
+        change(&mut one);
+        all.push(one);
+    };
+    fewer(call, &mut with);
+    with(&|c| c.numbers = ranks(&call.numbers));
+    for at in 0..call.numbers.len() {
+        for number in (0..=at as u32).rev() {
+            with(&|c| c.numbers[at] = number);
+        }
+    }
+    for length in 0..call.record_buffer.len() {
+        with(&|c| c.record_buffer.truncate(length));
+        with(&|c| c.record_buffer[length] = 9);
+    }
+    with(&|c| c.features.fill(1));
+    with(&|c| c.part_features.fill(1));
+    with(&|c| c.queue_room = queue_need(&c.settings, c.starts.len()));
+    with(&|c| c.answer_room = c.starts.len());
+    for settings in plainer(&call.settings) {
+        with(&|c| c.settings = settings.clone());
+    }
+    all
+}
+
+fn call_weight(call: &Call) -> u64 {
+    let sizes = call.sizes.iter().chain(&call.part_sizes).map(|&size| 1000 + u64::from(size != 1));
+    let features = call.features.iter().chain(&call.part_features).map(|&count| 1 + u64::from(count != 1));
+    let bounds = call.starts.iter().enumerate().map(|(row, &start)| 1000 + u64::from(start != row as u64));
+    let ends = call.ends.iter().enumerate().map(|(row, end)| 1000 + u64::from(call.starts.get(row) != Some(end)));
+    let numbers = call.numbers.iter().map(|&number| 100 + u64::from(number).min(99));
+    let second = call.record_buffer.iter().map(|&old| 100 + u64::from(old != 9));
+    let rooms = u64::from(call.answer_room != call.starts.len()) + u64::from(call.queue_room != queue_need(&call.settings, call.starts.len()));
+    sizes.chain(features).chain(bounds).chain(ends).chain(numbers).chain(second).sum::<u64>() + rooms + settings_weight(&call.settings)
+}
+
+/// Steps as long as some smaller call still shows it.
+pub fn call(mut call: Call, shows: impl Fn(&Call) -> bool) -> Call {
+    loop {
+        let now = call_weight(&call);
+        let next = smaller_call(&call).into_iter().find(|one| call_weight(one) < now && shows(one));
+        match next {
+            Some(one) => call = one,
+            None => return call,
         }
     }
 }

@@ -125,7 +125,11 @@ slice-aggregate-search-2 c =
     sym (length-take-le _ _ (omega arith))
 
 search-requires : tie.Need-search-requires
-search-requires c κs = search needs
+search-requires c κs =
+    let f = begin (wide (counted (c .before .before .before))) .pre in
+    let n = f .variants in
+    let a = f .starts-alike in
+    omega arith
 
 same-length-2 : tie.Need-same-length-2
 same-length-2 c = search needs

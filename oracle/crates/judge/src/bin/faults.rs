@@ -1,9 +1,10 @@
-//! Plants one mistake at a time in the second reading of document 01 and shows that the generated jobs find it:
-//! `faults [INPUTS]`. For each it prints how many inputs it took and the smallest input found that shows it.
-//! A rule that no mistake misreads is a failure too.
+//! Plants one mistake at a time in the second reading and shows that the generated jobs find it: `faults [INPUTS]`. For each it
+//! prints how many inputs it took and the smallest found that shows it: an input of the program, or a call of the library where no
+//! input can show it. A rule that no mistake misreads is a failure too.
 use judge::answer::Answer;
-use judge::document::{features, program_answer};
-use judge::generate::input;
+use judge::call::Call;
+use judge::document::{call_answer, features, program_text, record_buffer};
+use judge::generate::{input, small_call};
 use judge::met::Met;
 use judge::mistakes::{Mistake, MISTAKES};
 use judge::random::Random;
@@ -11,8 +12,20 @@ use judge::rules::{Rules, DOCUMENT};
 use judge::{describe, exhaust, program, rust, shrink};
 use std::process::ExitCode;
 
-fn answer(rules: &Rules, bytes: &[u8]) -> Answer {
-    program_answer(rules, bytes, &mut Met::default())
+/// What anyone outside sees of a call: the answer, and what the second buffer holds after it.
+type Seen = (Answer, Vec<u32>);
+
+fn seen(rules: &Rules, call: &Call) -> Seen {
+    let answer = call_answer(rules, call, &mut Met::default());
+    let second = record_buffer(rules, call, &answer);
+    (answer, second)
+}
+
+/// The judge's.
+fn must_be(call: &Call) -> Seen {
+    let answer = rust::judged(call).answer;
+    let second = record_buffer(&DOCUMENT, call, &answer);
+    (answer, second)
 }
 
 /// The first short sequence that a mistaken counter counts otherwise than the Rust, and the first sizes likewise.
@@ -40,52 +53,98 @@ fn smaller_calls(rules: &Rules) -> Option<String> {
     None
 }
 
-/// What anyone outside sees.
-fn shows(rules: &Rules, bytes: &[u8]) -> bool {
-    answer(rules, bytes).text() != program::answer(bytes).text()
+/// What is put to each mistake, behind what the judge says of it.
+struct Asked {
+    inputs: Vec<(String, Vec<u8>)>,
+    calls: Vec<(Seen, Call)>,
+}
+
+impl Asked {
+    fn new(count: u64) -> Asked {
+        let mut inputs: Vec<Vec<u8>> = exhaust::jobs().step_by(97).map(|job| job.bytes()).collect();
+        inputs.extend((0..count).map(|i| input(&mut Random::new(i))));
+        let calls = (0..count / 2).map(|i| small_call(&mut Random::new(i)));
+        Asked {
+            inputs: inputs.into_iter().map(|bytes| (program::answer(&bytes).text(), bytes)).collect(),
+            calls: calls.map(|call| (must_be(&call), call)).collect(),
+        }
+    }
+
+    /// The places of the inputs that show other rules.
+    fn by_inputs(&self, rules: &Rules) -> Vec<usize> {
+        let differs = |&at: &usize| program_text(rules, &self.inputs[at].1) != self.inputs[at].0;
+        (0..self.inputs.len()).filter(differs).collect()
+    }
+
+    /// Those of the calls.
+    fn by_calls(&self, rules: &Rules) -> Vec<usize> {
+        let differs = |&at: &usize| seen(rules, &self.calls[at].1) != self.calls[at].0;
+        (0..self.calls.len()).filter(differs).collect()
+    }
+}
+
+/// A text in one line.
+fn lines(text: &str) -> String {
+    text.trim_end().replace('\n', ", ")
+}
+
+fn tell_input(rules: &Rules, asked: &Asked, found: &[usize]) {
+    let shows = |bytes: &[u8]| program_text(rules, bytes) != program::answer(bytes).text();
+    let shrunk = found.iter().take(5).map(|&at| shrink::bytes(asked.inputs[at].1.clone(), shows));
+    let small = shrunk.min_by_key(|bytes| bytes.len()).expect("some input shows it");
+    println!("    {}", describe::bytes(&small));
+    println!("    must be  {}", lines(&program::answer(&small).text()));
+    println!("    would be {}", lines(&program_text(rules, &small)));
+}
+
+fn tell_call(rules: &Rules, asked: &Asked, found: &[usize]) {
+    let shows = |call: &Call| seen(rules, call) != must_be(call);
+    let shrunk = found.iter().take(5).map(|&at| shrink::call(asked.calls[at].1.clone(), shows));
+    let small = shrunk.min_by_key(|call| describe::call(call).len()).expect("some call shows it");
+    let words = |(answer, second): Seen| format!("{}, second buffer {second:?}", lines(&answer.text()));
+    println!("    {}", describe::call(&small));
+    println!("    must be  {}", words(must_be(&small)));
+    println!("    would be {}", words(seen(rules, &small)));
+}
+
+/// Whether it is caught, and by what.
+fn is_caught(words: &str, rules: &Rules, asked: &Asked) -> bool {
+    let found = asked.by_inputs(rules);
+    if let Some(first) = found.first() {
+        println!("caught {words}: first at input {}, {} of {}", first + 1, found.len(), asked.inputs.len());
+        tell_input(rules, asked, &found);
+        return true;
+    }
+    let found = asked.by_calls(rules);
+    if let Some(first) = found.first() {
+        println!("caught {words}: first at library call {}, {} of {}", first + 1, found.len(), asked.calls.len());
+        tell_call(rules, asked, &found);
+        return true;
+    }
+    let shown = smaller_calls(rules);
+    match &shown {
+        Some(shown) => println!("caught {words}: by a smaller call; no answer can show it\n    {shown}"),
+        None => println!("MISSED {words}"),
+    }
+    shown.is_some()
 }
 
 fn main() -> ExitCode {
     let count: u64 = std::env::args().nth(1).map_or(20_000, |n| n.parse().expect("a number of inputs"));
-    let mut inputs: Vec<Vec<u8>> = exhaust::jobs().step_by(97).map(|job| job.bytes()).collect();
-    inputs.extend((0..count).map(|i| input(&mut Random::new(i))));
-    let said: Vec<String> = inputs.iter().map(|bytes| program::answer(bytes).text()).collect();
-    let differs = |rules: &Rules, at: usize| answer(rules, &inputs[at]).text() != said[at];
-    if let Some(at) = (0..inputs.len()).find(|&at| differs(&DOCUMENT, at)) {
-        println!("with nothing planted: {}", describe::bytes(&inputs[at]));
+    let asked = Asked::new(count);
+    let input = asked.by_inputs(&DOCUMENT).first().map(|&at| describe::bytes(&asked.inputs[at].1));
+    let call = asked.by_calls(&DOCUMENT).first().map(|&at| describe::call(&asked.calls[at].1));
+    if let Some(words) = input.or(call) {
+        println!("with nothing planted: {words}");
         return ExitCode::FAILURE;
     }
-    println!("nothing planted: {} inputs, no difference", inputs.len());
+    println!("nothing planted: {} inputs and {} library calls, no difference", asked.inputs.len(), asked.calls.len());
     let unplanted: Vec<&str> = Rules::NAMES.iter().copied().filter(|&rule| MISTAKES.iter().all(|mistake| mistake.rule != rule)).collect();
     if !unplanted.is_empty() {
         println!("no mistake misreads {}", unplanted.join(", "));
         return ExitCode::FAILURE;
     }
-    let mut missed = 0;
-    for Mistake { words, rules, .. } in MISTAKES {
-        let found: Vec<usize> = (0..inputs.len()).filter(|&at| differs(rules, at)).collect();
-        if let (true, Some(shown)) = (found.is_empty(), smaller_calls(rules)) {
-            println!("caught {words}: by a smaller call; no answer of the program can show it");
-            println!("    {shown}");
-            continue;
-        }
-        if found.is_empty() {
-            println!("MISSED {words}");
-            missed += 1;
-            continue;
-        }
-        let small = found
-            .iter()
-            .take(5)
-            .map(|&at| shrink::bytes(inputs[at].clone(), |bytes| shows(rules, bytes)))
-            .min_by_key(|bytes| bytes.len())
-            .unwrap();
-        let lines = |answer: Answer| answer.text().trim_end().replace('\n', ", ");
-        println!("caught {words}: first at input {}, {} of {}", found[0] + 1, found.len(), inputs.len());
-        println!("    {}", describe::bytes(&small));
-        println!("    must be  {}", lines(program::answer(&small)));
-        println!("    would be {}", lines(answer(rules, &small)));
-    }
+    let missed = MISTAKES.iter().filter(|Mistake { words, rules, .. }| !is_caught(words, rules, &asked)).count();
     println!("{} of {} planted mistakes caught", MISTAKES.len() - missed, MISTAKES.len());
     ExitCode::from((missed > 0) as u8)
 }

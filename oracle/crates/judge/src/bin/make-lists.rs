@@ -5,7 +5,7 @@
 //! mistake, so that the lists are small and every branch stands in them.
 use judge::answer::{Answer, Target};
 use judge::call::Call;
-use judge::document::{call_answer, call_of, program_answer};
+use judge::document::{call_answer, call_of, program_answer, program_text};
 use judge::generate::{cost, disturb_job, input, LIBRARY};
 use judge::job::{self, record_length, Job, Part, Settings, Variant};
 use judge::kinds::{self, Counts};
@@ -137,7 +137,7 @@ fn shown(bytes: &[u8]) -> BTreeSet<String> {
     let mut counts = Counts::new();
     kinds::of_input(&mut counts, job::read(&DOCUMENT, bytes).as_ref().ok(), &judged, &met);
     let text = judged.answer.text();
-    let caught = catches(|rules| program_answer(rules, bytes, &mut Met::default()).text() != text);
+    let caught = catches(|rules| program_text(rules, bytes) != text);
     counts.into_keys().chain(caught).collect()
 }
 
@@ -185,7 +185,7 @@ fn program_list() -> Vec<Vec<u8>> {
     list
 }
 
-/// A call of the library as the list stores it:
+/// A call of the library as the list stores it, document 01's call, which has no record numbers:
 /// 42 bytes, the settings record of the job form and its end;
 /// words of four bytes: the lengths of starts, ends, sizes, features, part sizes, part features, of the queue's two slices (links, keys)
 /// and of the answer;
@@ -292,7 +292,7 @@ fn shown_by_library(stored: &Stored) -> BTreeSet<String> {
     assert_eq!(call_answer(&DOCUMENT, &stored.call, &mut met), judged.answer);
     let mut counts = Counts::new();
     kinds::of_judged(&mut counts, &stored.call, &judged, &met);
-    let caught = catches(|rules| stored.answer_by(rules) != judged.answer);
+    let caught = catches(|rules| words(&stored.answer_by(rules)) != words(&judged.answer));
     counts.into_keys().chain(caught).collect()
 }
 

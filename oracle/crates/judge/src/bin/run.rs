@@ -3,7 +3,7 @@
 //! takes each N-th of the jobs that are made exhaustively
 use judge::answer::Answer;
 use judge::call::Call;
-use judge::document::{call_answer, program_answer};
+use judge::document::{call_answer, program_answer, record_buffer};
 use judge::generate;
 use judge::job;
 use judge::kinds::{self, Counts};
@@ -103,7 +103,7 @@ fn compare_input(tally: &mut Tally, bytes: Vec<u8>, o: &Options) {
         }
     }
     if second != judged.answer {
-        tally.differ(|| format!("the second reading of document 01 says {second:?} of {}", describe::bytes(&bytes)));
+        tally.differ(|| format!("the second reading says {second:?} of {}", describe::bytes(&bytes)));
     }
     if let Some(program) = &o.program {
         tally.compared += 1;
@@ -124,8 +124,9 @@ fn compare_call(tally: &mut Tally, call: &Call, o: &Options) {
     let mut met = Met::default();
     let second = call_answer(&DOCUMENT, call, &mut met);
     kinds::of_judged(&mut tally.counts, call, &judged, &met);
+    kinds::of_numbers(&mut tally.counts, call, &judged.answer);
     if second != judged.answer {
-        tally.differ(|| format!("the second reading of document 01 says {second:?} of {}", describe::call(call)));
+        tally.differ(|| format!("the second reading says {second:?} of {}", describe::call(call)));
     }
     if o.library {
         tally.compared += 1;
@@ -135,7 +136,7 @@ fn compare_call(tally: &mut Tally, call: &Call, o: &Options) {
     }
 }
 
-/// The linked library's answer, its rows, and what it left alone.
+/// The linked library's answer, its rows and records, and what it left alone.
 fn library_says(call: &Call, must: &Answer) -> Result<(), String> {
     let said = library::answer(call)?;
     if said.answer != *must {
@@ -143,6 +144,10 @@ fn library_says(call: &Call, must: &Answer) -> Result<(), String> {
     }
     if !said.rest_unchanged {
         return Err("the rest of the answer buffer changed".to_string());
+    }
+    let second = record_buffer(&DOCUMENT, call, must);
+    if said.record_buffer != second {
+        return Err(format!("the second buffer must be {second:?}\n  is {:?}", said.record_buffer));
     }
     let searched = must.refusal == 0 && call.searches(&DOCUMENT);
     if !searched && !said.queue_unchanged {

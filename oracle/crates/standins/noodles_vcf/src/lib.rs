@@ -1,4 +1,4 @@
-//! Stand-in for noodles_vcf's record: it carries what the core asks of a variant, bounds, size and features.
+//! Stand-in for noodles_vcf's record: it carries what the core asks of a variant, bounds, size and features, and a number to know it by.
 pub mod variant {
     #[derive(Clone, Debug)]
     pub struct RecordBuf {
@@ -6,6 +6,7 @@ pub mod variant {
         pub end: u64,
         pub size: i64,
         pub kfeat: Vec<f32>,
+        pub number: u32,
     }
 
     impl RecordBuf {

@@ -1,0 +1,5 @@
+-- What the proofs of several functions use.
+pub mod NumberLaws
+mod RecordLaws
+mod NumberedLaws
+pub mod RowLaws

@@ -1,0 +1,32 @@
+-- The promise of each public function, said once: the function's `ensures` and `Unique` (crates/audit) cite it by name.
+-- Its arguments are the function's own, in their order, a lent slice by what it holds at entry; then what each `&mut` holds at exit; then the result r.
+use Prim.Native.Nat.{ℕ}
+use mathlib.Core.Path.{_≡_}
+use mathlib.Core.Bool.{false}
+use mathlib.Core.List.{List}
+use lib.IntN.{ℤ}
+use lib.ListN.{length}
+use Rattle.params.specs.declared.Settings.{Settings}
+use Rattle.metrics.specs.Placed.{placed}
+use Rattle.kplib.specs.Promises.{callLent}
+use Rattle.kplib.specs.declared.traverse.Answer.{Answer}
+use Rattle.dive.specs.Numbered.{Numbered, numberedAnswer, numberedRows, recordsOf, numberedSearches}
+
+-- the call that the settings and the lent slices make, with its record numbers
+abbrev pub numberedLent : Settings → List ℕ → List ℕ → List ℤ → List ℤ → List ℕ → List ℤ → List ℤ → List ℕ → List ℕ → List ℕ → List ℕ → Numbered
+numberedLent s starts ends sizes features numbers partSizes partFeatures links keys rows records =
+    record { call = callLent s starts ends sizes features partSizes partFeatures links keys rows; numbers = numbers; recordRoom = length records }
+
+-- a slice of the queue, which only a search may write
+abbrev pub NumberedQueueKept : Numbered → List ℕ → List ℕ → Type 0
+NumberedQueueKept n old new = numberedSearches n ≡ false → new ≡ old
+
+abbrev pub ApplyNumberedPromise : Settings → List ℕ → List ℕ → List ℤ → List ℤ → List ℕ → List ℤ → List ℤ → List ℕ → List ℕ → List ℕ → List ℕ
+    → List ℕ → List ℕ → List ℕ → List ℕ → Answer → Type 0
+ApplyNumberedPromise s starts ends sizes features numbers partSizes partFeatures links keys rows records links' keys' rows' records' r =
+    let n = numberedLent s starts ends sizes features numbers partSizes partFeatures links keys rows records in
+    (r ≡ numberedAnswer n)
+    × ((rows' ≡ placed rows (numberedRows n))
+    × ((records' ≡ placed records (recordsOf n))
+    × (NumberedQueueKept n links links'
+    × NumberedQueueKept n keys keys')))

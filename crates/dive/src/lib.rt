@@ -1,0 +1,85 @@
+// What stands above the search of one haplotype: the record numbers of a table's variants (document 02, P3).
+mod numbers;
+mod records;
+
+use crate::numbers::earlier;
+use crate::numbers::number_fault;
+use crate::records::put_records;
+use kplib::pathscore::Target;
+use kplib::traverse::Answer;
+use kplib::traverse::apply_haplotype;
+use metrics::refusals::ACCEPTED;
+use params::Settings;
+use params::checks::call_fault;
+use params::checks::queue_room;
+ghost use mathlib.Core.Path.{_≡_};
+ghost use Rattle.kplib.specs.Answer.{answerWith, noneFound};
+ghost use Rattle.dive.specs.Promises.{ApplyNumberedPromise};
+
+// A refusal: no rows, no part list, three zeros.
+fn refused(refusal: u32) -> Answer
+    ensures { λ r. ⌜ r ≡ answerWith refusal noneFound ⌝ }
+{
+    Answer {
+        refusal,
+        rows: 0,
+        target: Target::Nothing,
+        score: 0.0,
+        sizesim: 0.0,
+        seqsim: 0.0,
+        scored: 0,
+        complete: false,
+    }
+}
+
+// `apply_haplotype` over variants that carry record numbers: the numbers of the answer's rows stand in `records`, in the rows' order.
+// What is asked of the numbers is asked first, because it is little; where it refuses, an earlier refusal of the call goes before it.
+pub fn apply_numbered(
+    s: Settings,
+    starts: &[u64],
+    ends: &[u64],
+    sizes: &[i32],
+    features: &[i32],
+    numbers: &[u32],
+    part_sizes: &[i32],
+    part_features: &[i32],
+    links: &mut [u32],
+    keys: &mut [u64],
+    rows: &mut [u32],
+    records: &mut [u32],
+) -> Answer
+    ensures { λ r. ⌜ ApplyNumberedPromise s (now (starts .entry)) (now (ends .entry)) (now (sizes .entry)) (now (features .entry)) (now (numbers .entry))
+        (now («part_sizes» .entry)) (now («part_features» .entry)) (now (links .entry)) (now (keys .entry)) (now (rows .entry)) (now (records .entry))
+        (now (links .exit)) (now (keys .exit)) (now (rows .exit)) (now (records .exit)) r ⌝ }
+{
+    let own = number_fault(starts.len(), numbers, records.len());
+    if own != ACCEPTED {
+        let room = queue_room(links.len(), keys.len());
+        let other = call_fault(
+            s,
+            starts,
+            ends,
+            sizes,
+            features,
+            part_sizes,
+            part_features,
+            room,
+            rows.len(),
+        );
+        return refused(earlier(other, own));
+    }
+    let answer = apply_haplotype(
+        s,
+        starts,
+        ends,
+        sizes,
+        features,
+        part_sizes,
+        part_features,
+        links,
+        keys,
+        rows,
+    );
+    put_records(numbers, rows, answer.rows as usize, records);
+    answer
+}
