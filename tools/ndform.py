@@ -1,9 +1,11 @@
-"""What the Python tools share of document 01: the job form, byte for byte, and the words of its refusals.
+"""What the Python tools share of documents 01 and 02: the job form, byte for byte, the program's answer, line for line,
+and the words of the refusals.
 
 The form stands here once: the kinds of record, the fields of their bodies, a writer and a reader. A float setting is
 kept as its 32 bits, so that every NaN comes back as it was. Which jobs in good form are refused is not said here.
 tools/test_sheet holds the bytes to document 01's worked example and, through the proved writer, to the program's.
 """
+import re
 import struct
 from pathlib import Path
 from typing import NamedTuple
@@ -172,6 +174,73 @@ def read(data):
     if reader.place < len(data):
         raise FormFault(25, reader.place)
     return found
+
+
+# --- answers ----------------------------------------------------------------
+
+NUMBER = "(?:0|[1-9][0-9]{0,9})"
+# what may follow a line's name: its form, and that form in words
+ANSWER_VALUES = {
+    "list": (re.compile(f"(?: {NUMBER})*"), "numbers with one space before each"),
+    "bits": (re.compile(" [0-9a-f]{8}"), "a space and 8 hexadecimal digits"),
+    "flag": (re.compile(" (?:yes|no)"), "a space and yes or no"),
+    "count": (re.compile(f" {NUMBER}"), "a space and a number"),
+}
+# the lines of an answer that is no refusal, in their order
+ANSWER_LINES = {
+    "rows": "list", "records": "list", "score": "bits", "sizesim": "bits", "seqsim": "bits",
+    "full": "flag", "scored": "count", "complete": "flag",
+}
+
+
+class Answer(NamedTuple):
+    """A refusal's number and nothing else, or 0 and the values of the lines: a float as its bits."""
+    refused: int
+    rows: tuple = ()
+    records: tuple = ()
+    score: int = 0
+    sizesim: int = 0
+    seqsim: int = 0
+    whole: bool = False  # the line `full`; the setting of that name is another thing
+    scored: int = 0
+    complete: bool = False
+
+
+class AnswerFault(Exception):
+    """What stands in an answer, where, and what should stand there."""
+
+
+def line_value(place, line, name):
+    """The value of the line at this place, counted from 1, which must be the one of this name."""
+    if line.split(" ")[0] != name:
+        raise AnswerFault(f'line {place} is "{line[:60]}", and "{name}" should stand there')
+    kind, text = ANSWER_LINES[name], line[len(name):]
+    form, words = ANSWER_VALUES[kind]
+    if not form.fullmatch(text):
+        raise AnswerFault(f'line {place} is "{line[:60]}", and after "{name}" there should stand {words}')
+    if kind == "list":
+        return tuple(int(word) for word in text.split())
+    return text == " yes" if kind == "flag" else int(text, 16 if kind == "bits" else 10)
+
+
+def read_answer(text):
+    """The answer that the program's text holds; AnswerFault where it holds none."""
+    refusal = re.fullmatch("refused ([1-9][0-9]{0,9})\n", text)
+    if refusal:
+        return Answer(int(refusal[1]))
+    lines, names = text.split("\n"), list(ANSWER_LINES)
+    if lines.pop():
+        raise AnswerFault(f"line {len(lines) + 1} is the last, and a newline should stand at its end")
+    values = [line_value(place, line, name) for place, (line, name) in enumerate(zip(lines, names), 1)]
+    if len(lines) < len(names):
+        raise AnswerFault(f'line {len(lines) + 1} is missing, and "{names[len(lines)]}" should stand there')
+    if len(lines) > len(names):
+        raise AnswerFault(f'line {len(names) + 1} is "{lines[len(names)][:60]}", and the answer should end before it')
+    answer = Answer(0, *values)
+    if len(answer.records) != len(answer.rows):
+        raise AnswerFault(f"line 1 lists {len(answer.rows)} and line 2 lists {len(answer.records)}, "
+                          "and there should be one record for each row")
+    return answer
 
 
 # --- refusals ---------------------------------------------------------------
