@@ -1,0 +1,9 @@
+//! ndigo as from the command line. A module for each idea.
+mod answers;
+mod common;
+mod examples;
+mod jobs;
+mod messages;
+mod people;
+mod pictures;
+mod warnings;
