@@ -1,14 +1,17 @@
 # `make run` and `make test` do all set-up themselves; README.md says what each target is for.
-.PHONY: run test changed program proofs packages oracle faults fuzz bindings bench
+.PHONY: run test changed program ndigo proofs packages oracle faults fuzz bindings bench
 
 program:
 	tools/emulate >&2
 	rt check ndigomarr copy_job >&2
 
-run: program
+ndigo:
+	ndigo/build
+
+run: program ndigo
 	target/bin/ndigomarr < examples/worked.job
-	tools/sheet answer examples/first-dive.tsv
-	tools/sheet draw examples/first-dive.tsv > target/first-dive.svg
+	target/bin/ndigo answer examples/first-dive.tsv
+	target/bin/ndigo draw examples/first-dive.tsv > target/first-dive.svg
 	@echo 'picture target/first-dive.svg'
 
 # What the tests before rt ci need, two at a time.
@@ -17,6 +20,7 @@ proofs:
 
 packages:
 	oracle/setup
+	ndigo/setup
 
 # rt ci stands last: its last line, 'N passed, 0 failed', is the gate's. It proves all from nothing, so what runs before it builds for itself.
 test:
@@ -33,7 +37,8 @@ test:
 	tools/test_unproved
 	rt fmt --check
 	tools/run-examples
-	SHEET_NEEDS_PROGRAM=1 SHEET_WRITER=target/bin/copy_job tools/test_sheet
+	tools/test_ndform
+	NDIGO_NEEDS_PROGRAM=1 SHEET_WRITER=target/bin/copy_job ndigo/test
 	oracle/run --short
 	bindings/test
 	rt ci
