@@ -3,13 +3,16 @@ use crate::model::{Sequence, Sheet, SEQSIM, SIZESIM};
 use crate::refusals::{self, Refusal};
 use ndigomarr::{Answer, Haplotype, Table, Target};
 
+/// Of a table or a haplotype that is too long anyway, one more than the limit is enough to be refused.
+const ENOUGH: usize = 65;
+
 fn table(sheet: &Sheet, k: u8) -> Result<Table, ndigomarr::Refusal> {
     let mut table = Table::new(k);
-    for variant in &sheet.variants {
+    for variant in sheet.variants.iter().take(ENOUGH) {
         let sequence = &variant.sequence;
         table.add(variant.start, variant.end, sequence.size, &sequence.letters, sequence.negative)?;
     }
-    let numbers: Vec<u32> = (0..sheet.variants.len()).map(|row| sheet.number(row) as u32).collect();
+    let numbers: Vec<u32> = (0..table.len()).map(|row| sheet.number(row) as u32).collect();
     Ok(table.with_record_numbers(&numbers))
 }
 
@@ -17,7 +20,7 @@ fn asked(sheet: &Sheet) -> Result<Answer, ndigomarr::Refusal> {
     let settings = sheet.settings.to_library();
     let table = table(sheet, settings.k)?;
     let mut haplotype = Haplotype::new(settings.k);
-    for part in &sheet.parts {
+    for part in sheet.parts.iter().take(ENOUGH) {
         haplotype.add(part.size, &part.letters, part.negative)?;
     }
     ndigomarr::apply_haplotype(&settings, &table, &haplotype)
@@ -58,8 +61,7 @@ pub fn foretold(sheet: &Sheet) -> Foretold {
     let settings = sheet.settings.to_library();
     let count = |without: Option<usize>, cap: u32| {
         let mut table = Table::new(settings.k);
-        for (row, variant) in sheet.variants.iter().enumerate().filter(|(row, _)| Some(*row) != without) {
-            let _ = row;
+        for (_, variant) in sheet.variants.iter().take(ENOUGH).enumerate().filter(|(row, _)| Some(*row) != without) {
             table.add_counted(variant.start, variant.end, 0, &[]);
         }
         ndigomarr::count_chains(&table, settings.full, cap).unwrap_or(0)
@@ -74,16 +76,16 @@ pub fn foretold(sheet: &Sheet) -> Foretold {
     }
 }
 
-/// Size and features as sums, by the library's own counter.
-fn summed<'a>(sequences: impl Iterator<Item = &'a Sequence>, k: u8) -> Option<(i64, Vec<i32>)> {
-    let mut size = 0;
-    let mut features = vec![0; 1 << (2 * k)];
-    for sequence in sequences {
-        size += i64::from(sequence.size);
-        let row = ndigomarr::seq_to_kmer(&sequence.letters, k, sequence.negative).ok()?;
+/// Size and features, by the library's own counter.
+fn counted(sequence: &Sequence, k: u8) -> Option<(i64, Vec<i32>)> {
+    Some((i64::from(sequence.size), ndigomarr::seq_to_kmer(&sequence.letters, k, sequence.negative).ok()?))
+}
+
+fn summed<'a>(counted: impl Iterator<Item = &'a (i64, Vec<i32>)>, k: u8) -> (i64, Vec<i32>) {
+    counted.fold((0, vec![0; 1 << (2 * k)]), |(size, mut features), (more, row)| {
         features.iter_mut().zip(row).for_each(|(sum, entry)| *sum += entry);
-    }
-    Some((size, features))
+        (size + more, features)
+    })
 }
 
 /// Every ascending list of `count` places below `length`, in lexicographic order.
@@ -110,10 +112,12 @@ pub fn used_parts(sheet: &Sheet, answer: &Answer) -> Option<Vec<usize>> {
         Target::Partial(left_out) => left_out as usize,
     };
     let settings = sheet.settings.to_library();
-    let rows = answer.rows.iter().map(|&row| &sheet.variants[row].sequence);
-    let (size, features) = summed(rows, settings.k)?;
+    let rows: Option<Vec<_>> = answer.rows.iter().map(|&row| counted(&sheet.variants[row].sequence, settings.k)).collect();
+    let parts: Option<Vec<_>> = sheet.parts.iter().map(|part| counted(part, settings.k)).collect();
+    let (rows, parts) = (rows?, parts?);
+    let (size, features) = summed(rows.iter(), settings.k);
     lists(all, all.checked_sub(left_out)?).into_iter().find(|list| {
-        let Some((part_size, part_features)) = summed(list.iter().map(|&part| &sheet.parts[part]), settings.k) else { return false };
+        let (part_size, part_features) = summed(list.iter().map(|&part| &parts[part]), settings.k);
         let sizes = ndigomarr::sizesim(size.unsigned_abs(), part_size.unsigned_abs());
         let letters = ndigomarr::seqsim(&features, &part_features, settings.minkfreq);
         let same = |found: Result<f32, _>, wanted: f32| found.is_ok_and(|found| found.to_bits() == wanted.to_bits());

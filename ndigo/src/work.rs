@@ -99,7 +99,10 @@ fn write(file: &str, told: &Told, sink: &Sink, several: bool) -> Result<(), (Str
     match sink {
         Sink::Files { folder: Some(folder), ending } if !told.out.is_empty() => {
             let path = target(folder, file, ending);
-            let written = std::fs::create_dir_all(folder).and_then(|()| std::fs::write(&path, &told.out));
+            // a sheet may be somebody's work and is never overwritten; jobs and pictures are made from one
+            let mut how = std::fs::OpenOptions::new();
+            let how = if *ending == "tsv" { how.write(true).create_new(true) } else { how.write(true).create(true).truncate(true) };
+            let written = std::fs::create_dir_all(folder).and_then(|()| how.open(&path)?.write_all(&told.out));
             written.map_err(|fault| (path.display().to_string(), Failure::Unwritable(fault)))
         }
         Sink::Files { folder: Some(_), .. } => Ok(()),

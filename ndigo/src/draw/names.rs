@@ -14,7 +14,13 @@ pub fn cut(words: &str, room: f64, look: Look) -> String {
         let end: String = letters[letters.len() - tail..].iter().collect();
         format!("{head}…{end}")
     };
-    (1..letters.len()).rev().map(kept).find(|short| width(short, look) <= room).unwrap_or_else(|| "…".into())
+    // the more letters are kept, the wider: halve the stretch between a count that fits and one that does not
+    let (mut fits, mut over) = (0, letters.len());
+    while over - fits > 1 {
+        let middle = (fits + over) / 2;
+        if width(&kept(middle), look) <= room { fits = middle } else { over = middle }
+    }
+    kept(fits)
 }
 
 /// The names as they are shown: cut to the room only as far as they stay distinct.
@@ -26,7 +32,7 @@ pub fn shown(names: &[&str], room: f64, look: Look) -> Vec<String> {
         if room >= longest || cut.iter().collect::<HashSet<_>>().len() == cut.len() {
             return cut;
         }
-        room += 20.0;
+        room = (room + 20.0).max(room * 1.1);
     }
 }
 

@@ -24,6 +24,15 @@ impl Section {
         self.needed.iter().chain(self.optional).copied()
     }
 
+    /// How much a line looks like this section's heading row; 0 where it does not. Nearly the right word counts most, then the
+    /// headings, then that none is missing: a part's headings are a variant's too.
+    fn likeness(&self, words: &[String]) -> usize {
+        let known = words.iter().skip(1).filter(|word| self.needed.contains(&word.as_str())).count();
+        let near = nearest(&words[0], std::iter::once(self.word)).is_some();
+        let whole = known == self.needed.len();
+        if known >= 2 || (known == 1 && near) { 10 * usize::from(near) + 2 * known + usize::from(whole) } else { 0 }
+    }
+
     fn known(&self, word: &str) -> Option<&'static str> {
         std::iter::once(self.word).chain(self.columns()).find(|known| *known == word)
     }
@@ -65,19 +74,15 @@ impl Heading {
         best.map(|(_, heading)| heading)
     }
 
-    /// A line above every heading row that has two headings of a section in it was meant as one and must not be passed over: what
-    /// begins it, and the heading row that it would be.
+    /// A line that has two headings of a section in it, or one and nearly the section's word, was meant as a heading row and must be
+    /// neither passed over nor read as a row: what begins it, and the heading row that it would be.
     pub fn meant(line_text: &str, line: usize) -> Option<(String, Self)> {
         for delimiter in DELIMITERS {
             let Ok(mut words) = cells(&line_text.to_lowercase(), delimiter) else { continue };
-            // variants first: a part's headings are a variant's too
-            for section in [VARIANT, PART] {
-                let known = words.iter().skip(1).filter(|word| SECTIONS[section].needed.contains(&word.as_str())).count();
-                if known >= 2 {
-                    let first = std::mem::replace(&mut words[0], SECTIONS[section].word.into());
-                    return Some((first, Self::with(section, delimiter, line, words)));
-                }
-            }
+            let likeness = |section: &usize| SECTIONS[*section].likeness(&words);
+            let Some(section) = [PART, VARIANT, SETTING].into_iter().filter(|section| likeness(section) > 0).max_by_key(likeness) else { continue };
+            let first = std::mem::replace(&mut words[0], SECTIONS[section].word.into());
+            return Some((first, Self::with(section, delimiter, line, words)));
         }
         None
     }

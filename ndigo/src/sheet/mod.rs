@@ -6,7 +6,6 @@ mod split;
 mod text;
 mod write;
 
-pub use headings::nearest;
 pub use write::written;
 
 use crate::fault::Fault;

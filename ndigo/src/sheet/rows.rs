@@ -90,9 +90,14 @@ impl Reader {
         if let Some(heading) = Heading::of(text, line) {
             return self.begin(heading);
         }
+        if let Some((first, heading)) = Heading::meant(text, line) {
+            let instead = format!("write \"{}\" there, and the names below it", heading.section().word);
+            self.fault(line, 1, format!("\"{first}\" begins what looks like a heading row"), instead);
+            return self.begin(heading);
+        }
         match self.heading.take() {
             None if text.trim_start().starts_with('#') => {}
-            None => self.above(line, text),
+            None => self.above.push((line, text.trim().chars().take(40).collect())),
             Some(heading) => {
                 self.under(&heading, line, text);
                 self.heading = Some(heading);
@@ -111,15 +116,6 @@ impl Reader {
         self.read.faults.extend(found.faults);
         self.columns.extend(found.passed_over);
         self.heading = Some(heading);
-    }
-
-    fn above(&mut self, line: usize, text: &str) {
-        if let Some((first, heading)) = Heading::meant(text, line) {
-            let instead = format!("write \"{}\" there, and the names below it", heading.section().word);
-            self.fault(line, 1, format!("\"{first}\" begins what looks like a heading row"), instead);
-            return self.begin(heading);
-        }
-        self.above.push((line, text.trim().chars().take(40).collect()));
     }
 
     fn under(&mut self, heading: &Heading, line: usize, text: &str) {

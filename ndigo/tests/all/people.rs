@@ -128,6 +128,13 @@ fn several_files_in_their_order() {
     let into = folder.join("made");
     let made = call(&["job", &files[0], &files[1], "--into", into.to_str().unwrap()], b"");
     assert_eq!((made.status, std::fs::read(into.join("s1.job")).unwrap()), (0, job(GOOD)));
+    // a sheet may be somebody's work
+    let (source, shown) = (into.join("s1.job"), into.join("s1.tsv"));
+    let show = |folder: &std::path::Path| call(&["show", source.to_str().unwrap(), "--into", folder.to_str().unwrap()], b"");
+    assert_eq!((show(&into).status, job(std::fs::read(&shown).unwrap())), (0, job(GOOD)));
+    let again = show(&into);
+    assert_eq!(again.status, 3);
+    assert!(again.err.contains("s1.tsv: cannot be written (File exists"), "{}", again.err);
     assert_eq!(call(&["job", &files[0], &files[1]], b"").status, 2);
     assert_eq!(call(&["job", &files[0], &files[0], "--into", into.to_str().unwrap()], b"").status, 2);
     assert_eq!(call(&["check", "-", "-"], b"").status, 2);
