@@ -38,6 +38,9 @@ impl Section {
     }
 }
 
+/// Heading rows are words; a longer line holds letters.
+const LONGEST: usize = 2000;
+
 /// A heading row as it was read. A column without a heading that we know is none.
 #[derive(Clone, Debug)]
 pub struct Heading {
@@ -60,6 +63,12 @@ impl Heading {
     /// A row begins a section where its first cell is the section's word and, if others are filled, one of them is a heading
     /// of that section: so a line of prose that begins with "part" is none. The delimiter that tells most headings is the row's.
     pub fn of(line_text: &str, line: usize) -> Option<Self> {
+        // most lines are rows, some with very many letters: their first letters tell that they are no heading row
+        let front = line_text.trim_start_matches(['"', ' ', '\t']).as_bytes();
+        let begins = |section: &Section| front.get(..section.word.len()).is_some_and(|word| word.eq_ignore_ascii_case(section.word.as_bytes()));
+        if !SECTIONS.iter().any(begins) {
+            return None;
+        }
         let mut best: Option<(usize, Self)> = None;
         for delimiter in DELIMITERS {
             let Ok(words) = cells(&line_text.to_lowercase(), delimiter) else { continue };
@@ -77,6 +86,9 @@ impl Heading {
     /// A line that has two headings of a section in it, or one and nearly the section's word, was meant as a heading row and must be
     /// neither passed over nor read as a row: what begins it, and the heading row that it would be.
     pub fn meant(line_text: &str, line: usize) -> Option<(String, Self)> {
+        if line_text.len() > LONGEST {
+            return None;
+        }
         for delimiter in DELIMITERS {
             let Ok(mut words) = cells(&line_text.to_lowercase(), delimiter) else { continue };
             let likeness = |section: &usize| SECTIONS[*section].likeness(&words);

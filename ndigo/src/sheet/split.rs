@@ -26,7 +26,14 @@ impl Delimiter {
 
     /// Where the next delimiter begins, or the text's end.
     fn next(self, text: &str) -> usize {
-        text.char_indices().map(|(place, _)| place).find(|&place| self.at(&text[place..]) > 0).unwrap_or(text.len())
+        let next = match self {
+            Self::Character(character) => text.find(character),
+            Self::Blanks(least) => {
+                let blank = |byte: &u8| matches!(byte, b' ' | b'\t');
+                text.as_bytes().windows(least).position(|run| run.iter().all(blank))
+            }
+        };
+        next.unwrap_or(text.len())
     }
 }
 
@@ -83,6 +90,7 @@ mod tests {
         assert_eq!(cells("", COMMA).unwrap(), [""]);
         assert_eq!(cells("  a   b c  d ", Delimiter::Blanks(2)).unwrap(), ["a", "b c", "d"]);
         assert_eq!(cells("  a   b c  d ", Delimiter::Blanks(1)).unwrap(), ["a", "b", "c", "d"]);
+        assert_eq!(cells("é 礁  b", Delimiter::Blanks(2)).unwrap(), ["é 礁", "b"]);
     }
 
     #[test]

@@ -7,60 +7,105 @@ const ALL: &str = "the headings here are start, end, size, letters, record, nega
 const HEX: &str = "write letters A to Z only, or any bytes in hexadecimal, such as hex:4e2e";
 const HEADING: &str = "write a heading row whose first cell is one of \"setting\", \"variant\", \"part\", such as: variant start end size letters";
 
+fn table(row: &str) -> String {
+    format!("{HEADINGS}{row}\n")
+}
+
+fn numbered(rows: &str) -> String {
+    format!("{RECORD_HEADINGS}{rows}\n")
+}
+
+fn setting(row: &str) -> String {
+    format!("setting\tvalue\n{row}\n")
+}
+
 /// A sheet, and what is said of it: where, what stands there, what to write instead.
-fn bad_sheets() -> Vec<(String, String)> {
-    let table = |row: &str| format!("{HEADINGS}{row}\n");
-    let numbered = |rows: &str| format!("{RECORD_HEADINGS}{rows}\n");
-    let setting = |row: &str| format!("setting\tvalue\n{row}\n");
-    let cases: Vec<(String, String)> = vec![
+type Said = (String, String);
+
+fn bad_headings() -> Vec<Said> {
+    let meant = |line: usize, first: &str, word: &str| {
+        format!("line {line}, column 1: \"{first}\" begins what looks like a heading row; write \"{word}\" there, and the names below it")
+    };
+    let letters = format!("line 1, column 5: the heading \"letters\" is missing; write it above its column; {ALL}");
+    let good_row = "A\t1\t1\t5\tAGCTA\n";
+    vec![
         ("".into(), format!("line 1, column 1: the sheet is empty: it has no heading row; {HEADING}")),
         ("# only a remark\n\n".into(), format!("line 1, column 1: the sheet is empty: it has no heading row; {HEADING}")),
         ("\nmy dive\n".into(), format!("line 2, column 1: no heading row stands here or below; this is \"my dive\"; {HEADING}")),
-        ("name\tstart\tend\tsize\tletters\nA\t1\t1\t5\tAGCTA\n".into(), "line 1, column 1: \"name\" begins what looks like a heading row; write \"variant\" there, and the names below it".into()),
-        ("Variants\tstart\tend\tsize\tletters\nA\t1\t1\t5\tAGCTA\n".into(), "line 1, column 1: \"variants\" begins what looks like a heading row; write \"variant\" there, and the names below it".into()),
-        (GOOD.replace("part\t", "parts\t"), "line 5, column 1: \"parts\" begins what looks like a heading row; write \"part\" there, and the names below it".into()),
-        ("settings\tvalue\nk\t4\n".into(), "line 1, column 1: \"settings\" begins what looks like a heading row; write \"setting\" there, and the names below it".into()),
-        ("variant\tstart\tend\tsize\n".into(), format!("line 1, column 5: the heading \"letters\" is missing; write it above its column; {ALL}")),
+        (HEADINGS.replace("variant", "name") + good_row, meant(1, "name", "variant")),
+        (HEADINGS.replace("variant", "Variants") + good_row, meant(1, "variants", "variant")),
+        (GOOD.replace("part\t", "parts\t"), meant(5, "parts", "part")),
+        ("settings\tvalue\nk\t4\n".into(), meant(1, "settings", "setting")),
+        ("variant\tstart\tend\tsize\n".into(), letters),
         (HEADINGS.replace("end", "end\tstart"), "line 1, column 4: the heading \"start\" stands here twice; keep one of the two columns".into()),
+        (RECORD_HEADINGS.replace('\n', "\trecord\n"), "line 1, column 7: the heading \"record\" stands here twice; keep one of the two columns".into()),
         (format!("{HEADINGS}\n{HEADINGS}"), "line 3, column 1: the heading \"variant\" stood on line 1 already; put its rows under that one".into()),
+    ]
+}
+
+fn bad_names() -> Vec<Said> {
+    let hash = "line 2, column 1: the name \"#A\" begins with #; write another name; a remark fills one cell only";
+    let quote = "line 2, column 3: a cell begins with a quote and is not closed by one; close it; write a quote inside twice, and no line break";
+    vec![
         (table("A\t1\t1\t1\tAG\tmore"), "line 2, column 6: no heading stands above this cell, \"more\"; write one above it, or empty the cell".into()),
-        (table("#A\t1\t1\t1\tAG"), "line 2, column 1: the name \"#A\" begins with #; write another name; a remark fills one cell only".into()),
-        (table("#A\t1\t1\t1\tAG").replace('\t', ","), "line 2, column 1: the name \"#A\" begins with #; write another name; a remark fills one cell only".into()),
-        (table("A\t1\t\"1\t1\tAG"), "line 2, column 3: a cell begins with a quote and is not closed by one; close it; write a quote inside twice, and no line break".into()),
+        (table("#A\t1\t1\t1\tAG"), hash.into()),
+        (table("#A\t1\t1\t1\tAG").replace('\t', ","), hash.into()),
+        (table("A\t1\t\"1\t1\tAG"), quote.into()),
         (table("\t1\t1\t1\tAG"), "line 2, column 1 (variant): the name is missing; write one".into()),
         (table("A\u{7}\t1\t1\t1\tAG"), "line 2, column 1 (variant): the name \"A\\u{7}\" holds a character that cannot be printed; write it without".into()),
         (table("A\t1\t1\t1\tAG\n\nA\t2\t2\t1\tAG"), "line 4, column 1 (variant): the name \"A\" stood on line 2 already; write another name".into()),
+        ("part\tsize\tletters\nP\t1\tAG\nP\t1\tAG\n".into(), "line 3, column 1 (part): the name \"P\" stood on line 2 already; write another name".into()),
+    ]
+}
+
+fn bad_cells() -> Vec<Said> {
+    let size = "line 2, column 4 (size): \"2.0\" is no whole number; write a whole number from -2147483648 to 2147483647, in digits";
+    vec![
         (table("A\t\t1\t1\tAG"), format!("line 2, column 2 (start): the start is missing; {NUMBER}")),
         (table("A\t1,00\t1\t1\tAG"), format!("line 2, column 2 (start): \"1,00\" is no whole number; {NUMBER}, in digits")),
         (table("A\t1\t18446744073709551616\t1\tAG"), format!("line 2, column 3 (end): \"18446744073709551616\" is out of range; {NUMBER}")),
         (table("A\t-1\t1\t1\tAG"), format!("line 2, column 2 (start): \"-1\" is out of range; {NUMBER}")),
-        (table("A\t1\t1\t2.0\tAG"), "line 2, column 4 (size): \"2.0\" is no whole number; write a whole number from -2147483648 to 2147483647, in digits".into()),
+        (table("A\t1\t1\t2.0\tAG"), size.into()),
         (table("A\t1\t1\t1\tA G"), format!("line 2, column 5 (letters): \" \" stands at letter 2; {HEX}")),
         (table("A\t1\t1\t1\thex:4"), format!("line 2, column 5 (letters): \":\" stands at letter 4; {HEX}")),
-        (numbered("A\t7\t1\t1\t1\tAG\n# a remark\nB\t8\t1\t1\t1\tAG\nC\t07\t1\t1\t1\tAG"),
-         "line 5, column 2 (record): record 7 is that of \"A\" on line 2 already; write a number that no other variant has".into()),
+        ("part\tsize\tletters\tnegative\nP\t1\tAG\tmaybe\n".into(), "line 2, column 4 (negative): \"maybe\" is neither yes nor no; write yes or no".into()),
+    ]
+}
+
+fn bad_records() -> Vec<Said> {
+    let twice = "line 5, column 2 (record): record 7 is that of \"A\" on line 2 already; write a number that no other variant has";
+    let cases = vec![
+        (numbered("A\t7\t1\t1\t1\tAG\n# a remark\nB\t8\t1\t1\t1\tAG\nC\t07\t1\t1\t1\tAG"), twice.into()),
         (numbered("A\t7\t1\t1\t1\tAG\nB\t\t1\t1\t1\tAG"), format!("line 3, column 2 (record): {NO_RECORD}")),
         (HEADINGS.replace("letters", "letters\trecord") + "A\t1\t1\t1\tAG\n", format!("line 2, column 6 (record): {NO_RECORD}")),
-        (RECORD_HEADINGS.replace('\n', "\trecord\n"), "line 1, column 7: the heading \"record\" stands here twice; keep one of the two columns".into()),
-        ("part\tsize\tletters\tnegative\nP\t1\tAG\tmaybe\n".into(), "line 2, column 4 (negative): \"maybe\" is neither yes nor no; write yes or no".into()),
-        ("part\tsize\tletters\nP\t1\tAG\nP\t1\tAG\n".into(), "line 3, column 1 (part): the name \"P\" stood on line 2 already; write another name".into()),
+    ];
+    let numbers = ["4294967296", "-1", "12b", "7.0", "1 000"].map(|number| {
+        let whole = number.parse::<i64>().is_ok();
+        let (what, end) = if whole { ("is out of range", "") } else { ("is no whole number", ", in digits") };
+        let said = format!("line 2, column 2 (record): \"{number}\" {what}; write a whole number from 0 to 4294967295{end}");
+        (numbered(&format!("A\t{number}\t1\t1\t1\tAG")), said)
+    });
+    cases.into_iter().chain(numbers).collect()
+}
+
+fn bad_settings() -> Vec<Said> {
+    let names = ndigo::model::SETTINGS.iter().map(|setting| setting.name).collect::<Vec<_>>().join(", ");
+    let comma = "line 2, column 2 (value): \"0,9\" is no number; write digits with a point, such as 0.9, or 32 bits, such as bits:7fc00000";
+    vec![
         (setting("maxpath\t5"), "line 2, column 1 (setting): no setting is called \"maxpath\"; is \"maxpaths\" meant?".into()),
-        (setting("colour\t5"),
-         "line 2, column 1 (setting): no setting is called \"colour\"; they are k, squish, one-to-one, full, maxpaths, maxnodes, fnmax, pileupmax, minkfreq, sizesim, seqsim, fpenalty, gpenalty".into()),
+        (setting("colour\t5"), format!("line 2, column 1 (setting): no setting is called \"colour\"; they are {names}")),
         (setting("k\t1\nK\t2"), "line 3, column 1 (setting): \"k\" was set on line 2 already; keep one of the two lines".into()),
         (setting("k"), "line 2, column 2 (value): the value is missing; write one, or leave the whole line out for the default".into()),
         (setting("k\t256"), "line 2, column 2 (value): \"256\" is out of range; write a whole number from 0 to 255".into()),
         (setting("maxnodes\t4294967296"), "line 2, column 2 (value): \"4294967296\" is out of range; write a whole number from 0 to 4294967295".into()),
         (setting("squish\toui"), "line 2, column 2 (value): \"oui\" is neither yes nor no; write yes or no".into()),
-        (setting("sizesim\t0,9"), "line 2, column 2 (value): \"0,9\" is no number; write digits with a point, such as 0.9, or 32 bits, such as bits:7fc00000".into()),
+        (setting("sizesim\t0,9"), comma.into()),
         (setting("sizesim\t1e39"), "line 2, column 2 (value): \"1e39\" is larger than any 32-bit float; write a smaller number".into()),
-    ];
-    let records = ["4294967296", "-1", "12b", "7.0", "1 000"].map(|number| {
-        let what = if number.parse::<i64>().is_ok() { "is out of range" } else { "is no whole number" };
-        let end = if number.parse::<i64>().is_ok() { "" } else { ", in digits" };
-        (numbered(&format!("A\t{number}\t1\t1\t1\tAG")), format!("line 2, column 2 (record): \"{number}\" {what}; write a whole number from 0 to 4294967295{end}"))
-    });
-    cases.into_iter().chain(records).collect()
+    ]
+}
+
+fn bad_sheets() -> Vec<Said> {
+    [bad_headings(), bad_names(), bad_cells(), bad_records(), bad_settings()].concat()
 }
 
 #[test]
