@@ -3,6 +3,7 @@ mod answers;
 mod common;
 mod examples;
 mod jobs;
+mod library;
 mod messages;
 mod people;
 mod pictures;
