@@ -68,14 +68,28 @@ fn row_named_by_a_hash(heading: &Heading, cells: &[String]) -> bool {
     columns.iter().any(number)
 }
 
-/// Where a run of two blanks parts the cells, a long name may leave one only: then single blanks part them if that fits.
+/// Whether numbers and values stand where the headings want them.
+fn fits(heading: &Heading, cells: &[String]) -> bool {
+    let good = |name: &str, cell: &String| if name == "value" { !cell.is_empty() } else { cells::whole(cell, i128::MIN, i128::MAX).is_ok() };
+    let columns = heading.section().needed.iter().filter(|name| **name != "letters").filter_map(|name| Some((*name, heading.column(name)?)));
+    columns.into_iter().all(|(name, column)| cells.get(column).is_some_and(|cell| good(name, cell)))
+}
+
+/// Where a run of two blanks parts the cells, a long name may leave one only: then single blanks part them if that fits. Where
+/// single blanks do, a remark in the last column may still be of several words.
 fn cells_under(heading: &Heading, text: &str) -> Result<Vec<String>, usize> {
     let cells = split::cells(text, heading.delimiter)?;
-    if heading.delimiter == Delimiter::Blanks(2) && cells.len() < heading.columns.len() {
-        let more = split::cells(text, Delimiter::Blanks(1))?;
-        return Ok(if more.len() == heading.columns.len() { more } else { cells });
-    }
-    Ok(cells)
+    let single = match heading.delimiter {
+        Delimiter::Blanks(1) => Some(cells.clone()),
+        Delimiter::Blanks(_) if !fits(heading, &cells) => Some(split::cells(text, Delimiter::Blanks(1))?).filter(|single| fits(heading, single)),
+        _ => None,
+    };
+    Ok(single.map_or(cells, |mut single| {
+        if heading.columns.last() == Some(&Some("remark")) {
+            single.truncate(heading.columns.len());
+        }
+        single
+    }))
 }
 
 impl Reader {

@@ -57,7 +57,7 @@ fn program_text(lines: &Lines) -> String {
 
 /// target/bin/ndigomarr or what NDIGOMARR names; none where it is missing and not asked for.
 fn program() -> Option<PathBuf> {
-    let path = std::env::var_os("NDIGOMARR").map_or_else(|| root().join("target/bin/ndigomarr"), PathBuf::from);
+    let path = std::env::var_os("NDIGOMARR").map_or_else(|| root().join("target/bin/ndigomarr"), |named| root().join(named));
     if path.exists() {
         return Some(path);
     }

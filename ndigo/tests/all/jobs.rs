@@ -136,8 +136,8 @@ fn the_proved_writer_makes_the_same_bytes() {
     };
     for name in example_names() {
         let job = job(example(&name));
-        // the writer takes what the program takes, and maxpaths is one number in the settings
-        let done = assert_cmd::Command::new(&writer).current_dir(root()).write_stdin(job.clone()).output().unwrap();
+        // a path that is not whole is one below the repository
+        let done = assert_cmd::Command::new(root().join(&writer)).write_stdin(job.clone()).output().unwrap();
         assert_eq!(done.stdout, job, "{name}");
     }
 }

@@ -29,6 +29,24 @@ fn every_delimiter() {
     }
 }
 
+/// The name and the letters of each variant.
+fn rows(text: &str) -> Vec<(String, String)> {
+    let read = ndigo::sheet::read(text.as_bytes());
+    assert_eq!(read.faults, vec![]);
+    read.sheet.variants.iter().map(|v| (v.name().to_string(), String::from_utf8(v.sequence.letters.clone()).unwrap())).collect()
+}
+
+#[test]
+fn blanks_inside_cells() {
+    let pair = |name: &str, letters: &str| (name.to_string(), letters.to_string());
+    let two = "variant  start  end  size  letters  remark\nReef A   10     10   4     AGAG\nReef B   20     20   4     CCCC     two words\nReef-LONG 30    30   4     TTTT     three more words\n";
+    assert_eq!(rows(two), [pair("Reef A", "AGAG"), pair("Reef B", "CCCC"), pair("Reef-LONG", "TTTT")]);
+    let one = "variant start end size letters remark\nA 10 10 4 AGAG a remark of many words\n\"Reef B\" 20 20 4 CCCC\n";
+    assert_eq!(rows(one), [pair("A", "AGAG"), pair("Reef B", "CCCC")]);
+    let settings = ndigo::sheet::read(b"setting  value\nk        3\nmaxpaths 63\n");
+    assert_eq!((settings.faults, settings.sheet.settings.words[0], settings.sheet.settings.words[4]), (vec![], 3, 63));
+}
+
 #[test]
 fn each_heading_row_tells_its_own_delimiter() {
     let (variants, parts) = GOOD.split_once("\n\n").unwrap();
