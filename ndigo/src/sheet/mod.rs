@@ -1,0 +1,41 @@
+//! From a sheet's bytes to its values, with all its faults in one run, and back to text.
+mod cells;
+mod headings;
+mod rows;
+mod split;
+mod text;
+mod write;
+
+pub use write::written;
+
+use crate::fault::Fault;
+use crate::model::Sheet;
+
+/// What was read. Where there are faults, the sheet lacks what they stand for.
+#[derive(Debug, Default)]
+pub struct Read {
+    pub sheet: Sheet,
+    /// What was passed over or taken in another way than it stands there, one line for each kind.
+    pub notes: Vec<String>,
+    pub faults: Vec<Fault>,
+}
+
+pub fn read(data: &[u8]) -> Read {
+    match text::decoded(data) {
+        Some((text, note)) => {
+            let mut read = rows::read(&text::lines(&text));
+            read.notes.splice(0..0, note);
+            read
+        }
+        None => Read {
+            faults: vec![Fault {
+                line: 1,
+                column: 1,
+                heading: None,
+                what: "this is not text in UTF-8 or UTF-16".into(),
+                instead: "save the sheet as tab-separated text".into(),
+            }],
+            ..Read::default()
+        },
+    }
+}
