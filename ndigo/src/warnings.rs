@@ -37,12 +37,14 @@ fn strange_letters(s: &Sequence) -> Option<Warning> {
     Some(on_line(s.line, format!("\"{}\": {count} of {all} {verb} not A, G, C or T, the first is {first} at letter {}; each counts as A", s.name, place + 1)))
 }
 
+const NO_WINDOWS: &str = "it has no windows and adds nothing to seqsim, which is 0 where no windows are compared";
+
 fn few_letters(s: &Sequence, k: u32) -> Option<Warning> {
     let count = s.letters.len();
     let words = if count == 0 {
-        format!("\"{}\" has no letters: it has no windows, and only its size is compared", s.name)
-    } else if (count as u64) < u64::from(k) {
-        format!("\"{}\" has {}, fewer than k {k}: it has no windows, and only its size is compared", s.name, counted(count, "letter"))
+        format!("\"{}\" has no letters: {NO_WINDOWS}", s.name)
+    } else if (1..=6).contains(&k) && count < k as usize {
+        format!("\"{}\" has {}, fewer than k {k}: {NO_WINDOWS}", s.name, counted(count, "letter"))
     } else {
         return None;
     };

@@ -26,16 +26,24 @@ impl Section {
 
     /// How much a line looks like this section's heading row; 0 where it does not. Nearly the right word counts most, then the
     /// headings, then that none is missing: a part's headings are a variant's too.
-    fn likeness(&self, words: &[String]) -> usize {
+    fn likeness(&self, words: &[String], delimiter: Delimiter) -> usize {
         let known = words.iter().skip(1).filter(|word| self.needed.contains(&word.as_str())).count();
         let near = nearest(&words[0], std::iter::once(self.word)).is_some();
         let whole = known == self.needed.len();
-        if known >= 2 || (known == 1 && near) { 10 * usize::from(near) + 2 * known + usize::from(whole) } else { 0 }
+        // prose may well hold the one or two headings of a part or a setting
+        let enough = known >= 2 || (known == 1 && near);
+        if enough && ((whole && (near || known > 2)) || no_prose(words, delimiter, known)) { 10 * usize::from(near) + 2 * known + usize::from(whole) } else { 0 }
     }
 
     fn known(&self, word: &str) -> Option<&'static str> {
         std::iter::once(self.word).chain(self.columns()).find(|known| *known == word)
     }
+}
+
+/// Single blanks part the words of a title or a remark too: there half of those after the first must be headings.
+fn no_prose(words: &[String], delimiter: Delimiter, known: usize) -> bool {
+    let filled = words.iter().skip(1).filter(|word| !word.is_empty()).count();
+    delimiter != Delimiter::Blanks(1) || 2 * known >= filled
 }
 
 /// Heading rows are words; a longer line holds letters.
@@ -61,7 +69,8 @@ pub struct Found {
 
 impl Heading {
     /// A row begins a section where its first cell is the section's word and, if others are filled, one of them is a heading
-    /// of that section: so a line of prose that begins with "part" is none. The delimiter that tells most headings is the row's.
+    /// of that section, or between single blanks half of them, or none is missing: so a line of prose that begins with "part" is
+    /// none. The delimiter that tells most headings is the row's.
     pub fn of(line_text: &str, line: usize) -> Option<Self> {
         // most lines are rows, some with very many letters: their first letters tell that they are no heading row
         let front = line_text.trim_start_matches(['"', ' ', '\t']).as_bytes();
@@ -76,7 +85,9 @@ impl Heading {
             let heading = Self::with(section, delimiter, line, words);
             let known = heading.columns.iter().flatten().count() - 1;
             let alone = heading.words[1..].iter().all(String::is_empty);
-            if (known > 0 || alone) && best.as_ref().map_or(true, |(most, _)| known > *most) {
+            let whole = heading.section().needed.iter().all(|name| heading.column(name).is_some());
+            let told = known > 0 && (whole || no_prose(&heading.words, delimiter, known));
+            if (told || alone) && best.as_ref().map_or(true, |(most, _)| known > *most) {
                 best = Some((known, heading));
             }
         }
@@ -91,7 +102,7 @@ impl Heading {
         }
         for delimiter in DELIMITERS {
             let Ok(mut words) = cells(&line_text.to_lowercase(), delimiter) else { continue };
-            let likeness = |section: &usize| SECTIONS[*section].likeness(&words);
+            let likeness = |section: &usize| SECTIONS[*section].likeness(&words, delimiter);
             let Some(section) = [PART, VARIANT, SETTING].into_iter().filter(|section| likeness(section) > 0).max_by_key(likeness) else { continue };
             let first = std::mem::replace(&mut words[0], SECTIONS[section].word.into());
             return Some((first, Self::with(section, delimiter, line, words)));
@@ -186,7 +197,7 @@ mod tests {
 
     #[test]
     fn prose_is_no_heading_row() {
-        for text in ["part of the survey, by Anna", "", "name\tstart", "variants\tstart", "the variant\tstart"] {
+        for text in ["part of the survey, by Anna", "", "name\tstart", "variants\tstart", "the variant\tstart", "variant start positions from the survey"] {
             assert!(Heading::of(text, 1).is_none(), "{text}");
         }
     }

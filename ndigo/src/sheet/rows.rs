@@ -75,6 +75,13 @@ fn fits(heading: &Heading, cells: &[String]) -> bool {
     columns.into_iter().all(|(name, column)| cells.get(column).is_some_and(|cell| good(name, cell)))
 }
 
+/// Whether a line is a row under this heading beyond doubt: any word could be a setting's value, so a setting's name is asked for.
+fn is_row(heading: &Heading, text: &str) -> bool {
+    let whole = heading.section().needed.iter().all(|name| heading.column(name).is_some());
+    let named = |cells: &[String]| heading.section != SETTING || place_of(&cells[0].to_lowercase()).is_some();
+    whole && cells_under(heading, text).is_ok_and(|cells| fits(heading, &cells) && named(&cells))
+}
+
 /// Where a run of two blanks parts the cells, a long name may leave one only: then single blanks part them if that fits. Where
 /// single blanks do, a remark in the last column may still be of several words.
 fn cells_under(heading: &Heading, text: &str) -> Result<Vec<String>, usize> {
@@ -104,7 +111,9 @@ impl Reader {
         if let Some(heading) = Heading::of(text, line) {
             return self.begin(heading);
         }
-        if let Some((first, heading)) = Heading::meant(text, line) {
+        // a row's remark may hold the words of headings
+        let row = |reader: &Self| reader.heading.as_ref().is_some_and(|heading| is_row(heading, text));
+        if let Some((first, heading)) = Heading::meant(text, line).filter(|_| !row(self)) {
             let instead = format!("write \"{}\" there, and the names below it", heading.section().word);
             self.fault(line, 1, format!("\"{first}\" begins what looks like a heading row"), instead);
             return self.begin(heading);

@@ -80,6 +80,30 @@ fn blank_lines_padding_and_remarks() {
     same_job(GOOD.replace('\t', ",").replace("A,10", "# a remark, with commas, and words\nA,10"));
 }
 
+/// Titles and remarks may hold the words of headings.
+#[test]
+fn prose_is_neither_heading_nor_row() {
+    for title in [
+        "# start and end count from 0", "Survey of 3 May: start and end from BED", "Variant start positions from the May survey",
+        "Table of size and letters by Anna", "Parts: the letters as the reads have them",
+    ] {
+        same_job(format!("{title}\n{GOOD}"));
+    }
+    same_job(GOOD.replace("B\t30", "# start and end count from 0\nB\t30"));
+    for words in ["size unsure, see start of dive", "size,start,end", "size  start  end"] {
+        same_job(GOOD.replacen("letters\n", "letters\tremark\n", 1).replace("AGCT", &format!("AGCT\t{words}")));
+        same_job(GOOD.replace("size\tletters\nP", "size\tletters\tremark\nP").replace("P\t5\tCCCCC", &format!("P\t5\tCCCCC\t{words}")));
+        same_job(format!("setting\tvalue\tremark\nk\t4\t{words}\n{GOOD}"));
+    }
+    // a heading row that is made a remark is no prose
+    for hidden in ["#name start end size letters", "#variant\tstart\tend\tsize\tletters", "settings value", "name size letters"] {
+        let outcome = ask("check", format!("{GOOD}{hidden}\n"), &[]);
+        assert!(outcome.status == 2 && outcome.err.contains("begins what looks like a heading row"), "{hidden}: {}", outcome.err);
+    }
+    // nor is one with many columns of the station's own
+    same_job(GOOD.replace("size\tletters\nP", "size\tletters\tdepth\tsalt\theat\nP").replace('\t', " "));
+}
+
 #[test]
 fn columns_and_sections_in_another_order() {
     same_job("part\tletters\tsize\nP\tCCCCC\t5\nVariant\tSIZE\tend\tletters\tstart\nA\t-4\t14\tAGCT\t10\nB\t5\t30\tCCCCC\t30\n");
