@@ -57,7 +57,7 @@ pub fn answer(file: &str, data: &[u8], sort: bool, form: Form) -> Result<Told, F
     let mut remarks = remarks(&notes, &warnings::of(&sheet));
     match &answer {
         Err(reasons) => remarks.extend(reasons.iter().map(|reason| reason.to_string())),
-        Ok(answer) if answer.target == Target::Nothing => remarks.extend(answer::why(&sheet).iter().map(|words| format!("nothing found: {}", words.trim()))),
+        Ok(answer) if answer.target == Target::Nothing => remarks.extend(answer::why(&sheet, answer).iter().map(|words| format!("nothing found: {}", words.trim()))),
         Ok(_) => {}
     }
     let file = shown_name(file);

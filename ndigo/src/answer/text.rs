@@ -26,7 +26,8 @@ fn row_lines(sheet: &Sheet, answer: &Answer) -> Vec<String> {
 
 fn path_lines(sheet: &Sheet, answer: &Answer) -> Vec<String> {
     if answer.target == Target::Nothing {
-        return vec!["none: no path passed the thresholds with a score above 0".into()];
+        let of = if answer.complete { "" } else { " of those scored" };
+        return vec![format!("none: no path{of} passed the thresholds with a score above 0")];
     }
     if answer.rows.is_empty() {
         return vec!["the empty one: no row is needed to explain the parts".into()];
@@ -75,16 +76,35 @@ fn beside_threshold(name: &str, value: f32, threshold: u32) -> String {
     format!("its {name} is {}, {passes} the threshold {}", decimal(value), float::text(threshold))
 }
 
+/// Why no path scores above 0, whatever the thresholds.
+fn no_path(sheet: &Sheet, answer: &Answer) -> String {
+    let settings = sheet.settings.to_library();
+    let other = "the signs of the sizes differ, or the penalties take all";
+    if sheet.parts.is_empty() && settings.pileupmax > 0 {
+        return "the sheet has no parts, so there is no part list that a path could match".into();
+    }
+    if sheet.one_to_one() {
+        return format!("even with sizesim and seqsim at 0 no row is a candidate: one needs seqsim above 0 and a score above 0, and here the letters share nothing, {other}");
+    }
+    if settings.squish && (!settings.full || answer.scored == 1) {
+        let early = if answer.complete { "" } else { "; the search stopped early" };
+        return format!("only the empty path was scored, and with squish it accepts no part list{early}");
+    }
+    if !settings.full {
+        return format!("full is no, so only the empty path exists, and even with sizesim and seqsim at 0 it does not score above 0: {other}");
+    }
+    if !answer.complete {
+        let scored = format!("{} that {} scored", counted(answer.scored as usize, "path"), if answer.scored == 1 { "was" } else { "were" });
+        return format!("even with sizesim and seqsim at 0 none of the {scored} is above 0; the search stopped early, and others may be");
+    }
+    format!("even with sizesim and seqsim at 0 no path scores above 0: {other}")
+}
+
 /// Why nothing was found: the best path with both thresholds at 0, beside those that stopped it.
-pub fn why(sheet: &Sheet) -> Vec<String> {
-    let Some(free) = without_thresholds(sheet) else {
-        return vec!["even with sizesim and seqsim at 0 no path scores above 0: the signs of the sizes differ, or the penalties take all".into()];
-    };
-    let mut lines = if free.rows.is_empty() {
-        vec!["with sizesim and seqsim at 0 the best path is the empty one".into()]
-    } else {
-        vec!["with sizesim and seqsim at 0 the best path is".into()]
-    };
+pub fn why(sheet: &Sheet, answer: &Answer) -> Vec<String> {
+    let Some(free) = without_thresholds(sheet) else { return vec![no_path(sheet, answer)] };
+    let best = if free.complete { "the best path" } else { "the best path of those scored" };
+    let mut lines = vec![format!("with sizesim and seqsim at 0 {best} is{}", if free.rows.is_empty() { " the empty one" } else { "" })];
     lines.extend(row_lines(sheet, &free));
     let words = &sheet.settings.words;
     lines.push(format!("{}; {}", beside_threshold("sizesim", free.sizesim, words[SIZESIM]), beside_threshold("seqsim", free.seqsim, words[SEQSIM])));
@@ -103,7 +123,7 @@ pub fn text(sheet: &Sheet, answer: &Answer, notes: &[String]) -> String {
     lines.extend(above(notes, &warnings::of_rows(sheet)));
     lines.extend(titled("path", path_lines(sheet, answer)));
     if answer.target == Target::Nothing {
-        lines.extend(titled("why", why(sheet)));
+        lines.extend(titled("why", why(sheet, answer)));
     }
     let similar = format!("{} (sizesim {}, seqsim {})", decimal(answer.score), decimal(answer.sizesim), decimal(answer.seqsim));
     lines.extend(titled("score", vec![similar]));

@@ -81,6 +81,45 @@ fn why_nothing_was_found() {
     assert!(table.err.contains("nothing found: its sizesim is 0.625, below the threshold 0.9"));
 }
 
+/// What `why` says first, or that there is an answer.
+fn said_why(content: &str) -> String {
+    let text = answered(content);
+    let line = text.lines().find_map(|line| line.strip_prefix("why     "));
+    line.unwrap_or("there is an answer").to_string()
+}
+
+#[test]
+fn why_no_path_scores_at_all() {
+    const OTHER: &str = "the signs of the sizes differ, or the penalties take all";
+    let row = format!("{HEADINGS}B\t30\t30\t5\tCCCCC\n");
+    let other_sign = |settings: &str| format!("{row}\npart\tsize\tletters\nP\t-5\tCCCCC\nsetting\tvalue\n{settings}");
+    let other_letters = |settings: &str| format!("{row}\npart\tsize\tletters\nP\t5\tGGGGG\nsetting\tvalue\n{settings}");
+    let none = format!("even with sizesim and seqsim at 0 no path scores above 0: {OTHER}");
+    assert_eq!(said_why(&other_sign("")), none);
+    assert_eq!(said_why(&other_letters("gpenalty\t1000\nfnmax\t0\n").replace("P\t5\tGGGGG", "P\t5\tGGGGG\nQ\t5\tGGGGG")), none);
+    let stopped = "even with sizesim and seqsim at 0 none of the 1 path that was scored is above 0; the search stopped early, and others may be";
+    assert_eq!(said_why(&other_sign("maxpaths\t0\n")), stopped);
+    assert_eq!(said_why(&GOOD.replace("P\t5\tCCCCC", "P\t9\tGGGGGGGGG\nsetting\tvalue\nmaxpaths\t0")), stopped);
+    assert_eq!(said_why(&row), "the sheet has no parts, so there is no part list that a path could match");
+    assert_eq!(said_why(&format!("{row}setting\tvalue\nsquish\tyes\none-to-one\tyes\n")), "the sheet has no parts, so there is no part list that a path could match");
+    let alone = format!("even with sizesim and seqsim at 0 no row is a candidate: one needs seqsim above 0 and a score above 0, and here the letters share nothing, {OTHER}");
+    assert_eq!(said_why(&other_letters("one-to-one\tyes\n")), alone);
+    assert_eq!(said_why(&other_sign("maxnodes\t0\n")), alone);
+    assert_eq!(said_why(&other_sign("full\tno\n")), format!("full is no, so only the empty path exists, and even with sizesim and seqsim at 0 it does not score above 0: {OTHER}"));
+    let squish = "only the empty path was scored, and with squish it accepts no part list";
+    assert_eq!(said_why(&other_sign("full\tno\nsquish\tyes\n")), squish);
+    assert_eq!(said_why(&other_sign("maxpaths\t0\nsquish\tyes\n")), format!("{squish}; the search stopped early"));
+    // pileupmax 0 gives the whole haplotype, of no parts, as a list: the empty path matches it but for seqsim
+    assert_eq!(said_why(&format!("{row}setting\tvalue\npileupmax\t0\n")), "with sizesim and seqsim at 0 the best path is the empty one");
+}
+
+#[test]
+fn a_search_that_stopped_early_speaks_of_the_paths_scored_alone() {
+    let content = GOOD.replace("P\t5\tCCCCC", "P\t8\tCCCCCCCC\nsetting\tvalue\nmaxpaths\t1");
+    let text = answered(&content);
+    assert!(text.contains("\npath    none: no path of those scored passed the thresholds with a score above 0\nwhy     with sizesim and seqsim at 0 the best path of those scored is\n"), "{text}");
+}
+
 #[test]
 fn the_empty_path() {
     let content = format!("{HEADINGS}A\t10\t10\t5\tCCCCC\n\npart\tsize\tletters\nP\t5\tCCCCC\nQ\t-5\tCCCCC\nsetting\tvalue\nfull\tno\nseqsim\t0\n");
