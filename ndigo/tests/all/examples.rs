@@ -159,20 +159,21 @@ fn the_pages_print_what_the_commands_print() {
 /// A reader pastes the page's table into a file, and it is the example's.
 #[test]
 fn the_tables_of_the_first_week_can_be_pasted() {
-    let pasted = blocks("docs/FIRST-WEEK.md", "variant");
-    for (name, block) in ["first-dive", "mistake-names", "mistake-names-by-depth"].into_iter().zip(pasted) {
+    let [tables, whole] = ["variant", "setting"].map(|first| blocks("docs/FIRST-WEEK.md", first).into_iter().map(|block| format!("{first}{block}")).collect::<Vec<_>>());
+    let [first, by_depth] = &tables[..] else { panic!("{tables:?}") };
+    let [names] = &whole[..] else { panic!("{whole:?}") };
+    for (name, block) in [("first-dive", first), ("mistake-names-by-depth", by_depth)] {
         let example = ndigo::sheet::read(example(name).as_bytes());
-        let read = ndigo::sheet::read(format!("variant{block}").as_bytes());
+        let read = ndigo::sheet::read(block.as_bytes());
         assert_eq!((read.faults, read.notes), (vec![], vec![]), "{name}");
         let rows = |sheet: &ndigo::model::Sheet| sheet.variants.iter().map(|v| (v.name().to_string(), v.start, v.end, v.record, v.sequence.size, v.sequence.letters.clone())).collect::<Vec<_>>();
         assert_eq!(rows(&read.sheet), rows(&example.sheet), "{name}");
-        if !read.sheet.parts.is_empty() {
-            assert_eq!(read.sheet.parts.len(), example.sheet.parts.len(), "{name}");
-        }
     }
-    let first = &blocks("docs/FIRST-WEEK.md", "variant")[0];
-    let answer = ask("answer", format!("variant{first}"), &[]);
+    let answer = ask("answer", first, &[]);
     assert!(answer.status == 0 && answer.text().contains("Reef-A") && answer.text().contains("Wall-D"), "{}", answer.text());
+    assert_eq!(job(names), job(example("mistake-names")));
+    let answer = ask("answer", names, &[]);
+    assert!(answer.text().starts_with("path    1 of 3 rows, in this order:\n          St-2  record 4702 "), "{}", answer.text());
 }
 
 #[test]
