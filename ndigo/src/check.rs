@@ -3,6 +3,7 @@ use crate::fault::Fault;
 use crate::job;
 use crate::model::counted;
 use crate::refusals::{self, Refusal};
+use crate::search;
 use crate::sheet::Read;
 use crate::warnings::{self, Warning};
 use serde::Serialize;
@@ -21,7 +22,7 @@ impl<'a> Checked<'a> {
         let whole = read.faults.is_empty();
         Self {
             read,
-            refusals: if whole { refusals::of(&read.sheet) } else { vec![] },
+            refusals: if whole { search::refused(&read.sheet) } else { vec![] },
             warnings: if whole { warnings::of(&read.sheet) } else { vec![] },
         }
     }

@@ -1,14 +1,20 @@
 //! The proved library, asked about a sheet.
-use crate::model::{Sequence, Sheet, SEQSIM, SIZESIM};
+use crate::job::LETTERS_LIMIT;
+use crate::model::{Sequence, Sheet, MAXPATHS, SEQSIM, SIZESIM};
 use crate::refusals::{self, Refusal};
 use ndigomarr::{Answer, Haplotype, Table, Target};
 
 /// Of a table or a haplotype that is too long anyway, one more than the limit is enough to be refused.
 const ENOUGH: usize = 65;
 
+/// What the library must see: that, and every sequence over the limit, since letters are counted before rows are.
+fn seen(row: usize, sequence: &Sequence) -> bool {
+    row < ENOUGH || sequence.letters.len() > LETTERS_LIMIT
+}
+
 fn table(sheet: &Sheet, k: u8) -> Result<Table, ndigomarr::Refusal> {
     let mut table = Table::new(k);
-    for variant in sheet.variants.iter().take(ENOUGH) {
+    for (_, variant) in sheet.variants.iter().enumerate().filter(|(row, variant)| seen(*row, &variant.sequence)) {
         let sequence = &variant.sequence;
         table.add(variant.start, variant.end, sequence.size, &sequence.letters, sequence.negative)?;
     }
@@ -20,7 +26,7 @@ fn asked(sheet: &Sheet) -> Result<Answer, ndigomarr::Refusal> {
     let settings = sheet.settings.to_library();
     let table = table(sheet, settings.k)?;
     let mut haplotype = Haplotype::new(settings.k);
-    for part in sheet.parts.iter().take(ENOUGH) {
+    for (_, part) in sheet.parts.iter().enumerate().filter(|(row, part)| seen(*row, part)) {
         haplotype.add(part.size, &part.letters, part.negative)?;
     }
     ndigomarr::apply_haplotype(&settings, &table, &haplotype)
@@ -35,6 +41,14 @@ pub fn answer(sheet: &Sheet) -> Result<Answer, Vec<Refusal>> {
         }
         reasons
     })
+}
+
+/// Every reason why the library refuses, as `answer` gives them; the search itself is left at its first path, since it refuses nothing.
+pub fn refused(sheet: &Sheet) -> Vec<Refusal> {
+    let mut short = sheet.clone();
+    let maxpaths = &mut short.settings.words[MAXPATHS];
+    *maxpaths = if *maxpaths <= 4095 { 0 } else { *maxpaths };
+    answer(&short).err().unwrap_or_default()
 }
 
 /// Where nothing was found: the best path with both thresholds at 0, if even that finds one.

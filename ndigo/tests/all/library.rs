@@ -1,7 +1,7 @@
 //! What ndigo tells beforehand, and what it finds out afterwards, held to the library over random sheets.
 use ndigo::model::{Sequence, Settings, Sheet, Variant};
 use ndigo::refusals;
-use ndigo::search::{answer, foretold, used_parts, Foretold};
+use ndigo::search::{answer, foretold, refused, used_parts, Foretold};
 use ndigomarr::Target;
 use proptest::prelude::*;
 
@@ -37,7 +37,8 @@ fn around_the_limits() -> impl Strategy<Value = Sheet> {
     let size = prop_oneof![5 => -20i32..20, 1 => Just(131_072), 1 => Just(-131_073)];
     let one = (0u64..6, 0u64..6, size, "[AGCTN]{0,9}");
     let rows = prop_oneof![8 => proptest::collection::vec(one.clone(), 0..5), 1 => proptest::collection::vec(one, 64..67)];
-    (counts, float.clone(), float, rows, prop_oneof![8 => 0usize..4, 1 => 64usize..67]).prop_map(|(counts, sizesim, fpenalty, rows, parts)| {
+    let long = (prop::bool::weighted(0.1), prop::bool::weighted(0.1));
+    (counts, float.clone(), float, rows, prop_oneof![8 => 0usize..4, 1 => 64usize..67], long).prop_map(|(counts, sizesim, fpenalty, rows, parts, long)| {
         let settings = ndigomarr::Settings { k: counts.0 as u8, maxpaths: counts.1, maxnodes: counts.2, pileupmax: counts.3, sizesim, fpenalty, ..Default::default() };
         let mut sheet = Sheet { settings: Settings::of_library(&settings), ..Sheet::default() };
         for (row, (start, end, size, letters)) in rows.into_iter().enumerate() {
@@ -46,6 +47,9 @@ fn around_the_limits() -> impl Strategy<Value = Sheet> {
             sheet.variants.push(Variant { start, end, record: None, sequence: sequence(format!("V{row}"), size, &letters) });
         }
         sheet.parts = (0..parts).map(|part| sequence(format!("P{part}"), 5, "AGCTA")).collect();
+        // the last of them has too many letters, beyond the rows that are refused anyway too
+        let last = [sheet.variants.last_mut().map(|variant| &mut variant.sequence).filter(|_| long.0), sheet.parts.last_mut().filter(|_| long.1)];
+        last.into_iter().flatten().for_each(|sequence| sequence.letters = vec![b'C'; 131_073]);
         sheet
     })
 }
@@ -56,6 +60,7 @@ proptest! {
     #[test]
     fn the_library_refuses_as_foretold(sheet in around_the_limits()) {
         let foretold = refusals::of(&sheet);
+        prop_assert_eq!(&refused(&sheet), &foretold);
         match answer(&sheet) {
             Ok(_) => prop_assert_eq!(foretold, vec![]),
             Err(reasons) => prop_assert_eq!(reasons, foretold),
