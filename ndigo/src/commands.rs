@@ -21,6 +21,8 @@ pub enum Command {
         form: Form,
     },
     /// Every fault, refusal and warning that can be told before running
+    #[command(mut_arg("tsv", |form| form.help("Tab-separated, one heading row for all sheets; faults, refusals and warnings are rows")))]
+    #[command(mut_arg("json", |form| form.help("One JSON object on a line for each sheet; faults, refusals and warnings are fields")))]
     Check {
         #[command(flatten)]
         sheets: Sheets,
@@ -68,10 +70,10 @@ pub struct Sheets {
 
 #[derive(Clone, Copy, Debug, Args)]
 pub struct Form {
-    /// Tab-separated, one heading row for all sheets; warnings go to standard error
+    /// Tab-separated, one heading row for all sheets; warnings go to standard error, and a sheet with faults gets no row
     #[arg(long, conflicts_with = "json")]
     pub tsv: bool,
-    /// One JSON object on a line for each sheet; warnings go to standard error
+    /// One JSON object on a line for each sheet; warnings go to standard error, and a sheet with faults gets no object
     #[arg(long)]
     pub json: bool,
 }

@@ -20,11 +20,20 @@ pub struct Read {
     pub faults: Vec<Fault>,
 }
 
+/// What is quoted from a sheet is printed on a terminal: what could steer that is written out.
+fn printable(words: &mut String) {
+    if words.chars().any(char::is_control) {
+        *words = words.chars().map(|letter| if letter.is_control() { letter.escape_debug().to_string() } else { letter.to_string() }).collect();
+    }
+}
+
 pub fn read(data: &[u8]) -> Read {
     match text::decoded(data) {
         Some((text, note)) => {
             let mut read = rows::read(&text::lines(&text));
             read.notes.splice(0..0, note);
+            let faults = read.faults.iter_mut().flat_map(|fault| [&mut fault.what, &mut fault.instead]);
+            faults.chain(&mut read.notes).for_each(printable);
             read
         }
         None => Read {
@@ -32,8 +41,8 @@ pub fn read(data: &[u8]) -> Read {
                 line: 1,
                 column: 1,
                 heading: None,
-                what: "this is not text in UTF-8 or UTF-16".into(),
-                instead: "save the sheet as tab-separated text".into(),
+                what: if text::marked(data) { "this is not text in UTF-8 or UTF-16" } else { "zero bytes stand here: this is no text, or UTF-16 without its mark" }.into(),
+                instead: "save the sheet as tab-separated text in UTF-8".into(),
             }],
             ..Read::default()
         },

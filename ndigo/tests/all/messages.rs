@@ -67,6 +67,9 @@ fn bad_cells() -> Vec<Said> {
         (table("A\t-1\t1\t1\tAG"), format!("line 2, column 2 (start): \"-1\" is out of range; {NUMBER}")),
         (table("A\t1\t1\t2.0\tAG"), size.into()),
         (table("A\t1\t1\t1\tA G"), format!("line 2, column 5 (letters): \" \" stands at letter 2; {HEX}")),
+        (table("A\t1\u{1b}[2J\t1\t1\tAG"), format!("line 2, column 2 (start): \"1\\u{{1b}}[2J\" is no whole number; {NUMBER}, in digits")),
+        (table("A\t1\t1\t1\tAG\t\u{7f}"), "line 2, column 6: no heading stands above this cell, \"\\u{7f}\"; write one above it, or empty the cell".into()),
+        ("my \u{1b}c dive".into(), format!("line 1, column 1: no heading row stands here or below; this is \"my \\u{{1b}}c dive\"; {HEADING}")),
         (table("A\t1\t1\t1\thex:4"), format!("line 2, column 5 (letters): \":\" stands at letter 4; {HEX}")),
         ("part\tsize\tletters\tnegative\nP\t1\tAG\tmaybe\n".into(), "line 2, column 4 (negative): \"maybe\" is neither yes nor no; write yes or no".into()),
     ]
@@ -142,8 +145,12 @@ fn all_faults_in_one_run() {
 fn other_codings() {
     let windows = ask("check", [HEADINGS.as_bytes(), b"R\xe9cif\t1\t1\t5\tAGAGA\n"].concat(), &[]);
     assert!(windows.text().starts_with("note    line 2: this is no UTF-8; the sheet was read as Windows-1252\n"));
-    let no_text = ask("check", b"\xff\0\x01", &[]);
-    assert_eq!((no_text.status, no_text.err.as_str()), (2, "standard input: line 1, column 1: this is not text in UTF-8 or UTF-16; save the sheet as tab-separated text\n"));
+    let no_mark = |big: bool| GOOD.encode_utf16().flat_map(|unit| if big { unit.to_be_bytes() } else { unit.to_le_bytes() }).collect::<Vec<u8>>();
+    let zeros = "zero bytes stand here: this is no text, or UTF-16 without its mark";
+    for (content, what) in [(no_mark(false), zeros), (no_mark(true), zeros), (b"\xff\0\x01".to_vec(), zeros), (b"\xff\xfe\0".to_vec(), "this is not text in UTF-8 or UTF-16")] {
+        let outcome = ask("check", content, &[]);
+        assert_eq!((outcome.status, outcome.err), (2, format!("standard input: line 1, column 1: {what}; save the sheet as tab-separated text in UTF-8\n")));
+    }
 }
 
 #[test]
@@ -167,6 +174,10 @@ fn help_states_every_default() {
         let outcome = call(&[command, "--help"], b"");
         assert_eq!(outcome.status, 0);
         assert!(outcome.text().contains(&format!("Usage: ndigo {command}")));
+    }
+    // an answer's warnings go to standard error, and a check's are its rows
+    for (command, words, count) in [("answer", "warnings go to standard error", 2), ("answer", "a sheet with faults", 2), ("check", "standard error", 0), ("check", "refusals and warnings are", 2)] {
+        assert_eq!(call(&[command, "--help"], b"").text().split_whitespace().collect::<Vec<_>>().join(" ").matches(words).count(), count, "{command}: {words}");
     }
     assert_eq!(call(&["--version"], b"").text(), concat!("ndigo ", env!("CARGO_PKG_VERSION"), "\n"));
     assert!(call(&["completions", "bash"], b"").text().contains("ndigo"));
@@ -221,6 +232,9 @@ fn refused_sheets() -> Vec<(String, Vec<String>)> {
             told("line 3", 9, "\"B\" has size -131073, the limit is 131072"),
         ]),
         (format!("{HEADINGS}A\t1\t1\t1\t{}", "C".repeat(131_073)), vec![told("line 2", 13, "\"A\" has 131073 letters, the limit is 131072")]),
+        (format!("{}Z\t99\t99\t1\t{}\n", table_of(66), "C".repeat(131_073)), vec![
+            told("line 68", 13, "\"Z\" has 131073 letters, the limit is 131072"), told("line 66", 5, "67 variants, the limit is 64"),
+        ]),
     ]
 }
 
