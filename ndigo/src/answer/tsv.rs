@@ -14,6 +14,11 @@ fn joined<T: ToString>(values: impl Iterator<Item = T>) -> String {
     values.map(|value| value.to_string()).collect::<Vec<_>>().join(",")
 }
 
+/// A name as a cell of the comma-separated list: one that holds a comma or a quote is quoted.
+fn listed(name: &str) -> String {
+    if name.contains([',', '"']) { format!("\"{}\"", name.replace('"', "\"\"")) } else { name.to_string() }
+}
+
 fn both(value: f32) -> [String; 2] {
     [float::text(value.to_bits()), format!("{:08x}", value.to_bits())]
 }
@@ -29,7 +34,7 @@ pub fn table_row(file: &str, sheet: &Sheet, answer: &Result<Answer, Vec<Refusal>
             return cells;
         }
     };
-    let names = joined(answer.rows.iter().map(|&row| sheet.variants[row].name()));
+    let names = joined(answer.rows.iter().map(|&row| listed(sheet.variants[row].name())));
     let mut cells = vec![file.into(), String::new(), names, joined(answer.rows.iter()), joined(answer.records.iter())];
     cells.extend([answer.score, answer.sizesim, answer.seqsim].into_iter().flat_map(both));
     cells.push(target_word(answer).into());

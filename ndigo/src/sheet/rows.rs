@@ -99,6 +99,22 @@ fn cells_under(heading: &Heading, text: &str) -> Result<Vec<String>, usize> {
     }))
 }
 
+/// In a row of commas with cells too many: the first number that its own comma parted, if joining such numbers makes it fit.
+fn parted_number(heading: &Heading, cells: &[String], from: usize) -> Option<(usize, String)> {
+    if heading.delimiter != Delimiter::Character(',') || cells.len() <= heading.columns.len() {
+        return None;
+    }
+    let numbers = (from..heading.columns.len()).filter(|&at| matches!(heading.columns[at], Some("start" | "end" | "size" | "record" | "value")));
+    numbers.into_iter().find_map(|at| {
+        let number = format!("{},{}", cells[at], cells[at + 1]);
+        cells::whole(&number, i128::MIN, i128::MAX).ok()?;
+        let joined = [&cells[..at], &[number.clone()], &cells[at + 2..]].concat();
+        let letters = heading.column("letters").and_then(|column| joined.get(column)).map_or(true, |letters| cells::letters(letters).is_ok());
+        let good = joined.len() == heading.columns.len() && letters && fits(heading, &joined);
+        (good || parted_number(heading, &joined, at + 1).is_some()).then_some((at, number))
+    })
+}
+
 impl Reader {
     fn fault(&mut self, line: usize, column: usize, what: impl Into<String>, instead: impl Into<String>) {
         self.read.faults.push(Fault { line, column, heading: None, what: what.into(), instead: instead.into() });
@@ -154,6 +170,11 @@ impl Reader {
                 self.fault(line, 1, format!("the name \"{}\" begins with #", cells[0]), "write another name; a remark fills one cell only");
             }
             return;
+        }
+        if let Some((column, number)) = parted_number(heading, &cells, 1) {
+            let wrong = (format!("\"{number}\" is parted by its own comma"), format!("quote it: \"{number}\""));
+            let fault = Row { line, heading, cells }.fault(heading.columns[column].unwrap_or_default(), wrong);
+            return self.read.faults.push(fault);
         }
         for (place, cell) in cells.iter().enumerate().skip(heading.columns.len()).filter(|(_, cell)| !cell.is_empty()) {
             self.fault(line, place + 1, format!("no heading stands above this cell, \"{cell}\""), "write one above it, or empty the cell");

@@ -55,6 +55,9 @@ fn parts_left_out_are_named() {
     assert!(answered(noise("")).contains("parts   1 was left out of 2: noise\n"));
     let two = answered(noise(&format!("din\t90\t{}\n", "AT".repeat(45))));
     assert!(two.contains("parts   2 were left out of 3: noise, din\n"), "{two}");
+    // of equal lists the first stays
+    let equal = answered(format!("{GOOD}Q\t5\tCCCCC\nR\t5\tCCCCC\n"));
+    assert!(equal.contains("parts   2 were left out of 3: Q, R\n"), "{equal}");
 }
 
 #[test]
@@ -159,6 +162,10 @@ fn tables_and_documents_have_stable_names() {
                           \"without_thresholds\":null}\n");
     let refused = ask("answer", format!("{GOOD}setting\tvalue\nk\t0\n"), &["--tsv"]);
     assert_eq!((refused.status, refused.text().lines().nth(1).unwrap()), (1, &*format!("standard input\t1{}", "\t".repeat(13))));
+    // a name with a comma is one name
+    let comma = ask("answer", NUMBERED.replace("B\t98", "\"B, the \"\"old\"\"\"\t98"), &["--tsv"]).text();
+    let mut cells = csv::ReaderBuilder::new().delimiter(b'\t').from_reader(comma.as_bytes());
+    assert_eq!(&cells.records().next().unwrap().unwrap()[2], "\"B, the \"\"old\"\"\"");
     let floats = ask("answer", GOOD.replace("P\t5\tCCCCC", "P\t5\tCCCCT") + "setting\tvalue\nseqsim\t0.3\n", &["--json"]).text();
     assert!(floats.contains("\"seqsim\":{\"decimal\":0."), "{floats}");
 }
@@ -166,7 +173,7 @@ fn tables_and_documents_have_stable_names() {
 /// Twelve variants of which five were planted: more paths than the small program scores.
 #[test]
 fn at_the_librarys_size() {
-    let letters = |row: usize| (0..12).map(|at| ['A', 'G', 'C', 'T'][(row * 7 + at * at + at * row) % 4]).collect::<String>();
+    let letters = |row: usize| (0..12).map(|at| ['A', 'G', 'C', 'T'][((row + 1) * (at + 3) * 2_654_435_761 >> 13) % 4]).collect::<String>();
     let mut content = HEADINGS.to_string();
     for row in 0..12 {
         content += &format!("V{row}\t{0}\t{0}\t12\t{1}\n", row * 10, letters(row));
@@ -177,5 +184,6 @@ fn at_the_librarys_size() {
     }
     let document: serde_json::Value = serde_json::from_slice(&ask("answer", content, &["--json"]).out).unwrap();
     assert_eq!((document["answer"]["score"]["bits"].as_str(), document["answer"]["scored"].as_u64()), (Some("3f800000"), Some(4096)));
-    assert_eq!(document["answer"]["path"].as_array().unwrap().len(), 5);
+    let names: Vec<&str> = document["answer"]["path"].as_array().unwrap().iter().map(|row| row["name"].as_str().unwrap()).collect();
+    assert_eq!(names, ["V1", "V3", "V6", "V8", "V11"]);
 }

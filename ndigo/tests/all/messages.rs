@@ -107,19 +107,16 @@ fn bad_settings() -> Vec<Said> {
     ]
 }
 
-fn bad_sheets() -> Vec<Said> {
-    [bad_headings(), bad_names(), bad_cells(), bad_records(), bad_settings()].concat()
-}
-
 #[test]
 fn bad_sheets_get_their_message_and_nothing_else() {
-    for (content, message) in bad_sheets() {
-        for command in ["check", "job", "answer", "draw"] {
-            let outcome = ask(command, &content, &[]);
-            assert_eq!(outcome.err, format!("standard input: {message}\n"));
-            assert_eq!((outcome.status, outcome.out), (2, vec![]), "{message}");
-            if message.len() % 4 > 0 {
-                break; // all commands read alike; some sheets are put to all
+    for group in [bad_headings(), bad_names(), bad_cells(), bad_records(), bad_settings()] {
+        for (at, (content, message)) in group.iter().enumerate() {
+            // all commands read alike: the first sheet of each group is put to all
+            let commands = if at == 0 { &["check", "job", "answer", "draw"][..] } else { &["check"] };
+            for command in commands {
+                let outcome = ask(command, content, &[]);
+                assert_eq!(outcome.err, format!("standard input: {message}\n"));
+                assert_eq!((outcome.status, outcome.out), (2, vec![]), "{message}");
             }
         }
     }

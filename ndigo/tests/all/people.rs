@@ -70,7 +70,14 @@ fn numbers_as_people_write_them() {
     assert!(outcome.text().starts_with("note    commas taken as parting thousands: 1,200 as 1200 (line 2)\n"), "{}", outcome.text());
     // in a sheet of commas a quoted cell alone can hold one
     assert_eq!(job(far("\"1,200\"").replace('\t', ",")), job(far("1200")));
-    assert_eq!(ask("job", far("1,200").replace('\t', ","), &[]).status, 2);
+    let unquoted = |row: &str| ask("job", format!("{HEADINGS}{row}\n").replace('\t', ","), &[]);
+    let said = "standard input: line 2, column 2 (start): \"1,200\" is parted by its own comma; quote it: \"1,200\"\n";
+    for row in ["A,1,200,1200,5,CCCCC", "A,1,200,1,200,5,CCCCC", "A,1,200,1200,1,005,CCCCC"] {
+        let outcome = unquoted(row);
+        assert_eq!((outcome.status, outcome.err.as_str()), (2, said), "{row}");
+    }
+    // a cell too many is no number that was parted
+    assert!(unquoted("A,10,140,4,AGAG,stray").err.contains("column 6: no heading stands above this cell, \"stray\""));
 }
 
 #[test]
