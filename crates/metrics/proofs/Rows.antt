@@ -6,7 +6,7 @@ use native.Mathlib.Numerals.{add-one}
 use lib.IntN.{ℤ, pos, natAbs, _-ℤ_}
 use lib.ListN.{length, drop, getD, drop-of-length-le}
 use lib.Seq.{drop-cons}
-use Rattle.metrics.specs.Similarity.{magnitudeSum, both, partD, partN, sumBy}
+use Rattle.metrics.specs.Similarity.{magnitudeSum, both, partD, partN, sumBy, sumD, sumN}
 use Rattle.metrics.proofs.Ints.{apart-le}
 use native.Mathlib.Omega.{arith}
 use native.Mathlib.Nat.{le-refl, add-mul}
@@ -67,3 +67,14 @@ left-out m (x ∷ a) [] e = absurd (uneven (length a) e)
 left-out m (x ∷ a) (y ∷ b) e =
     let rest : length a ≡ length b = omega arith in
     omega (arith, some-left (leb m (both x y)) m (both x y) refl, left-out m a b rest, add-mul 1 (length a) m)
+
+-- n is at most d, entry by entry
+part-le : (t : Bool) (p q : ℕ) → p ≤ q → cond t p 0 ≤ cond t q 0
+part-le true p q h = h
+part-le false p q h = zero-le
+
+pub n-le-d : (m : ℕ) (a b : List ℤ) → sumN m a b ≤ sumD m a b
+unfolding sumBy
+n-le-d m [] b = zero-le
+n-le-d m (x ∷ a) [] = zero-le
+n-le-d m (x ∷ a) (y ∷ b) = omega (arith, part-le (leb m (both x y)) (natAbs (x -ℤ y)) (both x y) (apart-le x y), n-le-d m a b)

@@ -1,4 +1,5 @@
 pub mod Similarity
+pub mod SeqsimError
 pub mod Letters
 pub mod Lanes
 pub mod Placed
