@@ -1,5 +1,5 @@
 # `make run` and `make test` do all set-up themselves; README.md says what each target is for.
-.PHONY: run test changed program proofs packages texts wrong runs must-fail oracle faults fuzz bindings bench
+.PHONY: run test changed program ndigo proofs packages texts wrong runs must-fail oracle faults fuzz bindings bench
 
 # rt waits for all crates of a batch before it starts the next: a batch of four keeps two cores busy where a long crate stands beside a short one.
 # Each takes about 1 GB. Who sets RT_JOBS decides.
@@ -9,10 +9,13 @@ program:
 	tools/emulate >&2
 	rt check ndigomarr copy_job >&2
 
-run: program
+ndigo:
+	ndigo/build
+
+run: program ndigo
 	target/bin/ndigomarr < examples/worked.job
-	tools/sheet answer examples/first-dive.tsv
-	tools/sheet draw examples/first-dive.tsv > target/first-dive.svg
+	target/bin/ndigo answer examples/first-dive.tsv
+	target/bin/ndigo draw examples/first-dive.tsv > target/first-dive.svg
 	@echo 'picture target/first-dive.svg'
 
 # What `runs` and `wrong` need: the programs, and all that the library stands on, which is itself proved as it is made.
@@ -22,6 +25,7 @@ proofs:
 
 packages:
 	oracle/setup
+	ndigo/setup
 
 # What is read off the files alone, and the tests of the tools.
 texts:
@@ -37,17 +41,17 @@ texts:
 	tools/test_wrong
 	tools/test_changed
 	tools/test_unproved
+	tools/test_ndform
 	rt fmt --check
 
 # The wrong answers that rt ci does not try, in folders of their own.
 wrong:
 	tools/wrong
 
-# What is run, one after the other, since two rt in one folder mix their logs. One archive serves both that link it.
+# What is run, one after the other, since two rt in one folder mix their logs. One archive serves all that link it.
 runs:
 	tools/run-examples
-	SHEET_NEEDS_PROGRAM=1 SHEET_WRITER=target/bin/copy_job tools/test_sheet
-	set -e; ARCHIVE_MADE=$$(tools/library); export ARCHIVE_MADE; oracle/run --short; bindings/test
+	set -e; ARCHIVE_MADE=$$(tools/library); export ARCHIVE_MADE; NDIGO_NEEDS_PROGRAM=1 SHEET_WRITER=target/bin/copy_job ndigo/test; oracle/run --short; bindings/test
 
 # What stands on one line runs at the same time. rt ci stands last: its last line, 'N passed, 0 failed', is the gate's. It proves all from nothing, so what runs before it builds for itself.
 test:

@@ -1,13 +1,12 @@
-"""What the Python tools share of documents 01 and 02: the job form, byte for byte, the program's answer, line for line,
-and the words of the refusals.
+"""What the Python tools share of documents 01 and 02: the job form, byte for byte, and the program's answer, line for line.
 
 The form stands here once: the kinds of record, the fields of their bodies, a writer and a reader. A float setting is
 kept as its 32 bits, so that every NaN comes back as it was. Which jobs in good form are refused is not said here.
-tools/test_sheet holds the bytes to document 01's worked example and, through the proved writer, to the program's.
+tools/test_ndform holds the bytes to document 01's worked example; ndigo has the form in Rust, and its tests hold that to the
+proved writer's bytes.
 """
 import re
 import struct
-from pathlib import Path
 from typing import NamedTuple
 
 # --- records ----------------------------------------------------------------
@@ -90,11 +89,6 @@ def part(size, letters, negative=0):
 
 def job(head, *records):
     return head + b"".join(records) + record(END)
-
-
-def sequence_length(kind, letter_count):
-    """How many bytes a variant or a part takes with its letters."""
-    return LENGTHS[kind] + LENGTHS[LETTERS] * -(-letter_count // BODIES[LETTERS].size)
 
 
 def settings(k=1, squish=0, one_to_one=0, full=1, maxpaths=10, maxnodes=10, fnmax=1, pileupmax=5, minkfreq=1,
@@ -241,14 +235,3 @@ def read_answer(text):
         raise AnswerFault(f"line 1 lists {len(answer.rows)} and line 2 lists {len(answer.records)}, "
                           "and there should be one record for each row")
     return answer
-
-
-# --- refusals ---------------------------------------------------------------
-
-TABLE = Path(__file__).resolve().parent.parent / "docs" / "refusals.tsv"
-
-
-def refusal_words():
-    """The words of each refusal by its number, from docs/refusals.tsv."""
-    rows = (line.split("\t") for line in TABLE.read_text(encoding="utf-8").splitlines()[1:])
-    return {int(number): words for number, _, words in rows}

@@ -1,4 +1,4 @@
-// Reads one job and writes it anew with the proved writer; writes nothing where the job is refused. What tools/sheet makes is held to it.
+// Reads one job and writes it anew with the proved writer; writes nothing where the job is refused. What ndigo makes is held to it.
 use reader::Reading;
 use reader::read_job;
 use writer::Writing;

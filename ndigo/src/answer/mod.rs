@@ -1,0 +1,28 @@
+//! The library's answer in the sheet's own names: as text, as a tab-separated row, as JSON.
+mod json;
+mod text;
+mod tsv;
+
+pub use json::document;
+pub use text::{refused, text, why};
+pub use tsv::{table_row, TABLE_HEADINGS};
+
+use ndigomarr::{Answer, Target};
+
+/// The target's word, the same in every form.
+pub fn target_word(answer: &Answer) -> &'static str {
+    match answer.target {
+        Target::Nothing => "nothing",
+        Target::Whole => "whole",
+        Target::Partial(_) => "partial",
+    }
+}
+
+/// How many parts were left out; none where nothing was matched.
+pub fn left_out(answer: &Answer) -> Option<u32> {
+    match answer.target {
+        Target::Nothing => None,
+        Target::Whole => Some(0),
+        Target::Partial(parts) => Some(parts),
+    }
+}

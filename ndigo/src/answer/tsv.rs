@@ -1,0 +1,44 @@
+//! An answer as one tab-separated row. The headings are stable: new ones go to the end.
+use super::{left_out, target_word};
+use crate::float;
+use crate::model::Sheet;
+use crate::refusals::Refusal;
+use ndigomarr::Answer;
+
+pub const TABLE_HEADINGS: [&str; 15] = [
+    "file", "refused", "names", "rows", "records", "score", "score_bits", "sizesim", "sizesim_bits", "seqsim", "seqsim_bits", "target", "left_out", "scored",
+    "complete",
+];
+
+fn joined<T: ToString>(values: impl Iterator<Item = T>) -> String {
+    values.map(|value| value.to_string()).collect::<Vec<_>>().join(",")
+}
+
+/// A name as a cell of the comma-separated list: one that holds a comma or a quote is quoted.
+fn listed(name: &str) -> String {
+    if name.contains([',', '"']) { format!("\"{}\"", name.replace('"', "\"\"")) } else { name.to_string() }
+}
+
+fn both(value: f32) -> [String; 2] {
+    [float::text(value.to_bits()), format!("{:08x}", value.to_bits())]
+}
+
+/// The cells under the headings; a refusal fills the first two only.
+pub fn table_row(file: &str, sheet: &Sheet, answer: &Result<Answer, Vec<Refusal>>) -> Vec<String> {
+    let answer = match answer {
+        Ok(answer) => answer,
+        Err(reasons) => {
+            let mut cells = vec![String::new(); TABLE_HEADINGS.len()];
+            cells[0] = file.into();
+            cells[1] = reasons.first().map_or(String::new(), |reason| reason.number.to_string());
+            return cells;
+        }
+    };
+    let names = joined(answer.rows.iter().map(|&row| listed(sheet.variants[row].name())));
+    let mut cells = vec![file.into(), String::new(), names, joined(answer.rows.iter()), joined(answer.records.iter())];
+    cells.extend([answer.score, answer.sizesim, answer.seqsim].into_iter().flat_map(both));
+    cells.push(target_word(answer).into());
+    cells.push(left_out(answer).map_or(String::new(), |parts| parts.to_string()));
+    cells.extend([answer.scored.to_string(), if answer.complete { "yes" } else { "no" }.into()]);
+    cells
+}

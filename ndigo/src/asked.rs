@@ -1,0 +1,120 @@
+//! What each command makes of one file.
+use crate::answer;
+use crate::check::Checked;
+use crate::commands::Form;
+use crate::draw;
+use crate::fault::Failure;
+use crate::job;
+use crate::model::{counted, Sheet};
+use crate::refusals;
+use crate::search;
+use crate::sheet;
+use crate::warnings;
+use crate::work::{shown_name, Told};
+use ndigomarr::Target;
+
+/// The sheet and what was noted while it was read; all its faults where it has any.
+fn read(data: &[u8], sort: bool) -> Result<(Sheet, Vec<String>), Failure> {
+    let read = sorted(sheet::read(data), sort);
+    if read.faults.is_empty() { Ok((read.sheet, read.notes)) } else { Err(Failure::Sheet { faults: read.faults, notes: read.notes }) }
+}
+
+fn sorted(mut read: sheet::Read, sort: bool) -> sheet::Read {
+    if sort {
+        let note = match read.sheet.sort() {
+            0 => "the rows stood sorted by start already".into(),
+            moved => format!("the rows were sorted by start: {} changed place, and row numbers are those of the sorted table", counted(moved, "row")),
+        };
+        read.notes.push(note);
+    }
+    read
+}
+
+/// Cells as one line of tab-separated text.
+pub fn table_line(cells: &[impl AsRef<[u8]>]) -> Vec<u8> {
+    let mut writer = csv::WriterBuilder::new().delimiter(b'\t').from_writer(vec![]);
+    // writing into memory cannot fail
+    let _ = writer.write_record(cells);
+    writer.into_inner().unwrap_or_default()
+}
+
+fn remarks(notes: &[String], warnings: &[warnings::Warning]) -> Vec<String> {
+    let notes = notes.iter().map(|note| format!("note: {note}"));
+    notes.chain(warnings.iter().map(|warning| format!("warning: {warning}"))).collect()
+}
+
+pub fn answer(file: &str, data: &[u8], sort: bool, form: Form) -> Result<Told, Failure> {
+    let (sheet, notes) = read(data, sort)?;
+    let answer = search::answer(&sheet);
+    let status = u8::from(answer.is_err());
+    if !form.tsv && !form.json {
+        let text = match &answer {
+            Ok(answer) => answer::text(&sheet, answer, &notes),
+            Err(reasons) => answer::refused(&sheet, reasons, &notes),
+        };
+        return Ok(Told::text(status, text));
+    }
+    let mut remarks = remarks(&notes, &warnings::of(&sheet));
+    match &answer {
+        Err(reasons) => remarks.extend(reasons.iter().map(|reason| reason.to_string())),
+        Ok(answer) if answer.target == Target::Nothing => remarks.extend(answer::why(&sheet, answer).iter().map(|words| format!("nothing found: {}", words.trim()))),
+        Ok(_) => {}
+    }
+    let file = shown_name(file);
+    let out = if form.json { answer::document(file, &sheet, &answer).into_bytes() } else { table_line(&answer::table_row(file, &sheet, &answer)) };
+    Ok(Told { out, remarks, status })
+}
+
+pub fn check(file: &str, data: &[u8], sort: bool, form: Form) -> Result<Told, Failure> {
+    let read = sorted(sheet::read(data), sort);
+    let checked = Checked::of(&read);
+    let file = shown_name(file);
+    if form.json {
+        return Ok(Told::text(checked.status(), checked.document(file)));
+    }
+    if form.tsv {
+        let out = checked.table_rows(file).iter().flat_map(|cells| table_line(cells)).collect();
+        return Ok(Told { out, remarks: vec![], status: checked.status() });
+    }
+    if !read.faults.is_empty() {
+        return Err(Failure::Sheet { faults: read.faults, notes: read.notes });
+    }
+    Ok(Told::text(checked.status(), checked.text()))
+}
+
+/// The job form takes sheets that the rules refuse, but not a sequence over its limit.
+pub fn job(data: &[u8], sort: bool) -> Result<Told, Failure> {
+    let (sheet, notes) = read(data, sort)?;
+    let long = refusals::long_sequences(&sheet);
+    if !long.is_empty() {
+        let reasons = long.iter().map(|refusal| refusal.to_string()).collect();
+        return Ok(Told { out: vec![], remarks: reasons, status: 1 });
+    }
+    Ok(Told { out: job::written(&sheet), remarks: remarks(&notes, &[]), status: 0 })
+}
+
+pub fn show(data: &[u8]) -> Result<Told, Failure> {
+    match job::read(data) {
+        Ok(sheet) => Ok(Told::text(0, sheet::written(&sheet))),
+        Err(fault) => {
+            let place = if fault.number == 25 { format!("from byte {} on", fault.place) } else { format!("the record at byte {}", fault.place) };
+            Err(Failure::Input(format!("refused {}: {}: {place}", fault.number, refusals::words(fault.number))))
+        }
+    }
+}
+
+/// A refused sheet is drawn too, and the status says that it was refused.
+pub fn draw(file: &str, data: &[u8], sort: bool, rows: Option<&str>) -> Result<Told, Failure> {
+    let (sheet, notes) = read(data, sort)?;
+    let title = std::path::Path::new(shown_name(file)).file_name().map_or(file.into(), |name| name.to_string_lossy().into_owned());
+    if let Some(rows) = rows {
+        let rows = draw::given_rows(rows, sheet.variants.len()).map_err(Failure::Input)?;
+        let told = Told::text(0, draw::by_hand(&sheet, &title, &rows));
+        return Ok(Told { remarks: remarks(&notes, &[]), ..told });
+    }
+    let answer = search::answer(&sheet);
+    let status = u8::from(answer.is_err());
+    let mut remarks = remarks(&notes, &warnings::of(&sheet));
+    remarks.extend(answer.as_ref().err().into_iter().flatten().map(|reason| reason.to_string()));
+    Ok(Told { out: draw::answered(&sheet, &title, &answer).into_bytes(), remarks, status })
+}

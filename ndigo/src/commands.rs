@@ -1,0 +1,121 @@
+//! The command line: what may be asked, and its help.
+use crate::model::SETTINGS;
+use clap::{Args, CommandFactory, FromArgMatches, Parser, Subcommand};
+use clap_complete::Shell;
+use std::path::PathBuf;
+
+#[derive(Debug, Parser)]
+#[command(name = "ndigo", version, about = "Which variants of a station sheet, taken together, explain the parts of a haplotype")]
+pub struct Cli {
+    #[command(subcommand)]
+    pub command: Command,
+}
+
+#[derive(Debug, Subcommand)]
+pub enum Command {
+    /// The best path, in the names of the sheet
+    Answer {
+        #[command(flatten)]
+        sheets: Sheets,
+        #[command(flatten)]
+        form: Form,
+    },
+    /// Every fault, refusal and warning that can be told before running
+    #[command(mut_arg("tsv", |form| form.help("Tab-separated, one heading row for all sheets; faults, refusals and warnings are rows")))]
+    #[command(mut_arg("json", |form| form.help("One JSON object on a line for each sheet; faults, refusals and warnings are fields")))]
+    Check {
+        #[command(flatten)]
+        sheets: Sheets,
+        #[command(flatten)]
+        form: Form,
+    },
+    /// The table and the parts as a picture (SVG), with the chosen path marked
+    Draw {
+        #[command(flatten)]
+        sheets: Sheets,
+        /// Mark these rows (from 0), such as 0,3, or none, and search nothing
+        #[arg(long, value_name = "ROWS", allow_hyphen_values = true)]
+        rows: Option<String>,
+        #[command(flatten)]
+        into: Into,
+    },
+    /// The sheet as job bytes, the form that the program ndigomarr reads
+    Job {
+        #[command(flatten)]
+        sheets: Sheets,
+        #[command(flatten)]
+        into: Into,
+    },
+    /// A job as a sheet; making it again gives the same bytes
+    Show {
+        /// Jobs; - is standard input
+        #[arg(required = true, value_name = "JOB")]
+        files: Vec<String>,
+        #[command(flatten)]
+        into: Into,
+    },
+    /// What a shell needs to complete these commands
+    Completions { shell: Shell },
+}
+
+#[derive(Debug, Args)]
+pub struct Sheets {
+    /// Sheets; - is standard input
+    #[arg(required = true, value_name = "SHEET")]
+    pub files: Vec<String>,
+    /// Sort the variants by start first, and say so
+    #[arg(long)]
+    pub sort: bool,
+}
+
+#[derive(Clone, Copy, Debug, Args)]
+pub struct Form {
+    /// Tab-separated, one heading row for all sheets; warnings go to standard error, and a sheet with faults gets no row
+    #[arg(long, conflicts_with = "json")]
+    pub tsv: bool,
+    /// One JSON object on a line for each sheet; warnings go to standard error, and a sheet with faults gets no object
+    #[arg(long)]
+    pub json: bool,
+}
+
+#[derive(Debug, Args)]
+pub struct Into {
+    /// Write into this folder, each file under its own name; needed where there are several
+    #[arg(long, value_name = "FOLDER")]
+    pub into: Option<PathBuf>,
+}
+
+const SHEET: &str = "\
+A sheet is text, its cells parted by tabs, commas, semicolons or runs of blanks; each heading row tells which.
+Three heading rows begin its three sections; each may be left out, and the columns after the first may stand in
+any order:
+
+  setting   value                                 one row for each setting that you name
+  variant   start   end   size   letters          one row for each variant, sorted by start
+  part      size    letters                       one row for each part of the haplotype
+
+The first column holds the name. Starts count from 0 and ends are not counted in. Variants and parts may have a
+column 'negative' (yes or no): whether the letters count negative. Left empty or left out, they do exactly when
+the size is below 0, so a deletion needs no more than its size. Variants may have a column 'record': the number of
+each one's record at the station, 0 to 4294967295, all different. Every section may have a column 'remark'; other
+columns are passed over with a note. A line whose one filled cell begins with # is a remark too. Letters are A to
+Z in either case; other bytes are written hex:4e2e. A float is written in decimal, or as its 32 bits: bits:7fc00000.
+
+Status: 0 done, 1 refused by the rules, 2 cannot be read, 3 cannot be written.
+
+The settings, each with the default it has when left out:
+";
+
+/// The settings with their defaults, from the one list of them.
+fn settings_help() -> String {
+    let lines = SETTINGS.iter().map(|setting| format!("  {:10}  {:5}  {}\n", setting.name, setting.default, setting.meaning));
+    format!("{SHEET}\n{}", lines.collect::<String>())
+}
+
+pub fn grammar() -> clap::Command {
+    Cli::command().after_long_help(settings_help()).after_help("'ndigo --help' tells the sheet's form and every setting with its default.")
+}
+
+pub fn parsed(arguments: impl IntoIterator<Item = std::ffi::OsString>) -> Result<Cli, clap::Error> {
+    Cli::from_arg_matches(&grammar().try_get_matches_from(arguments)?)
+}

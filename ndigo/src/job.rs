@@ -1,0 +1,154 @@
+//! The job form of document 01, byte for byte: written from a sheet and read back. Its limits are the form's, not the program's.
+use crate::model::{Sequence, Settings, Sheet, Variant};
+
+const END: u8 = 0;
+const SETTINGS: u8 = 1;
+const VARIANT: u8 = 2;
+const PART: u8 = 3;
+const LETTERS: u8 = 4;
+
+/// How many letters a sequence may have, and how many one record holds.
+pub const LETTERS_LIMIT: usize = 131_072;
+const HELD: usize = 16;
+
+/// The length of a record of this kind with its byte of kind; none for a kind that there is not.
+fn length_of(kind: u8) -> Option<usize> {
+    [1, 41, 26, 10, 17].get(usize::from(kind)).copied()
+}
+
+/// How many bytes the job has. Counted and not made, since a sequence over its limit has no job.
+pub fn length(sheet: &Sheet) -> usize {
+    let letters: usize = sheet.sequences().map(|sequence| 17 * ((sequence.letters.len() + HELD - 1) / HELD)).sum();
+    41 + 26 * sheet.variants.len() + 10 * sheet.parts.len() + letters + 1
+}
+
+fn put_sequence(job: &mut Vec<u8>, sequence: &Sequence) {
+    job.extend(sequence.size.to_le_bytes());
+    job.push(sequence.negative.into());
+    job.extend((sequence.letters.len() as u32).to_le_bytes());
+    for held in sequence.letters.chunks(HELD) {
+        let mut body = [0; HELD];
+        body[..held.len()].copy_from_slice(held);
+        job.push(LETTERS);
+        job.extend(body);
+    }
+}
+
+/// The job's bytes. A sequence over its letter limit has none: whoever asks has looked for it.
+pub fn written(sheet: &Sheet) -> Vec<u8> {
+    let words = &sheet.settings.words;
+    let mut job = vec![SETTINGS];
+    job.extend(words[..4].iter().map(|&word| word as u8));
+    job.extend(words[4..].iter().flat_map(|word| word.to_le_bytes()));
+    for variant in &sheet.variants {
+        job.push(VARIANT);
+        job.extend(variant.start.to_le_bytes());
+        job.extend(variant.end.to_le_bytes());
+        put_sequence(&mut job, &variant.sequence);
+    }
+    for part in &sheet.parts {
+        job.push(PART);
+        put_sequence(&mut job, part);
+    }
+    job.push(END);
+    job
+}
+
+/// The number of the form's first fault, and the byte at which the faulty record begins.
+#[derive(Clone, Copy, Debug, PartialEq, Eq)]
+pub struct FormFault {
+    pub number: u32,
+    pub place: usize,
+}
+
+/// Takes records off the front. Within a record the faults come in document 01's order.
+struct Reader<'a> {
+    data: &'a [u8],
+    place: usize,
+    record: usize,
+}
+
+impl<'a> Reader<'a> {
+    fn fault<T>(&self, number: u32) -> Result<T, FormFault> {
+        Err(FormFault { number, place: self.record })
+    }
+
+    /// The next record's kind and body: 20 comes before 21, and 21 before 22.
+    fn take(&mut self, allowed: &[u8]) -> Result<(u8, &'a [u8]), FormFault> {
+        self.record = self.place;
+        let rest = &self.data[self.place..];
+        let Some(&kind) = rest.first() else { return self.fault(21) };
+        let Some(length) = length_of(kind) else { return self.fault(20) };
+        if rest.len() < length {
+            return self.fault(21);
+        }
+        if !allowed.contains(&kind) {
+            return self.fault(22);
+        }
+        self.place += length;
+        Ok((kind, &rest[1..length]))
+    }
+
+    fn flag(&self, byte: u8) -> Result<bool, FormFault> {
+        if byte > 1 { self.fault(24) } else { Ok(byte == 1) }
+    }
+
+    fn settings(&mut self) -> Result<Settings, FormFault> {
+        let (_, body) = self.take(&[SETTINGS])?;
+        let mut words = [0; 13];
+        for (word, &byte) in words.iter_mut().zip(&body[..4]) {
+            *word = byte.into();
+        }
+        for (word, bytes) in words[4..].iter_mut().zip(body[4..].chunks_exact(4)) {
+            *word = u32::from_le_bytes([bytes[0], bytes[1], bytes[2], bytes[3]]);
+        }
+        for &byte in &body[1..4] {
+            self.flag(byte)?;
+        }
+        Ok(Settings::of_words(words))
+    }
+
+    /// The end of a variant's or a part's body, and the letters that it owes: just enough records, zeros after the last letter.
+    fn sequence(&mut self, body: &[u8], name: String) -> Result<Sequence, FormFault> {
+        let size = i32::from_le_bytes([body[0], body[1], body[2], body[3]]);
+        let negative = self.flag(body[4])?;
+        let count = u32::from_le_bytes([body[5], body[6], body[7], body[8]]) as usize;
+        if count > LETTERS_LIMIT {
+            return self.fault(13);
+        }
+        let mut letters = Vec::with_capacity(count);
+        while letters.len() < count {
+            letters.extend_from_slice(self.take(&[LETTERS])?.1);
+            if letters.iter().skip(count).any(|&byte| byte != 0) {
+                return self.fault(23);
+            }
+        }
+        letters.truncate(count);
+        Ok(Sequence { name, size, negative, letters, line: 0 })
+    }
+}
+
+fn long(bytes: &[u8]) -> u64 {
+    bytes.iter().rev().fold(0, |number, &byte| number << 8 | u64::from(byte))
+}
+
+/// The job that the bytes hold. It has no names and no record numbers: its rows and parts are named by their places.
+pub fn read(data: &[u8]) -> Result<Sheet, FormFault> {
+    let mut reader = Reader { data, place: 0, record: 0 };
+    let mut sheet = Sheet { settings: reader.settings()?, ..Sheet::default() };
+    loop {
+        let allowed: &[u8] = if sheet.parts.is_empty() { &[VARIANT, PART, END] } else { &[PART, END] };
+        match reader.take(allowed)? {
+            (VARIANT, body) => {
+                let sequence = reader.sequence(&body[16..], format!("row-{}", sheet.variants.len()))?;
+                sheet.variants.push(Variant { start: long(&body[..8]), end: long(&body[8..16]), record: None, sequence });
+            }
+            (PART, body) => {
+                let part = reader.sequence(body, format!("part-{}", sheet.parts.len()))?;
+                sheet.parts.push(part);
+            }
+            _ if reader.place < data.len() => return Err(FormFault { number: 25, place: reader.place }),
+            _ => return Ok(sheet),
+        }
+    }
+}

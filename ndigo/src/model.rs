@@ -1,0 +1,199 @@
+//! What a sheet says: settings, variants and parts under the sheet's own names. A job holds the same without names.
+
+/// What the job form holds of a setting.
+#[derive(Clone, Copy, Debug, PartialEq, Eq)]
+pub enum Kind {
+    Byte,
+    Flag,
+    Count,
+    Float,
+}
+
+/// A setting: its name on a sheet, its kind, the default as a sheet writes it, and its meaning in words.
+pub struct Setting {
+    pub name: &'static str,
+    pub kind: Kind,
+    pub default: &'static str,
+    pub meaning: &'static str,
+}
+
+const fn setting(name: &'static str, kind: Kind, default: &'static str, meaning: &'static str) -> Setting {
+    Setting { name, kind, default, meaning }
+}
+
+/// All settings, in the order of the job form. The defaults are kanpig's where the library takes them.
+pub const SETTINGS: [Setting; 13] = [
+    setting("k", Kind::Byte, "4", "letters in a window, 1 to 6"),
+    setting("squish", Kind::Flag, "no", "yes: prefer paths of few rows"),
+    setting("one-to-one", Kind::Flag, "no", "yes: try each row alone"),
+    setting("full", Kind::Flag, "yes", "no: a bare graph, which has only the empty path"),
+    setting("maxpaths", Kind::Count, "4095", "one path more than this is scored, at most 4095"),
+    setting("maxnodes", Kind::Count, "5000", "with more variants than this, each row is tried alone"),
+    setting("fnmax", Kind::Count, "3", "how many parts may be left out"),
+    setting("pileupmax", Kind::Count, "12", "with this many parts or more, none may be left out"),
+    setting("minkfreq", Kind::Count, "2", "windows counted less often than this are not compared"),
+    setting("sizesim", Kind::Float, "0.9", "least similarity of sizes, 0 to 1"),
+    setting("seqsim", Kind::Float, "0.9", "least similarity of letters, 0 to 1"),
+    setting("fpenalty", Kind::Float, "0.1", "taken off for each part left out, 0 to 1000"),
+    setting("gpenalty", Kind::Float, "0.02", "taken off for each row too many or too few, 0 to 1000"),
+];
+
+pub const K: usize = 0;
+pub const MAXPATHS: usize = 4;
+pub const SIZESIM: usize = 9;
+pub const SEQSIM: usize = 10;
+
+/// The place of the setting of this name.
+pub fn place_of(name: &str) -> Option<usize> {
+    SETTINGS.iter().position(|setting| setting.name == name)
+}
+
+/// The values as the job form holds them, flags as 0 and 1 and floats by their bits, so that a NaN comes back as it was.
+#[derive(Clone, Debug, PartialEq, Eq)]
+pub struct Settings {
+    pub words: [u32; 13],
+    /// The line that named each; none for a default.
+    pub lines: [Option<usize>; 13],
+}
+
+impl Default for Settings {
+    fn default() -> Self {
+        Self::of_library(&ndigomarr::Settings::default())
+    }
+}
+
+impl Settings {
+    pub fn of_words(words: [u32; 13]) -> Self {
+        Self { words, lines: [None; 13] }
+    }
+
+    pub fn of_library(s: &ndigomarr::Settings) -> Self {
+        let counts = [s.maxpaths, s.maxnodes, s.fnmax, s.pileupmax, s.minkfreq];
+        let floats = [s.sizesim, s.seqsim, s.fpenalty, s.gpenalty].map(f32::to_bits);
+        let mut words = [u32::from(s.k), s.squish.into(), s.one_to_one.into(), s.full.into(), 0, 0, 0, 0, 0, 0, 0, 0, 0];
+        words[4..9].copy_from_slice(&counts);
+        words[9..].copy_from_slice(&floats);
+        Self::of_words(words)
+    }
+
+    pub fn to_library(&self) -> ndigomarr::Settings {
+        let w = &self.words;
+        ndigomarr::Settings {
+            k: u8::try_from(w[0]).unwrap_or(u8::MAX),
+            squish: w[1] == 1,
+            one_to_one: w[2] == 1,
+            full: w[3] == 1,
+            maxpaths: w[4],
+            maxnodes: w[5],
+            fnmax: w[6],
+            pileupmax: w[7],
+            minkfreq: w[8],
+            sizesim: f32::from_bits(w[9]),
+            seqsim: f32::from_bits(w[10]),
+            fpenalty: f32::from_bits(w[11]),
+            gpenalty: f32::from_bits(w[12]),
+        }
+    }
+
+    /// A value as a sheet writes it.
+    pub fn text(&self, place: usize) -> String {
+        let word = self.words[place];
+        match SETTINGS[place].kind {
+            Kind::Flag => if word == 1 { "yes" } else { "no" }.to_string(),
+            Kind::Float => crate::float::text(word),
+            Kind::Byte | Kind::Count => word.to_string(),
+        }
+    }
+}
+
+/// What a variant and a part have in common; a part has nothing more.
+#[derive(Clone, Debug, PartialEq, Eq)]
+pub struct Sequence {
+    pub name: String,
+    pub size: i32,
+    /// Whether its letters count negative.
+    pub negative: bool,
+    pub letters: Vec<u8>,
+    /// Its line on the sheet, from 1; 0 where there is no sheet.
+    pub line: usize,
+}
+
+#[derive(Clone, Debug, PartialEq, Eq)]
+pub struct Variant {
+    pub start: u64,
+    pub end: u64,
+    /// Its record's number at the station: all variants of a sheet have one, or none has.
+    pub record: Option<u32>,
+    pub sequence: Sequence,
+}
+
+impl Variant {
+    pub fn name(&self) -> &str {
+        &self.sequence.name
+    }
+
+    pub fn line(&self) -> usize {
+        self.sequence.line
+    }
+}
+
+#[derive(Clone, Debug, Default, PartialEq, Eq)]
+pub struct Sheet {
+    pub settings: Settings,
+    pub variants: Vec<Variant>,
+    pub parts: Vec<Sequence>,
+}
+
+impl Sheet {
+    /// Whether each row is tried alone: asked for, or more rows than maxnodes.
+    pub fn one_to_one(&self) -> bool {
+        let settings = self.settings.to_library();
+        settings.one_to_one || self.variants.len() as u64 > u64::from(settings.maxnodes)
+    }
+
+    pub fn has_records(&self) -> bool {
+        self.variants.iter().any(|variant| variant.record.is_some())
+    }
+
+    /// What tells a row beside its name: its record number, or else its row number.
+    pub fn number(&self, row: usize) -> u64 {
+        self.variants[row].record.map_or(row as u64, u64::from)
+    }
+
+    /// Variants and then parts, as the rules look at them.
+    pub fn sequences(&self) -> impl Iterator<Item = &Sequence> {
+        self.variants.iter().map(|variant| &variant.sequence).chain(&self.parts)
+    }
+
+    /// Sorts the variants by start, equal ones as they stood; how many changed their place.
+    pub fn sort(&mut self) -> usize {
+        let before: Vec<usize> = self.variants.iter().map(Variant::line).collect();
+        self.variants.sort_by_key(|variant| variant.start);
+        self.variants.iter().zip(before).filter(|(variant, line)| variant.line() != *line).count()
+    }
+}
+
+/// `1 row`, `2 rows`.
+pub fn counted(count: usize, thing: &str) -> String {
+    format!("{count} {thing}{}", if count == 1 { "" } else { "s" })
+}
+
+#[cfg(test)]
+mod tests {
+    use super::*;
+
+    #[test]
+    fn the_defaults_in_words_are_the_librarys() {
+        let settings = Settings::default();
+        for (place, setting) in SETTINGS.iter().enumerate() {
+            assert_eq!(settings.text(place), setting.default, "{}", setting.name);
+        }
+        assert_eq!(settings.words[MAXPATHS], 4095);
+    }
+
+    #[test]
+    fn settings_go_to_the_library_and_back() {
+        let words = [3, 1, 0, 1, 9, 8, 7, 6, 5, 0x3f00_0000, 0x3f80_0000, 0, 0x7f7f_ffff];
+        assert_eq!(Settings::of_library(&Settings::of_words(words).to_library()).words, words);
+    }
+}

@@ -1,0 +1,115 @@
+//! Refusals that can be told before running, each with its line. The library decides; this says why in the sheet's own words.
+use crate::job::LETTERS_LIMIT;
+use crate::model::{counted, place_of, Sheet, SETTINGS};
+
+/// Document 01's table: number, name and words of each refusal, parted by tabs.
+const TABLE: &str = include_str!("../../docs/refusals.tsv");
+const TABLE_LIMIT: usize = 64;
+const SIZE_LIMIT: u32 = 131_072;
+const FLOAT_LIMITS: [(&str, f32); 4] = [("sizesim", 1.0), ("seqsim", 1.0), ("fpenalty", 1000.0), ("gpenalty", 1000.0)];
+const COUNT_LIMITS: [(&str, u32); 5] =
+    [("maxpaths", 4095), ("maxnodes", 65_535), ("fnmax", 65_535), ("pileupmax", 12), ("minkfreq", 16_777_216)];
+
+/// The table's words for a number.
+pub fn words(number: u32) -> &'static str {
+    let wanted = number.to_string();
+    let mut rows = TABLE.lines().map(|line| line.split('\t'));
+    rows.find_map(|mut cells| (cells.next()? == wanted).then(|| cells.nth(1))?).unwrap_or("a number that is not in the table of refusals")
+}
+
+#[derive(Clone, Debug, PartialEq, Eq)]
+pub struct Refusal {
+    pub number: u32,
+    pub reason: String,
+    /// None where no one line did it.
+    pub line: Option<usize>,
+}
+
+impl std::fmt::Display for Refusal {
+    fn fmt(&self, out: &mut std::fmt::Formatter<'_>) -> std::fmt::Result {
+        match self.line {
+            Some(line) => write!(out, "line {line}")?,
+            None => write!(out, "the whole sheet")?,
+        }
+        write!(out, ": refused {}: {}", self.number, words(self.number))?;
+        if self.reason.is_empty() { Ok(()) } else { write!(out, ": {}", self.reason) }
+    }
+}
+
+impl Refusal {
+    /// A refusal of the library's that is not foretold here.
+    pub fn of_number(number: u32) -> Self {
+        Self { number, reason: String::new(), line: None }
+    }
+}
+
+fn at(number: u32, line: usize, reason: String) -> Refusal {
+    Refusal { number, reason, line: (line > 0).then_some(line) }
+}
+
+/// Sequences that neither the form nor the counter takes.
+pub fn long_sequences(sheet: &Sheet) -> Vec<Refusal> {
+    let long = sheet.sequences().filter(|sequence| sequence.letters.len() > LETTERS_LIMIT);
+    long.map(|s| at(13, s.line, format!("\"{}\" has {} letters, the limit is {LETTERS_LIMIT}", s.name, s.letters.len()))).collect()
+}
+
+fn of_setting(sheet: &Sheet, number: u32, place: usize, limit: &str) -> Refusal {
+    let reason = format!("{} is {}, {limit}", SETTINGS[place].name, sheet.settings.text(place));
+    Refusal { number, reason, line: sheet.settings.lines[place] }
+}
+
+fn bad_k(sheet: &Sheet) -> Vec<Refusal> {
+    let good = (1..=6).contains(&sheet.settings.words[crate::model::K]);
+    if good { vec![] } else { vec![of_setting(sheet, 1, crate::model::K, "it must be 1 to 6")] }
+}
+
+fn bad_settings(sheet: &Sheet) -> Vec<Refusal> {
+    let words = &sheet.settings.words;
+    let mut found = Vec::new();
+    for (place, limit) in FLOAT_LIMITS.iter().filter_map(|(name, limit)| Some((place_of(name)?, limit))) {
+        // a NaN is never between
+        if !(0.0..=*limit).contains(&f32::from_bits(words[place])) {
+            found.push(of_setting(sheet, 2, place, &format!("it must be 0 to {limit}")));
+        }
+    }
+    for (place, limit) in COUNT_LIMITS.iter().filter_map(|(name, limit)| Some((place_of(name)?, limit))) {
+        if words[place] > *limit {
+            found.push(of_setting(sheet, 3, place, &format!("the limit is {limit}")));
+        }
+    }
+    found
+}
+
+fn over(count: usize, thing: &str, first_over: Option<usize>) -> Option<Refusal> {
+    first_over.map(|line| at(5, line, format!("{}, the limit is {TABLE_LIMIT}", counted(count, thing))))
+}
+
+fn bad_table(sheet: &Sheet) -> Vec<Refusal> {
+    let mut found = Vec::new();
+    if sheet.variants.is_empty() {
+        found.push(at(4, 0, "the sheet has no row under the heading variant".into()));
+    }
+    found.extend(over(sheet.variants.len(), "variant", sheet.variants.get(TABLE_LIMIT).map(|variant| variant.line())));
+    found.extend(over(sheet.parts.len(), "part", sheet.parts.get(TABLE_LIMIT).map(|part| part.line)));
+    for v in sheet.variants.iter().filter(|v| v.start > v.end) {
+        found.push(at(7, v.line(), format!("\"{}\" starts at {} and ends at {}", v.name(), v.start, v.end)));
+    }
+    for pair in sheet.variants.windows(2).filter(|pair| pair[1].start < pair[0].start) {
+        let (before, v) = (&pair[0], &pair[1]);
+        let reason = format!(
+            "\"{}\" starts at {}, but \"{}\" on line {} starts at {}; sort the rows by start, or call with --sort",
+            v.name(), v.start, before.name(), before.line(), before.start
+        );
+        found.push(at(8, v.line(), reason));
+    }
+    let large = sheet.sequences().filter(|sequence| sequence.size.unsigned_abs() > SIZE_LIMIT);
+    found.extend(large.map(|s| at(9, s.line, format!("\"{}\" has size {}, the limit is {SIZE_LIMIT}", s.name, s.size))));
+    found
+}
+
+/// All that a sheet can bring on itself, in the order in which the library asks: letters are counted before a search begins, and
+/// the counter looks at k. Not here: 6, 11 and 12 (fitting room is lent), 10 (letters within 13 give rows within 10), 14 (a
+/// repeated record number is a fault of the sheet).
+pub fn of(sheet: &Sheet) -> Vec<Refusal> {
+    [bad_k(sheet), long_sequences(sheet), bad_settings(sheet), bad_table(sheet)].concat()
+}

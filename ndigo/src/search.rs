@@ -1,0 +1,152 @@
+//! The proved library, asked about a sheet.
+use crate::job::LETTERS_LIMIT;
+use crate::model::{Sequence, Sheet, MAXPATHS, SEQSIM, SIZESIM};
+use crate::refusals::{self, Refusal};
+use ndigomarr::{Answer, Haplotype, Table, Target};
+
+/// Of a table or a haplotype that is too long anyway, one more than the limit is enough to be refused.
+const ENOUGH: usize = 65;
+
+/// What the library must see: that, and every sequence over the limit, since letters are counted before rows are.
+fn seen(row: usize, sequence: &Sequence) -> bool {
+    row < ENOUGH || sequence.letters.len() > LETTERS_LIMIT
+}
+
+fn table(sheet: &Sheet, k: u8) -> Result<Table, ndigomarr::Refusal> {
+    let mut table = Table::new(k);
+    for (_, variant) in sheet.variants.iter().enumerate().filter(|(row, variant)| seen(*row, &variant.sequence)) {
+        let sequence = &variant.sequence;
+        table.add(variant.start, variant.end, sequence.size, &sequence.letters, sequence.negative)?;
+    }
+    let numbers: Vec<u32> = (0..table.len()).map(|row| sheet.number(row) as u32).collect();
+    Ok(table.with_record_numbers(&numbers))
+}
+
+fn asked(sheet: &Sheet) -> Result<Answer, ndigomarr::Refusal> {
+    let settings = sheet.settings.to_library();
+    let table = table(sheet, settings.k)?;
+    let mut haplotype = Haplotype::new(settings.k);
+    for (_, part) in sheet.parts.iter().enumerate().filter(|(row, part)| seen(*row, part)) {
+        haplotype.add(part.size, &part.letters, part.negative)?;
+    }
+    ndigomarr::apply_haplotype(&settings, &table, &haplotype)
+}
+
+/// The library's answer, or every reason why it is refused, the library's own first.
+pub fn answer(sheet: &Sheet) -> Result<Answer, Vec<Refusal>> {
+    asked(sheet).map_err(|refusal| {
+        let mut reasons = refusals::of(sheet);
+        if reasons.first().map(|reason| reason.number) != Some(refusal.number()) {
+            reasons.insert(0, Refusal::of_number(refusal.number()));
+        }
+        reasons
+    })
+}
+
+/// Every reason why the library refuses, as `answer` gives them; the search itself is left at its first path, since it refuses nothing.
+pub fn refused(sheet: &Sheet) -> Vec<Refusal> {
+    let mut short = sheet.clone();
+    let maxpaths = &mut short.settings.words[MAXPATHS];
+    *maxpaths = if *maxpaths <= 4095 { 0 } else { *maxpaths };
+    answer(&short).err().unwrap_or_default()
+}
+
+/// Where nothing was found: the best path with both thresholds at 0, if even that finds one.
+pub fn without_thresholds(sheet: &Sheet) -> Option<Answer> {
+    let mut free = sheet.clone();
+    free.settings.words[SIZESIM] = 0;
+    free.settings.words[SEQSIM] = 0;
+    asked(&free).ok().filter(|answer| answer.target != Target::Nothing)
+}
+
+/// Whether the search will stop before it has scored all paths.
+#[derive(Clone, Copy, Debug, PartialEq, Eq)]
+pub enum Foretold {
+    ScoresAll,
+    StopsEarly,
+    /// The table has as many paths as can be counted, and as many are scored: only if these are all are all scored.
+    Open,
+}
+
+/// What the chain count says beforehand. It counts up to 4,096, so at the largest maxpaths a row less is asked about too: a table
+/// that has so many paths without one of its rows has more with it.
+pub fn foretold(sheet: &Sheet) -> Foretold {
+    const CAP: u32 = 4096;
+    let settings = sheet.settings.to_library();
+    let count = |without: Option<usize>, cap: u32| {
+        let mut table = Table::new(settings.k);
+        for (_, variant) in sheet.variants.iter().take(ENOUGH).enumerate().filter(|(row, _)| Some(*row) != without) {
+            table.add_counted(variant.start, variant.end, 0, &[]);
+        }
+        ndigomarr::count_chains(&table, settings.full, cap).unwrap_or(0)
+    };
+    let scored = settings.maxpaths.saturating_add(1);
+    if sheet.one_to_one() || scored > CAP || count(None, CAP.min(scored + 1)) < CAP.min(scored + 1) {
+        Foretold::ScoresAll
+    } else if scored < CAP || (0..sheet.variants.len()).any(|row| count(Some(row), CAP) == CAP) {
+        Foretold::StopsEarly
+    } else {
+        Foretold::Open
+    }
+}
+
+/// Size and features, by the library's own counter.
+fn counted(sequence: &Sequence, k: u8) -> Option<(i64, Vec<i32>)> {
+    Some((i64::from(sequence.size), ndigomarr::seq_to_kmer(&sequence.letters, k, sequence.negative).ok()?))
+}
+
+fn summed<'a>(counted: impl Iterator<Item = &'a (i64, Vec<i32>)>, k: u8) -> (i64, Vec<i32>) {
+    counted.fold((0, vec![0; 1 << (2 * k)]), |(size, mut features), (more, row)| {
+        features.iter_mut().zip(row).for_each(|(sum, entry)| *sum += entry);
+        (size + more, features)
+    })
+}
+
+/// Every ascending list of `count` places below `length`, in lexicographic order.
+fn lists(length: usize, count: usize) -> Vec<Vec<usize>> {
+    let mut all = vec![vec![]];
+    for taken in 0..count {
+        let extended = |list: &Vec<usize>| {
+            let from = list.last().map_or(0, |last| last + 1);
+            (from..=length + taken - count).map(|next| [list.clone(), vec![next]].concat()).collect::<Vec<_>>()
+        };
+        all = all.iter().flat_map(extended).collect();
+    }
+    all
+}
+
+/// Which parts the answer's list holds; none where nothing was matched. The library says how many were left out; the list is the
+/// first of that length, in the rules' order, that has the sign and both similarities of the answer, bit for bit: a later one that
+/// scores the same replaces nothing.
+pub fn used_parts(sheet: &Sheet, answer: &Answer) -> Option<Vec<usize>> {
+    let all = sheet.parts.len();
+    let left_out = match answer.target {
+        Target::Nothing => return None,
+        Target::Whole => return Some((0..all).collect()),
+        Target::Partial(left_out) => left_out as usize,
+    };
+    let settings = sheet.settings.to_library();
+    let rows: Option<Vec<_>> = answer.rows.iter().map(|&row| counted(&sheet.variants[row].sequence, settings.k)).collect();
+    let parts: Option<Vec<_>> = sheet.parts.iter().map(|part| counted(part, settings.k)).collect();
+    let (rows, parts) = (rows?, parts?);
+    let (size, features) = summed(rows.iter(), settings.k);
+    lists(all, all.checked_sub(left_out)?).into_iter().find(|list| {
+        let (part_size, part_features) = summed(list.iter().map(|&part| &parts[part]), settings.k);
+        let sizes = ndigomarr::sizesim(size.unsigned_abs(), part_size.unsigned_abs());
+        let letters = ndigomarr::seqsim(&features, &part_features, settings.minkfreq);
+        let same = |found: Result<f32, _>, wanted: f32| found.is_ok_and(|found| found.to_bits() == wanted.to_bits());
+        size.signum() == part_size.signum() && same(sizes, answer.sizesim) && same(letters, answer.seqsim)
+    })
+}
+
+#[cfg(test)]
+mod tests {
+    use super::lists;
+
+    #[test]
+    fn lists_in_order() {
+        assert_eq!(lists(3, 2), [[0, 1], [0, 2], [1, 2]]);
+        assert_eq!(lists(3, 3), [[0, 1, 2]]);
+        assert_eq!(lists(11, 8).len(), 165);
+    }
+}

@@ -1,0 +1,10 @@
+//! ndigo as from the command line. A module for each idea.
+mod answers;
+mod common;
+mod examples;
+mod jobs;
+mod library;
+mod messages;
+mod people;
+mod pictures;
+mod warnings;
