@@ -70,7 +70,7 @@ pub fn call(call: &Call) -> String {
 pub fn several(several: &Several) -> String {
     format!(
         "{} part ends {:?} feature ends {:?} row buffer {:?} reports {:?}",
-        call(&several.call),
+        call(&Call { answer_room: several.row_buffer.len(), ..several.call.clone() }),
         several.part_ends,
         several.feature_ends,
         several.row_buffer,

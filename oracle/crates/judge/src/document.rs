@@ -237,10 +237,12 @@ pub fn several_answers(rules: &Rules, several: &Several, met: &mut Met) -> Vec<A
         return vec![Answer::refused(refusal); if whole { 1 } else { several.count() }];
     }
     let own: Vec<Answer> = (0..several.count()).map(|at| call_answer(rules, &several.own(rules, at), met)).collect();
-    match own.iter().find(|answer| answer.refusal != 0 && rules.answers_the_whole(answer.refusal, true)) {
-        Some(refused) => vec![refused.clone()],
-        None => own,
+    let refused = |answer: &Answer| answer.refusal != 0;
+    if let Some(whole) = own.iter().find(|answer| refused(answer) && rules.answers_the_whole(answer.refusal, true)) {
+        return vec![whole.clone()];
     }
+    let first = own.iter().position(refused).unwrap_or(own.len());
+    own.into_iter().enumerate().filter(|&(at, _)| rules.is_answered(at, first)).map(|(_, answer)| answer).collect()
 }
 
 /// All haplotypes of the job as a call, its features counted and its record numbers given by the rules.

@@ -477,6 +477,14 @@ pub fn several_input(r: &mut Random) -> Vec<u8> {
     match r.below(20) {
         0 => disturb_bytes(r, &mut bytes),
         1 => disturb_record(r, &mut bytes),
+        2 if r.chance(30) => {
+            // the sixteenth 0x05 while letters are owed, or a variant behind the fifteenth
+            job.haplotypes.resize(16, vec![]);
+            job.haplotypes[15].push(Part { size: 1, negative: false, letters: b"A".to_vec() });
+            bytes = job.bytes();
+            let last = bytes.len() - 1;
+            bytes.insert(r.pick(&[last, last - record_length(0x04)]), r.pick(&[0x05, 0x05, 0x02]));
+        }
         2 => {
             // one or more 0x05, or a variant, between two records
             let (at, _) = r.pick(&records(&bytes));
@@ -528,7 +536,12 @@ fn disturb_several(r: &mut Random, several: &mut Several) {
     let (parts, features) = (several.call.part_sizes.len(), several.call.part_features.len());
     let step = r.pick(&[1, several.call.settings.entries().min(4096) as u64]);
     match r.below(13) {
-        0 => (several.part_ends, several.feature_ends) = (vec![], r.pick(&[vec![], vec![0]])),
+        0 => {
+            (several.part_ends, several.feature_ends) = (vec![], r.pick(&[vec![], vec![0]]));
+            if r.chance(20) {
+                clear_table(&mut several.call);
+            }
+        }
         1 => drop(several.part_ends.pop()),
         2 => drop(several.feature_ends.pop()),
         3 => several.part_ends.push(parts as u64),
@@ -599,13 +612,15 @@ fn disturb_call(r: &mut Random, call: &mut Call) {
         8 if !call.part_sizes.is_empty() => call.part_features[0] = i32::MAX,
         9 => call.queue_room = 0,
         10 => call.answer_room = 0,
-        _ => {
-            call.starts.clear();
-            call.ends.clear();
-            call.sizes.clear();
-            call.features.clear();
-        }
+        _ => clear_table(call),
     }
+}
+
+fn clear_table(call: &mut Call) {
+    call.starts.clear();
+    call.ends.clear();
+    call.sizes.clear();
+    call.features.clear();
 }
 
 const NOT_FLOATS: [f32; 7] = [f32::NAN, -1.0, -1e-45, 1.000_000_1, 1000.0001, f32::INFINITY, f32::NEG_INFINITY];

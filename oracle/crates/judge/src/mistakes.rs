@@ -121,6 +121,8 @@ mistakes! {
     "a part's 5 answers the whole job": answers_the_whole = |number, from_parts| !from_parts || number == 5;
     "any haplotype's refusal answers the whole job": answers_the_whole = |_, _| true;
     "the table's refusal told for each haplotype": answers_the_whole = |_, _| false;
+    "the first refused haplotype ends the answers": is_answered = |at, first_refused| at <= first_refused;
+    "a refused haplotype passed over": is_answered = |at, first_refused| at != first_refused;
     "V rows of room for all haplotypes together": rows_needed = |v, _| v;
     "room for one row less of the last haplotype": rows_needed = |v, count| (v * count).saturating_sub(1);
     "seven words of report for each": reports_are_short = |words, count| words < 7 * count;

@@ -297,6 +297,11 @@ rules! {
         !from_parts
     }
 
+    /// A refused haplotype keeps none of the others from its answer.
+    fn is_answered(_at: usize, _first_refused: usize) -> bool {
+        true
+    }
+
     /// "Answer room is V rows for each haplotype"; P3's second buffer: "at least V entries for each haplotype"
     fn rows_needed(v: usize, count: usize) -> usize {
         v * count
