@@ -261,6 +261,32 @@ fn without_last_part(several: &mut Several, at: usize) {
     several.feature_ends.iter_mut().skip(at).for_each(|end| *end -= e as u64);
 }
 
+/// A haplotype, a part or a row left out, or a row made plain.
+fn fewer_of_several(several: &Several, with: &mut dyn FnMut(&dyn Fn(&mut Several))) {
+    let e = several.call.settings.entries() as u64;
+    for at in 0..several.count() {
+        with(&|s| without_haplotype(s, at));
+        let has = |ends: &[u64], room: usize, need: u64| {
+            let from = if at == 0 { Some(0) } else { ends.get(at - 1).copied() };
+            let until = ends.get(at).copied().unwrap_or(0);
+            until <= room as u64 && from.is_some_and(|from| from + need <= until)
+        };
+        if has(&several.part_ends, several.call.part_sizes.len(), 1) && has(&several.feature_ends, several.call.part_features.len(), e) {
+            with(&|s| without_last_part(s, at));
+        }
+    }
+    let table = Call { part_sizes: vec![], ..several.call.clone() };
+    fewer(&table, &mut |change| {
+        with(&|s| {
+            let (rows, before) = (s.rows(), s.call.record_buffer.clone());
+            change(&mut s.call);
+            let lost = (rows - s.rows()) * s.count();
+            s.row_buffer.truncate(s.row_buffer.len().saturating_sub(lost));
+            s.call.record_buffer = before[..before.len().saturating_sub(lost)].to_vec();
+        });
+    });
+}
+
 fn smaller_several(several: &Several) -> Vec<Several> {
     let mut all = vec![];
     let mut with = |change: &dyn Fn(&mut Several)| {
@@ -268,32 +294,7 @@ fn smaller_several(several: &Several) -> Vec<Several> {
         change(&mut one);
         all.push(one);
     };
-    let e = several.call.settings.entries() as u64;
-    for at in 0..several.count() {
-        with(&|s| without_haplotype(s, at));
-        let from = |ends: &[u64]| if at == 0 { Some(0) } else { ends.get(at - 1).copied() };
-        let has = |ends: &[u64], room: usize, need: u64| {
-            let until = ends.get(at).copied().unwrap_or(0);
-            until <= room as u64 && from(ends).is_some_and(|from| from + need <= until)
-        };
-        if has(&several.part_ends, several.call.part_sizes.len(), 1) && has(&several.feature_ends, several.call.part_features.len(), e) {
-            with(&|s| without_last_part(s, at));
-        }
-    }
-    let mut rows = vec![];
-    fewer(&Call { part_sizes: vec![], ..several.call.clone() }, &mut |change| rows.push({
-        let mut call = several.call.clone();
-        change(&mut call);
-        call
-    }));
-    for call in rows {
-        with(&|s| {
-            let lost = (s.rows() - call.starts.len()) * s.count();
-            s.row_buffer.truncate(s.row_buffer.len().saturating_sub(lost));
-            s.call = call.clone();
-            s.call.record_buffer = several.call.record_buffer[..several.call.record_buffer.len().saturating_sub(lost)].to_vec();
-        });
-    }
+    fewer_of_several(several, &mut with);
     with(&|s| s.call.numbers = ranks(&several.call.numbers));
     with(&|s| s.call.features.fill(1));
     with(&|s| s.call.part_features.fill(1));

@@ -124,7 +124,7 @@ fn at_limits() -> Vec<Vec<u8>> {
     all
 }
 
-/// The same for several haplotypes (document 02, P1), and 0x05 where it may stand and where not.
+/// The same for several haplotypes (document 02, P1).
 fn several_at_limits() -> Vec<Vec<u8>> {
     let (one, two) = (vec![part(2, b"AG")], vec![part(2, b"AG"), part(2, b"CT")]);
     let mut all = vec![];
@@ -155,23 +155,29 @@ fn several_at_limits() -> Vec<Vec<u8>> {
     with(over.clone(), &|j| j.variants[0].start = 11);
     with(over.clone(), &|j| j.variants[1].start = 9);
     with(over, &|j| j.settings.maxpaths = 64);
-    let record = |from: usize, until: usize| example().bytes()[from..until].to_vec();
-    // the example's records: settings to byte 41, a variant and its letters to 84, another to 127, a part to 137, its letters to 154, the end
-    let (settings, table, unlettered, end) = (record(0, 41), record(41, 127), record(127, 137), vec![0]);
-    let next = |count: usize| vec![0x05; count];
-    let put = |records: &[&Vec<u8>]| records.iter().flat_map(|record| record.iter().copied()).collect::<Vec<u8>>();
-    all.push(put(&[&next(1), &settings, &table, &end]));
-    all.push(put(&[&settings, &next(1), &end]));
-    all.push(put(&[&settings, &next(1), &table, &end]));
-    all.push(put(&[&settings, &table, &next(1), &table, &end]));
-    all.push(put(&[&settings, &table, &unlettered, &next(1), &end]));
-    all.push(put(&[&settings, &table, &next(15), &unlettered, &next(1), &end]));
-    all.push(put(&[&settings, &table, &next(15), &table, &next(1), &end]));
-    all.push(put(&[&settings, &table, &next(16), &table, &end]));
-    all.push(put(&[&settings, &table, &next(15)]));
-    all.push(put(&[&settings, &table, &next(16)]));
-    all.push(put(&[&settings, &table, &next(1), &end, &next(1)]));
     all
+}
+
+/// 0x05 where it may stand and where not.
+fn next_in_place() -> Vec<Vec<u8>> {
+    // the example's records: settings to byte 41, two variants with their letters to 127, a part to 137
+    let record = |from: usize, until: usize| example().bytes()[from..until].to_vec();
+    let (settings, table, unlettered, end) = (&record(0, 41), &record(41, 127), &record(127, 137), &vec![0]);
+    let (one, fifteen, sixteen) = (&vec![0x05], &vec![0x05; 15], &vec![0x05; 16]);
+    let orders: [&[&Vec<u8>]; 11] = [
+        &[one, settings, table, end],
+        &[settings, one, end],
+        &[settings, one, table, end],
+        &[settings, table, one, table, end],
+        &[settings, table, unlettered, one, end],
+        &[settings, table, fifteen, unlettered, one, end],
+        &[settings, table, fifteen, table, one, end],
+        &[settings, table, sixteen, table, end],
+        &[settings, table, fifteen],
+        &[settings, table, sixteen],
+        &[settings, table, one, end, one],
+    ];
+    orders.into_iter().map(|records| records.iter().flat_map(|record| record.iter().copied()).collect()).collect()
 }
 
 fn catches(differs: impl Fn(&Rules) -> bool) -> impl Iterator<Item = String> {
@@ -228,7 +234,7 @@ fn program_list() -> Vec<Vec<u8>> {
     inputs.extend((0..12_000).map(|i| input(&mut Random::new(0x5eed_0000 + i))));
     inputs.retain(|bytes| bytes.len() < 1_500);
     list.extend(cover(with_kinds(inputs), &mut have));
-    let at_limits = several_at_limits();
+    let at_limits = [several_at_limits(), next_in_place()].concat();
     take_all(&at_limits, &mut have);
     list.extend(at_limits);
     let several = (0..6_000).map(|i| several_input(&mut Random::new(0x5eed_2222 + i)));
