@@ -196,7 +196,7 @@ pub fn of_several(counts: &mut Counts, several: &Several, judged: &[Judged]) {
     let (v, count) = (several.rows(), several.count());
     let answers: Vec<Answer> = judged.iter().map(|one| one.answer.clone()).collect();
     let refusal = DOCUMENT.returned(&answers.iter().map(|answer| answer.refusal).collect::<Vec<u32>>());
-    let parts: Vec<usize> = (0..count).map(|at| if refusal == 0 { several.own(&DOCUMENT, at).part_sizes.len() } else { 0 }).collect();
+    let parts: Vec<usize> = (0..count).map(|at| if refusal == 0 { DOCUMENT.stretch(&several.part_ends, at).len() } else { 0 }).collect();
     let long = |length: usize, need: usize| if length < need { "too short" } else if length == need { "just enough" } else { "longer" };
     judged.iter().for_each(|one| of_answer(counts, one));
     let mut seen = of_haplotypes(&parts, &answers);
