@@ -1,25 +1,65 @@
 -- What the program's memory holds between reading a job and searching. No public promise cites this file.
-use Prim.Native.Nat.{ℕ, _+_, _≤_}
+use Prim.Native.Nat.{ℕ, _+_, _-_, _*_, _≤_}
 use mathlib.Core.Path.{_≡_}
 use mathlib.Core.Bool.{cond}
-use mathlib.Core.List.{List}
+use mathlib.Core.List.{List, [], _∷_, _++_}
 use lib.Dec.{ltb, eqb}
 use lib.ListN.{length, take, drop}
 use Rattle.params.specs.declared.Settings.{Settings}
-use Rattle.params.specs.Numbers.{Table, Parts, tableOf, partsOf, callOf}
+use Rattle.params.specs.Numbers.{Table, Parts, tableOf, partsOf}
 use Rattle.reader.specs.declared.Reading.{Reading}
 use Rattle.reader.specs.declared.Reading.the-variants.{Refused as Declined, Job as Given}
 use Rattle.form.specs.Lent.{Lent, lent}
 use Rattle.form.specs.Lent.{sum}
-use Rattle.text.specs.Text.{refusedText}
+use Rattle.text.specs.Text.{refusedText, hapText}
 use Rattle.text.specs.Written.{Written}
-use Rattle.desk.specs.Desk.{numberedByRow, numberedText}
+use Rattle.desk.specs.Desk.{haplotypeText}
 use Rattle.desk.specs.Rows.{rowsFrom}
 
--- a text stored at the front of a slice, and of at most 453 bytes: 16 rows, 16 records, six more lines
-pub record Printed (old text new : List ℕ) (r : ℕ) : Type 0 where
-  pub written : Written old 0 text new r
-  pub short : length text ≤ 453
+-- a text stored from a place on, and of at most so many bytes
+pub record Printed (most : ℕ) (old : List ℕ) (at : ℕ) (text new : List ℕ) (r : ℕ) : Type 0 where
+  pub written : Written old at text new r
+  pub short : length text ≤ most
+
+-- of one haplotype: 16 rows, 16 records, six more lines; the same with its `hap` line; of 16 haplotypes
+abbrev pub mostOfOne : ℕ
+mostOfOne = 453
+
+abbrev pub mostOfBlock : ℕ
+mostOfBlock = 468
+
+abbrev pub mostOfAll : ℕ
+mostOfAll = 7488
+
+-- Where each haplotype's parts end: at the breaks, and those of the last with all m.
+abbrev pub endsOf : List ℕ → ℕ → List ℕ
+endsOf breaks m = breaks ++ (m ∷ [])
+
+-- ends that rise from a place on, to at most m
+unfoldable pub Rising : ℕ → ℕ → List ℕ → Type 0
+Rising m from [] = Unit {0}
+Rising m from (to ∷ ends) = (from ≤ to) × ((to ≤ m) × Rising m to ends)
+
+-- the parts from one place to another, with rows of e entries
+abbrev pub stretch : ℕ → ℕ → ℕ → Parts → Parts
+stretch e from to p = partsOf (take (to - from) (drop from (p .sizes))) (take (to * e - from * e) (drop (from * e) (p .features)))
+
+-- one block: the `hap` line and the haplotype's lines
+abbrev pub blockText : Settings → Table → ℕ → Parts → List ℕ
+blockText s t i p = hapText i ++ haplotypeText s t p
+
+-- each haplotype's own parts
+unfoldable pub stretches : ℕ → ℕ → List ℕ → Parts → List Parts
+stretches e from [] p = []
+stretches e from (to ∷ ends) p = stretch e from to p ∷ stretches e to ends p
+
+-- slices that hold the parts of up to 16 haplotypes, for a table of up to 16 variants
+pub record BlocksFit (e : ℕ) (t : Table) (p : Parts) (breaks : List ℕ) : Type 0 where
+  pub variants : length (t .starts) ≤ 16
+  pub haplotypes : length breaks ≤ 15
+  pub rising : Rising (length (p .sizes)) 0 (endsOf breaks (length (p .sizes)))
+  pub rows : length (p .features) ≡ length (p .sizes) * e
+  pub few : length (p .features) ≤ 32768
 
 -- the table and the parts that nine slices give once their letters are counted
 abbrev pub tableFrom : ℕ → Lent → Table
@@ -28,15 +68,12 @@ tableFrom k t = tableOf (t .starts) (t .ends) (t .sizes) (rowsFrom k (t .negativ
 abbrev pub partsFrom : ℕ → Lent → Parts
 partsFrom k t = partsOf (t .partSizes) (rowsFrom k (t .partNegatives) (t .partCounts) (drop (sum (t .counts)) (t .letters)))
 
-unfoldable pub searchText : Settings → Table → Parts → List ℕ
-searchText s t p = numberedText (numberedByRow (callOf s t p 1025 16))
-
 -- 26 for k over 4 or maxpaths over 63, 1 for k 0, and else 0
 unfoldable pub limitFault : Settings → ℕ
 limitFault s = cond (ltb 4 (s .k)) 26 (cond (ltb 63 (s .maxpaths)) 26 (cond (ltb (s .k) 1) 1 0))
 
 unfoldable pub heldText : Settings → Lent → List ℕ
-heldText s t = cond (eqb (limitFault s) 0) (searchText s (tableFrom (s .k) t) (partsFrom (s .k) t)) (refusedText (limitFault s))
+heldText s t = cond (eqb (limitFault s) 0) (haplotypeText s (tableFrom (s .k) t) (partsFrom (s .k) t)) (refusedText (limitFault s))
 
 -- slices that fit the program's tables
 pub record Fits (t : Lent) : Type 0 where

@@ -1,4 +1,5 @@
 // One job in, its lines of text out, in fixed memory: what the program does.
+mod blocks;
 mod features;
 mod memory;
 mod room;

@@ -1,12 +1,9 @@
 // The program's memory: a job read into fixed arrays, its features counted, and the search over them.
+use crate::blocks::put_search;
 use crate::features::count_rows;
-use crate::room::key_room;
 use crate::room::letter_room;
-use crate::room::link_room;
 use crate::room::part_table;
-use crate::room::row_numbers;
 use crate::room::variant_table;
-use dive::apply_numbered;
 use metrics::kmer::entries;
 use metrics::refusals::BAD_K;
 use metrics::refusals::LITTLE_ROOM;
@@ -14,7 +11,6 @@ use metrics::refusals::TOO_LARGE;
 use params::Settings;
 use reader::Reading;
 use reader::read_job;
-use text::put_answer;
 use text::put_refused;
 ghost use mathlib.Core.Path.{_≡_};
 ghost use Prim.Native.Nat.{_≤_};
@@ -23,45 +19,7 @@ ghost use Rattle.params.specs.Numbers.{tableOf, partsOf};
 ghost use Rattle.form.specs.Job.{readJob};
 ghost use Rattle.form.specs.Lent.{lent};
 ghost use Rattle.desk.specs.Desk.{readText};
-ghost use Rattle.desk.specs.Memory.{searchText, limitFault, heldText, toldAs, readingText, Fits, Loaded, Printed};
-
-// A job's record numbers are its row numbers.
-fn search(
-    s: Settings,
-    starts: &[u64],
-    ends: &[u64],
-    sizes: &[i32],
-    features: &[i32],
-    part_sizes: &[i32],
-    part_features: &[i32],
-    out: &mut [u8],
-) -> usize
-    requires { ⌜ length (now starts) ≤ 16 ⌝ }
-    ensures { λ r. ⌜ Printed (now (out .entry)) (searchText s
-        (tableOf (now (starts .entry)) (now (ends .entry)) (now (sizes .entry)) (now (features .entry)))
-        (partsOf (now («part_sizes» .entry)) (now («part_features» .entry)))) (now (out .exit)) r ⌝ }
-{
-    let mut links = link_room();
-    let mut keys = key_room();
-    let mut rows = [0u32; 16];
-    let mut records = [0u32; 16];
-    let numbers = row_numbers();
-    let a = apply_numbered(
-        s,
-        starts,
-        ends,
-        sizes,
-        features,
-        &numbers[..starts.len()],
-        part_sizes,
-        part_features,
-        &mut links,
-        &mut keys,
-        &mut rows,
-        &mut records,
-    );
-    put_answer(out, 0, &rows, &records, a)
-}
+ghost use Rattle.desk.specs.Memory.{limitFault, heldText, toldAs, readingText, Fits, Loaded, Printed, mostOfAll};
 
 // The program's own limits. k 0 has no features to count: 1 is the first row of the table of refusals.
 fn limit_fault(s: Settings) -> u32
@@ -95,7 +53,7 @@ fn answer_held(
 ) -> usize
     requires { ⌜ Fits (lent (now starts) (now ends) (now sizes) (now negatives) (now counts) (now «part_sizes») (now «part_negatives»)
         (now «part_counts») (now letters)) ⌝ }
-    ensures { λ r. ⌜ Printed (now (out .entry)) (heldText s
+    ensures { λ r. ⌜ Printed mostOfAll (now (out .entry)) 0 (heldText s
         (lent (now (starts .entry)) (now (ends .entry)) (now (sizes .entry)) (now (negatives .entry)) (now (counts .entry))
         (now («part_sizes» .entry)) (now («part_negatives» .entry)) (now («part_counts» .entry)) (now (letters .entry)))) (now (out .exit)) r ⌝ }
 {
@@ -118,7 +76,7 @@ fn answer_held(
     );
     let v = counts.len() * width;
     let m = part_counts.len() * width;
-    search(
+    put_search(
         s,
         starts,
         ends,
@@ -127,6 +85,7 @@ fn answer_held(
         part_sizes,
         &part_features[..m],
         out,
+        0,
     )
 }
 
@@ -153,7 +112,7 @@ fn answer_reading(
 ) -> usize
     requires { ⌜ Loaded read (lent (now starts) (now ends) (now sizes) (now negatives) (now counts) (now «part_sizes») (now «part_negatives»)
         (now «part_counts») (now letters)) ⌝ }
-    ensures { λ r. ⌜ Printed (now (out .entry)) (readingText read
+    ensures { λ r. ⌜ Printed mostOfAll (now (out .entry)) 0 (readingText read
         (lent (now (starts .entry)) (now (ends .entry)) (now (sizes .entry)) (now (negatives .entry)) (now (counts .entry))
         (now («part_sizes» .entry)) (now («part_negatives» .entry)) (now («part_counts» .entry)) (now (letters .entry)))) (now (out .exit)) r ⌝ }
 {
@@ -178,7 +137,7 @@ fn answer_reading(
 // Reads a job, and answers it.
 pub(crate) fn answer_read(input: &[u8], out: &mut [u8]) -> usize
     requires { ⌜ length (now input) ≤ 32768 ⌝ }
-    ensures { λ r. ⌜ Printed (now (out .entry)) (readText (readJob (now (input .entry)))) (now (out .exit)) r ⌝ }
+    ensures { λ r. ⌜ Printed mostOfAll (now (out .entry)) 0 (readText (readJob (now (input .entry)))) (now (out .exit)) r ⌝ }
 {
     let mut starts = [0u64; 16];
     let mut ends = [0u64; 16];
