@@ -64,6 +64,7 @@ unique = record {
   count-fault = λ starts ends cap. one;
   count-chains = λ starts ends full cap. one;
   apply-haplotype = λ s starts ends sizes features partSizes partFeatures links keys rows. agree;
+  numbered-fault = λ s starts ends sizes features numbers partSizes partFeatures queueRoom answerRoom recordRoom. one;
   apply-numbered = λ s starts ends sizes features numbers partSizes partFeatures links keys rows records x y p q. agree x y (recorded (x .says) p) (recorded (y .says) q);
   u8-at = λ s at. one;
   u32-at = λ s at. one;

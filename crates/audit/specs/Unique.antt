@@ -17,7 +17,7 @@ use Rattle.kplib.specs.declared.vargraph.ChainCount.{ChainCount}
 use Rattle.kplib.specs.declared.traverse.Answer.{Answer}
 use Rattle.kplib.specs.Promises.{callLent, CountChainsPromise, ApplyHaplotypePromise}
 use Rattle.dive.specs.Numbered.{numberedSearches}
-use Rattle.dive.specs.Promises.{numberedLent, ApplyNumberedPromise}
+use Rattle.dive.specs.Promises.{numberedLent, NumberedFaultPromise, ApplyNumberedPromise}
 use Rattle.form.specs.declared.records.Kind.{Kind}
 use Rattle.form.specs.declared.records.Record.{Record}
 use Rattle.form.specs.declared.records.Scan.{Scan}
@@ -78,6 +78,8 @@ pub record Unique : Type 0 where
   pub apply-haplotype : (s : Settings) (starts ends : List ℕ) (sizes features partSizes partFeatures : List ℤ) (links keys rows : List ℕ)
       → Agree Answer (searches (callLent s starts ends sizes features partSizes partFeatures links keys rows))
       (λ x. ApplyHaplotypePromise s starts ends sizes features partSizes partFeatures links keys rows (x .links) (x .keys) (x .rows) (x .says))
+  pub numbered-fault : (s : Settings) (starts ends : List ℕ) (sizes features : List ℤ) (numbers : List ℕ) (partSizes partFeatures : List ℤ) (queueRoom answerRoom recordRoom : ℕ)
+      → One ℕ (NumberedFaultPromise s starts ends sizes features numbers partSizes partFeatures queueRoom answerRoom recordRoom)
   pub apply-numbered : (s : Settings) (starts ends : List ℕ) (sizes features : List ℤ) (numbers : List ℕ) (partSizes partFeatures : List ℤ) (links keys rows records : List ℕ)
       → Agree (List ℕ × Answer) (numberedSearches (numberedLent s starts ends sizes features numbers partSizes partFeatures links keys rows records))
       (λ x. ApplyNumberedPromise s starts ends sizes features numbers partSizes partFeatures links keys rows records
