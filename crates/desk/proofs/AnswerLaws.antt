@@ -11,14 +11,14 @@ use lib.Seq.{take-at, take-all, take-append-le}
 use borrow.Author.Tests.{ltb-true, ltb-false}
 use Rattle.params.specs.declared.Settings.{Settings}
 use Rattle.kplib.specs.declared.traverse.Answer.{Answer}
-use Rattle.params.specs.Numbers.{Table, Parts, callOf, badK}
+use Rattle.params.specs.Numbers.{Table, Parts, partsOf, callOf, badK}
 use Rattle.kplib.specs.Answer.{queueRoom}
 use Rattle.dive.specs.Numbered.{Numbered, numberedFault, numberedAnswer, numberedRows, recordsAt, recordsOf}
 use Rattle.metrics.specs.Placed.{placed}
 use Rattle.text.specs.Text.{answerText}
 use Rattle.text.specs.Written.{Written}
 use Rattle.text.proofs.TextLaws.{answer-short}
-use Rattle.desk.specs.Desk.{rowNumbers, askedOf, haplotypeText}
+use Rattle.desk.specs.Desk.{rowNumbers, askedOf, haplotypeText, wholeFault}
 use Rattle.desk.specs.Memory.{Printed, mostOfOne}
 use Rattle.desk.proofs.DeskLaws.{printed-as}
 
@@ -59,6 +59,12 @@ lent-by-row v e h = rw e (front-numbers v 16 h)
 
 pub lent-count : {xs : List ℕ} (v : ℕ) → xs ≡ rowNumbers 16 → v ≤ 16 → v ≡ length (take v xs)
 lent-count v e h = sym (ap length (lent-by-row v e h) ∙ row-count v)
+
+-- the call without parts, by the program's own numbers
+pub whole-asked : (s : Settings) (t : Table) (numbers : List ℕ) → numbers ≡ rowNumbers (length (t .starts)) →
+    {r : ℕ} → r ≡ numberedFault (record { call = callOf s t (partsOf [] []) 1025 16; numbers = numbers; recordRoom = 16 }) → r ≡ wholeFault s t
+unfolding wholeFault
+whole-asked s t numbers by-row e = rw (← by-row) e
 
 -- rows that were placed in a buffer, which kept its length, are no more than it has
 placed-few : (old rows new : List ℕ) → new ≡ placed old rows → length new ≡ length old → length rows ≤ length old

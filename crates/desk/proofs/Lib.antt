@@ -4,3 +4,4 @@ pub mod FaultLaws
 pub mod AnswerLaws
 pub mod MemoryLaws
 pub mod ReadLaws
+pub mod BlockLaws

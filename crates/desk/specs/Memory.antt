@@ -56,6 +56,7 @@ stretches e from (to ∷ ends) p = stretch e from to p ∷ stretches e to ends p
 -- slices that hold the parts of up to 16 haplotypes, for a table of up to 16 variants
 pub record BlocksFit (e : ℕ) (t : Table) (p : Parts) (breaks : List ℕ) : Type 0 where
   pub variants : length (t .starts) ≤ 16
+  pub parts : length (p .sizes) ≤ 128
   pub haplotypes : length breaks ≤ 15
   pub rising : Rising (length (p .sizes)) 0 (endsOf breaks (length (p .sizes)))
   pub rows : length (p .features) ≡ length (p .sizes) * e

@@ -3,14 +3,17 @@ use crate::room::key_room;
 use crate::room::link_room;
 use crate::room::row_numbers;
 use dive::apply_numbered;
+use dive::numbered_fault;
+use metrics::refusals::ACCEPTED;
 use params::Settings;
 use text::put_answer;
 use text::put_hap;
+use text::put_refused;
 ghost use mathlib.Core.Path.{_≡_};
 ghost use Prim.Native.Nat.{_≤_};
 ghost use lib.ListN.{length, getD};
 ghost use Rattle.params.specs.Numbers.{tableOf, partsOf};
-ghost use Rattle.desk.specs.Desk.{haplotypeText, blocksText};
+ghost use Rattle.desk.specs.Desk.{haplotypeText, wholeFault, blocksText, haplotypesText};
 ghost use Rattle.desk.specs.Memory.{Printed, mostOfOne, mostOfBlock, mostOfAll, BlocksFit, blockText, endsOf, stretches};
 
 // The answer to one haplotype's call. A job's record numbers are its row numbers.
@@ -84,9 +87,10 @@ fn put_block(
     )
 }
 
-// Where the parts of haplotype i end.
-fn stretch_end(breaks: &[u32], i: usize, all: usize) -> usize
-    ensures { λ r. ⌜ r ≡ getD (now (breaks .entry)) i all ⌝ }
+// Where the parts of haplotype i end, of `all`.
+pub(crate) fn stretch_end(breaks: &[u32], i: usize, all: usize) -> usize
+    requires { ⌜ i ≤ length (now breaks) ⌝ }
+    ensures { λ r. ⌜ r ≡ getD (endsOf (now (breaks .entry)) all) i 0 ⌝ }
 {
     if i < breaks.len() {
         return breaks[i] as usize;
@@ -134,4 +138,81 @@ fn put_blocks(
         i += 1;
     }
     end
+}
+
+// What refuses a whole job of several haplotypes: settings, table and room. The room is that of a search of one.
+fn whole_fault(
+    s: Settings,
+    starts: &[u64],
+    ends: &[u64],
+    sizes: &[i32],
+    features: &[i32],
+) -> u32
+    requires { ⌜ length (now starts) ≤ 16 ⌝ }
+    ensures { λ r. ⌜ r ≡ wholeFault s (tableOf (now (starts .entry)) (now (ends .entry)) (now (sizes .entry)) (now (features .entry))) ⌝ }
+{
+    let numbers = row_numbers();
+    numbered_fault(
+        s,
+        starts,
+        ends,
+        sizes,
+        features,
+        &numbers[..starts.len()],
+        &sizes[..0],
+        &features[..0],
+        1025,
+        16,
+        16,
+    )
+}
+
+// The lines of one haplotype; of several the refusal of the whole job, or each one's block.
+pub(crate) fn put_haplotypes(
+    s: Settings,
+    starts: &[u64],
+    ends: &[u64],
+    sizes: &[i32],
+    features: &[i32],
+    part_sizes: &[i32],
+    part_features: &[i32],
+    breaks: &[u32],
+    width: usize,
+    out: &mut [u8],
+) -> usize
+    requires { ⌜ BlocksFit width (tableOf (now starts) (now ends) (now sizes) (now features)) (partsOf (now «part_sizes») (now «part_features»)) (now breaks) ⌝ }
+    ensures { λ r. ⌜ Printed mostOfAll (now (out .entry)) 0 (haplotypesText s
+        (tableOf (now (starts .entry)) (now (ends .entry)) (now (sizes .entry)) (now (features .entry)))
+        (stretches width 0 (endsOf (now (breaks .entry)) (length (now («part_sizes» .entry))))
+        (partsOf (now («part_sizes» .entry)) (now («part_features» .entry))))) (now (out .exit)) r ⌝ }
+{
+    if breaks.len() == 0 {
+        return put_search(
+            s,
+            starts,
+            ends,
+            sizes,
+            features,
+            part_sizes,
+            part_features,
+            out,
+            0,
+        );
+    }
+    let fault = whole_fault(s, starts, ends, sizes, features);
+    if fault != ACCEPTED {
+        return put_refused(out, 0, fault);
+    }
+    put_blocks(
+        s,
+        starts,
+        ends,
+        sizes,
+        features,
+        part_sizes,
+        part_features,
+        breaks,
+        width,
+        out,
+    )
 }

@@ -1,29 +1,29 @@
+-- A break, or behind the last of them the end of all.
+use native.Mathlib.Omega.{arith}
+use denote.Ref.{now}
+use Rattle.desk.proofs.BlockLaws.{end-before, end-last}
 use borrow.Author.Needs.{needs}
 use Rattle.desk.proofs.blocks.stretch_end.Statement.{statement}
 use Rattle.desk.proofs.blocks.stretch_end.Tie as tie
-use Rattle.desk.proofs.blocks.stretch_end.Reads as reads
-use Rattle.desk.proofs.blocks.stretch_end.Lts as lts
 
--- src/blocks.rt:92:16
 mul-result : tie.Need-mul-result
 mul-result c = search needs
 
--- src/blocks.rt:92:16
 shared-slice-read-result : tie.Need-shared-slice-read-result
 shared-slice-read-result c = search needs
 
--- src/blocks.rt:92:16
 cast-result : tie.Need-cast-result
-cast-result c = ?
+cast-result c = omega (arith, c .shared-slice-known .given (c .before .before .args .i))
 
--- src/blocks.rt:92:9
 returns : tie.Need-returns
-returns c = ?
+returns c =
+    let t = c .before in let a = t .before .args in
+    end-before (now (a .breaks)) (a .all) (a .i) (t .if1 .taken)
 
--- src/blocks.rt:88:1
 returns-2 : tie.Need-returns-2
-returns-2 c = ?
+returns-2 c =
+    let s = c .before in let a = s .args in
+    end-last (now (a .breaks)) (a .all) (a .i) (s .pre) (c .if1 .left)
 
 pub stretch-end-spec : {M : Type 1} → statement M
-stretch-end-spec =
-    tie.close (tie.spec mul-result shared-slice-read-result cast-result returns returns-2)
+stretch-end-spec = tie.close (tie.spec mul-result shared-slice-read-result cast-result returns returns-2)
