@@ -6,7 +6,8 @@ use mathlib.Core.Path.{_≡_, refl, sym, ap, _∙_}
 use mathlib.Core.Bool.{true, false}
 use mathlib.Core.List.{List, [], _∷_, _++_, flatten, append-assoc}
 use mathlib.Core.Logic.{⊎-elim}
-use lib.ListN.{length, length-append}
+use lib.ListN.{length, drop, length-append}
+use lib.Seq.{drop-nil, drop-at}
 use Rattle.form.specs.declared.records.Kind.{Kind}
 use Rattle.form.specs.declared.records.Kind.the-variants.{End, Settings, Variant, Part as PartRecord, Letters, Next, Unknown}
 use Rattle.form.specs.Form.{kindOf, isNext, bodyLen}
@@ -67,6 +68,30 @@ pub long-breaks : (hs : List (List Part)) → 1 ≤ length hs → suc (length (b
 unfolding breaksOf
 long-breaks [] h = let z : ⊥ = omega arith in absurd z
 long-breaks (h ∷ hs) g = ap suc (long-from (length h) hs)
+
+-- ---- what the records behind add
+pub first-none : (hs : List (List Part)) → 1 ≤ length hs → toFirst [] hs ≡ hs
+unfolding toFirst
+first-none [] h = let z : ⊥ = omega arith in absurd z
+first-none (h ∷ hs) g = refl
+
+pub first-append : (xs ys : List Part) (hs : List (List Part)) → toFirst xs (toFirst ys hs) ≡ toFirst (xs ++ ys) hs
+unfolding toFirst
+first-append xs ys [] = refl
+first-append xs ys (h ∷ hs) = ap (λ (l : List Part). l ∷ hs) (sym (append-assoc xs ys h))
+
+pub haplotypes-skip : (s : List ℕ) (n : ℕ) → haplotypesIn s n ≡ haplotypesIn (drop n s) 0
+unfolding haplotypesIn
+haplotypes-skip [] n = simp drop-nil
+haplotypes-skip (k ∷ b) zero = refl
+haplotypes-skip (k ∷ b) (suc n) = haplotypes-skip b n
+
+-- a record whose body is there, and the haplotypes of what stands behind it
+pub haplotypes-record : (k n : ℕ) (kind : Kind) (body rest : List ℕ) → kindOf k ≡ kind → n ≡ bodyLen kind → length body ≡ n
+    → haplotypesIn (k ∷ (body ++ rest)) 0 ≡ haplotypesHere kind (body ++ rest) (haplotypesIn rest 0)
+unfolding haplotypesIn
+haplotypes-record k n kind body rest is e l = rw is (ap (λ (hs : List (List Part)). haplotypesHere kind (body ++ rest) hs)
+    (haplotypes-skip (body ++ rest) (bodyLen kind) ∙ ap (λ (q : List ℕ). haplotypesIn q 0) (drop-at body rest (bodyLen kind) (l ∙ e))))
 
 -- ---- one behind the other they are the parts
 flat-first : (xs : List Part) (hs : List (List Part)) → flatten (toFirst xs hs) ≡ xs ++ flatten hs
