@@ -8,8 +8,8 @@ use mathlib.Core.Bool.{cond}
 use mathlib.Core.List.{List, [], _∷_, _++_, append-nil, append-assoc}
 use lib.Dec.{eqb}
 use lib.IntN.{ℤ}
-use lib.ListN.{length, getD, take, drop, length-append, drop-of-length-le, List·getD-append}
-use lib.Seq.{drop-cons, take-all, getD-at}
+use lib.ListN.{length, getD, take, drop, length-append}
+use lib.Seq.{take-all}
 use borrow.Author.Tests.{eq-eqb, ne-eqb}
 use Rattle.params.specs.declared.Settings.{Settings}
 use Rattle.params.specs.Numbers.{Table, Parts, partsOf}
@@ -19,18 +19,8 @@ use Rattle.text.proofs.TextLaws.{hap-short}
 use Rattle.text.proofs.PieceLaws.{written-none}
 use Rattle.desk.specs.Desk.{haplotypeText, wholeFault, blocksText, haplotypesText}
 use Rattle.desk.specs.Memory.{Printed, mostOfOne, mostOfBlock, mostOfAll, endsOf, Rising, stretch, blockText, stretches, BlocksFit}
+use Rattle.desk.proofs.StretchLaws.{ends-here, rising-here, no-ends}
 use Rattle.desk.proofs.DeskLaws.{printed-as, printed-within, printed-then}
-
--- where the parts of haplotype i end
-module _ (breaks : List ℕ) (m i : ℕ) where
-  pub end-before : i < length breaks → getD breaks i 0 ≡ getD (endsOf breaks m) i 0
-  end-before h = sym (List·getD-append breaks (m ∷ []) 0 i h)
-
-  pub end-last : i ≤ length breaks → length breaks ≤ i → m ≡ getD (endsOf breaks m) i 0
-  end-last h g = sym (getD-at breaks m [] 0 i (let e : length breaks ≡ i = omega arith in e))
-
-pub ends-count : (breaks : List ℕ) (m : ℕ) → length (endsOf breaks m) ≡ length breaks + 1
-ends-count breaks m = length-append breaks (m ∷ [])
 
 -- the `hap` line, and the haplotype's lines behind it
 pub block-printed : {old mid new : List ℕ} {at behind r : ℕ} (s : Settings) (t : Table) (p : Parts) (i : ℕ) →
@@ -70,23 +60,15 @@ module _ (s : Settings) (t : Table) (p : Parts) (e : ℕ) (breaks old : List ℕ
 
   module _ (out : List ℕ) (i from end : ℕ) (now : Printing s t p e breaks old out i from end) where
     module _ (more : i ≤ length breaks) (to : ℕ) (is : to ≡ getD (endsOf breaks (length (p .sizes))) i 0) where
-      ends-here : drop i (endsOf breaks (length (p .sizes))) ≡ to ∷ drop (suc i) (endsOf breaks (length (p .sizes)))
-      ends-here =
-          let l = ends-count breaks (length (p .sizes)) in
-          let h : i < length (endsOf breaks (length (p .sizes))) = omega arith in
-          drop-cons (endsOf breaks (length (p .sizes))) i 0 h ∙ ap (λ (n : ℕ). n ∷ drop (suc i) (endsOf breaks (length (p .sizes)))) (sym is)
-
-      rising-here : Rising (length (p .sizes)) from (to ∷ drop (suc i) (endsOf breaks (length (p .sizes))))
-      rising-here = rw ends-here at (now .rising)
+      abbrev here : (from ≤ to) × ((to ≤ length (p .sizes)) × Rising (length (p .sizes)) to (drop (suc i) (endsOf breaks (length (p .sizes)))))
+      here = rising-here breaks (length (p .sizes)) i to more is (length (p .sizes)) from (now .rising)
 
       -- the stretch lies within the parts, and its rows within theirs
       pub rises : from ≤ to
-      unfolding Rising
-      rises = rising-here .0
+      rises = here .0
 
       pub parts-end : to ≤ length (p .sizes)
-      unfolding Rising
-      parts-end = rising-here .1 .0
+      parts-end = here .1 .0
 
       pub rows-rise : from * e ≤ to * e
       rows-rise = mul-le-mul-right e rises
@@ -95,27 +77,25 @@ module _ (s : Settings) (t : Table) (p : Parts) (e : ℕ) (breaks old : List ℕ
       rows-end = let h : to * e ≤ length (p .sizes) * e = mul-le-mul-right e parts-end in let r = fits .rows in omega arith
 
       pub blocks-next : (new : List ℕ) (r : ℕ) → Printed mostOfBlock out end (blockText s t i (stretch e from to p)) new r → Printing s t p e breaks old new (i + 1) to r
-      unfolding Rising
       blocks-next new r q =
           let block = blockText s t i (stretch e from to p) in
           let ends = drop (suc i) (endsOf breaks (length (p .sizes))) in
           let step : (done : List ℕ) → (done ++ block) ++ blocksText s t (suc i) (stretches e to ends p) ≡ done ++ blocksText s t i (stretches e from (to ∷ ends) p) =
           λ done. append-assoc done block (blocksText s t (suc i) (stretches e to ends p)) ∙ ap (λ (l : List ℕ). done ++ l) (sym (blocks-cons s t e from i to ends p)) in
-          let here = ap (λ (l : List ℕ). now .done ++ blocksText s t i (stretches e from l p)) (sym ends-here) in
+          let left = ap (λ (l : List ℕ). now .done ++ blocksText s t i (stretches e from l p)) (sym (ends-here breaks (length (p .sizes)) i to more is)) in
           rw (add-one i) record {
             done = now .done ++ block;
-            whole = step (now .done) ∙ here ∙ now .whole;
+            whole = step (now .done) ∙ left ∙ now .whole;
             printed = printed-within (omega arith) (printed-then (now .printed) q);
-            rising = rising-here .1 .1;
+            rising = here .1 .1;
             within = omega arith;
           }
 
     pub blocks-done : length breaks < i → Printed mostOfAll old 0 (blocksText s t 0 (stretches e 0 (endsOf breaks (length (p .sizes))) p)) out end
     blocks-done past =
-        let l = ends-count breaks (length (p .sizes)) in
         let w = now .within in
         let few = fits .haplotypes in
-        let none : drop i (endsOf breaks (length (p .sizes))) ≡ [] = drop-of-length-le (endsOf breaks (length (p .sizes))) {i = i} (omega arith) in
+        let none = no-ends breaks (length (p .sizes)) i past in
         let left = ap (λ (l : List ℕ). blocksText s t i (stretches e from l p)) none ∙ blocks-none s t e from i p in
         let all = sym (append-nil (now .done)) ∙ ap (λ (l : List ℕ). now .done ++ l) (sym left) ∙ now .whole in
         printed-within (omega arith) (printed-as (now .printed) all)

@@ -1,6 +1,6 @@
--- Document 01, "Job form and program": the text that the program prints for the bytes that it is given.
+-- Document 01, "Job form and program", and document 02, P1: the text that the program prints for the bytes that it is given.
 use Prim.Native.Nat.{ℕ, zero, suc}
-use mathlib.Core.Bool.{Bool, _||_, cond}
+use mathlib.Core.Bool.{Bool, false, _||_, cond}
 use mathlib.Core.List.{List, [], _∷_, _++_, map}
 use lib.Dec.{ltb, eqb}
 use lib.IntN.{ℤ}
@@ -28,13 +28,18 @@ tableOfJob job = tableOf
     (map (λ (x : Variant). x .size) (job .variants))
     (variantFeatures (job .settings .k) (job .variants))
 
-unfoldable pub partsOfJob : Job → Parts
-partsOfJob job = partsOf (map (λ (x : Part). x .size) (job .parts)) (partFeatures (job .settings .k) (job .parts))
+unfoldable pub partsOfHaplotype : ℕ → List Part → Parts
+partsOfHaplotype k parts = partsOf (map (λ (x : Part). x .size) parts) (partFeatures k parts)
 
--- over 16 variants, 8 parts, k over 4 or maxpaths over 63
+-- some haplotype has over 8 parts
+unfoldable pub manyParts : List (List Part) → Bool
+manyParts [] = false
+manyParts (parts ∷ haplotypes) = ltb 8 (length parts) || manyParts haplotypes
+
+-- over 16 variants, over 8 parts in a haplotype, k over 4 or maxpaths over 63
 unfoldable pub tooLarge : Job → Bool
 tooLarge job =
-    ltb 16 (length (job .variants)) || (ltb 8 (length (job .parts)) || (ltb 4 (job .settings .k) || ltb 63 (job .settings .maxpaths)))
+    ltb 16 (length (job .variants)) || (manyParts (job .haplotypes) || (ltb 4 (job .settings .k) || ltb 63 (job .settings .maxpaths)))
 
 -- the numbers from 0 up to and without n
 unfoldable pub rowNumbers : ℕ → List ℕ
@@ -69,7 +74,7 @@ haplotypesText s t (p ∷ []) = haplotypeText s t p
 haplotypesText s t (p ∷ (q ∷ ps)) = cond (eqb (wholeFault s t) 0) (blocksText s t 0 (p ∷ (q ∷ ps))) (refusedText (wholeFault s t))
 
 unfoldable pub jobText : Job → List ℕ
-jobText job = haplotypesText (job .settings) (tableOfJob job) (partsOfJob job ∷ [])
+jobText job = haplotypesText (job .settings) (tableOfJob job) (map (partsOfHaplotype (job .settings .k)) (job .haplotypes))
 
 unfoldable pub readText : Read → List ℕ
 readText (Faulty n) = refusedText n

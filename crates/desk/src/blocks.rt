@@ -2,6 +2,7 @@
 use crate::room::key_room;
 use crate::room::link_room;
 use crate::room::row_numbers;
+use crate::stretches::stretch_end;
 use dive::apply_numbered;
 use dive::numbered_fault;
 use metrics::refusals::ACCEPTED;
@@ -11,7 +12,7 @@ use text::put_hap;
 use text::put_refused;
 ghost use mathlib.Core.Path.{_≡_};
 ghost use Prim.Native.Nat.{_≤_};
-ghost use lib.ListN.{length, getD};
+ghost use lib.ListN.{length};
 ghost use Rattle.params.specs.Numbers.{tableOf, partsOf};
 ghost use Rattle.desk.specs.Desk.{haplotypeText, wholeFault, blocksText, haplotypesText};
 ghost use Rattle.desk.specs.Memory.{Printed, mostOfOne, mostOfBlock, mostOfAll, BlocksFit, blockText, endsOf, stretches};
@@ -87,17 +88,6 @@ fn put_block(
     )
 }
 
-// Where the parts of haplotype i end, of `all`.
-pub(crate) fn stretch_end(breaks: &[u32], i: usize, all: usize) -> usize
-    requires { ⌜ i ≤ length (now breaks) ⌝ }
-    ensures { λ r. ⌜ r ≡ getD (endsOf (now (breaks .entry)) all) i 0 ⌝ }
-{
-    if i < breaks.len() {
-        return breaks[i] as usize;
-    }
-    all
-}
-
 // A block for each haplotype, with its own stretch of the parts and of their rows of `width` entries.
 fn put_blocks(
     s: Settings,
@@ -107,7 +97,7 @@ fn put_blocks(
     features: &[i32],
     part_sizes: &[i32],
     part_features: &[i32],
-    breaks: &[u32],
+    breaks: &[u64],
     width: usize,
     out: &mut [u8],
 ) -> usize
@@ -176,7 +166,7 @@ pub(crate) fn put_haplotypes(
     features: &[i32],
     part_sizes: &[i32],
     part_features: &[i32],
-    breaks: &[u32],
+    breaks: &[u64],
     width: usize,
     out: &mut [u8],
 ) -> usize

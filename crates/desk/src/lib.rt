@@ -3,6 +3,7 @@ mod blocks;
 mod features;
 mod memory;
 mod room;
+mod stretches;
 
 use crate::memory::answer_read;
 use metrics::refusals::TOO_LARGE;

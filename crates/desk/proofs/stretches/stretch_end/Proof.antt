@@ -1,19 +1,15 @@
 -- A break, or behind the last of them the end of all.
-use native.Mathlib.Omega.{arith}
 use denote.Ref.{now}
-use Rattle.desk.proofs.BlockLaws.{end-before, end-last}
+use Rattle.desk.proofs.StretchLaws.{end-before, end-last}
 use borrow.Author.Needs.{needs}
-use Rattle.desk.proofs.blocks.stretch_end.Statement.{statement}
-use Rattle.desk.proofs.blocks.stretch_end.Tie as tie
+use Rattle.desk.proofs.stretches.stretch_end.Statement.{statement}
+use Rattle.desk.proofs.stretches.stretch_end.Tie as tie
 
 mul-result : tie.Need-mul-result
 mul-result c = search needs
 
 shared-slice-read-result : tie.Need-shared-slice-read-result
 shared-slice-read-result c = search needs
-
-cast-result : tie.Need-cast-result
-cast-result c = omega (arith, c .shared-slice-known .given (c .before .before .args .i))
 
 returns : tie.Need-returns
 returns c =
@@ -26,4 +22,4 @@ returns-2 c =
     end-last (now (a .breaks)) (a .all) (a .i) (s .pre) (c .if1 .left)
 
 pub stretch-end-spec : {M : Type 1} → statement M
-stretch-end-spec = tie.close (tie.spec mul-result shared-slice-read-result cast-result returns returns-2)
+stretch-end-spec = tie.close (tie.spec mul-result shared-slice-read-result returns returns-2)
