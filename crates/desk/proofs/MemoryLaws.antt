@@ -32,7 +32,7 @@ part-room : (n width : ℕ) → n ≤ 128 → width ≤ 256 → n * width ≤ 32
 part-room n width h w = let a : n * width ≤ 128 * width = mul-le-mul-right width h in omega arith
 
 module _ (k width : ℕ) (t : Lent) (fits : Fits t) (low : 1 ≤ k) (high : k ≤ 4) (is : width ≡ entryCount k) where
-  power-is : width ≡ 4 ^ k
+  pub power-is : width ≡ 4 ^ k
   power-is = is ∙ power k (omega arith)
 
   small : width ≤ 256
@@ -57,9 +57,9 @@ module _ (k width : ℕ) (t : Lent) (fits : Fits t) (low : 1 ≤ k) (high : k �
       record { k-low = low; k-high = high; width-is = power-is; alike = fits .part-alike; letters-end = omega arith; few = fits .few; table-end = omega arith }
 
   -- what is counted of the parts fits the blocks
-  pub blocks-fit : (features part-old part-new : List ℤ) → 32768 ≡ length part-old → length part-new ≡ length part-old →
+  pub blocks-fit : (features part-new : List ℤ) → length part-new ≡ 32768 →
       BlocksFit width (tableOf (t .starts) (t .ends) (t .sizes) features) (partsOf (t .partSizes) (take (length (t .partCounts) * width) part-new)) (t .breaks)
-  blocks-fit features part-old part-new e l =
+  blocks-fit features part-new e =
       let a = parts-end in
       let v = fits .starts-alike in
       let w = fits .variants in
