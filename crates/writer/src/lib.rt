@@ -27,7 +27,7 @@ ghost use mathlib.Core.List.{_∷_};
 ghost use Prim.Native.Nat.{_≤_, _<_, _+_, _^_};
 ghost use Prim.Native.Nat.{suc, _*_, _-_};
 ghost use lib.Dec.{eqb};
-ghost use lib.ListN.{length, take, getD};
+ghost use lib.ListN.{length, take, drop, getD};
 ghost use lib.Seq.{sets, slice};
 ghost use Rattle.form.specs.Form.{settingsLen, variantKind, partKind, lettersKind, variantLen, partLen, lettersLen};
 ghost use Rattle.form.specs.Job.{padded, recordsFor, sequenceBytes, partBody, variantBody, variantsBytes, partsBytes, jobBytes};
@@ -254,6 +254,7 @@ fn write_variants(
     Reached { at: a, letter: p }
 }
 
+// The parts of the rows from `first` up to `end`, whose letters begin at `from`.
 fn write_parts(
     out: &mut [u8],
     at: usize,
@@ -262,23 +263,26 @@ fn write_parts(
     counts: &[u32],
     letters: &[u8],
     from: usize,
-) -> usize
-    requires { ⌜ PartsFit (now sizes) (now negatives) (now counts) (now letters) from at (length (now out)) ⌝ }
-    ensures { λ r. ⌜ Put (now (out .entry)) (now (out .exit)) at r (partsBytes (partsFrom (now (sizes .entry)) (now (negatives .entry))
-        (now (counts .entry)) (now (letters .entry)) 0 from (length (now (sizes .entry))))) ⌝ }
+    first: usize,
+    end: usize,
+) -> Reached
+    requires { ⌜ PartsFit (now sizes) (now negatives) (now counts) (now letters) from first end at (length (now out)) ⌝ }
+    ensures rows { λ r. ⌜ Put (now (out .entry)) (now (out .exit)) at (r .at) (partsBytes (partsFrom (now (sizes .entry)) (now (negatives .entry))
+        (now (counts .entry)) (now (letters .entry)) first from (end - first))) ⌝ }
+    ensures letter { λ r. ⌜ r .letter + sum (drop end (now (counts .entry))) ≡ length (now (letters .entry)) ⌝ }
 {
     let mut a = at;
     let mut p = from;
-    let mut r = 0usize;
-    while r < sizes.len() {
+    let mut r = first;
+    while r < end {
         let count = counts[r];
-        let end = p + count as usize;
+        let stop = p + count as usize;
         write_part(out, a, sizes[r], negatives[r], count);
-        a = write_sequence(out, a + PART_RECORD, letters, p, end);
-        p = end;
+        a = write_sequence(out, a + PART_RECORD, letters, p, stop);
+        p = stop;
         r += 1;
     }
-    a
+    Reached { at: a, letter: p }
 }
 
 fn lay_job(
@@ -312,7 +316,7 @@ fn lay_job(
         letter_counts,
         letters,
     );
-    let at = write_parts(
+    let p = write_parts(
         out,
         v.at,
         part_sizes,
@@ -320,9 +324,11 @@ fn lay_job(
         part_letter_counts,
         letters,
         v.letter,
+        0,
+        part_sizes.len(),
     );
-    put_u8(out, at, END);
-    at + 1
+    put_u8(out, p.at, END);
+    p.at + 1
 }
 
 // The job that the slices hold, written at the front of `out`, or refused by 6, 13 or 30 with nothing written.
