@@ -12,15 +12,16 @@ use Rattle.form.specs.declared.records.Kind.the-variants.{Variant, Part}
 use Rattle.form.specs.declared.records.State.{State}
 
 -- a state that a record with no fault leads to, with bounds that keep the counts within the input's length
-pub record Next (st : State) (kind : Kind) (b : List ℕ) (r : State) : Type 0 where
+pub record Follows (st : State) (kind : Kind) (b : List ℕ) (r : State) : Type 0 where
   pub is : r ≡ after st kind b
   pub variants-grow : r .variants ≤ st .variants + 1
   pub parts-grow : r .parts ≤ st .parts + 1
+  pub breaks-grow : r .breaks ≤ st .breaks + 1
   pub letters-grow : r .letters ≤ st .letters + bodyLen kind
 
 -- counts that leave room for one more record
 abbrev pub Small : State → ℕ → Type 0
-Small st n = (st .variants ≤ n) × ((st .parts ≤ n) × (st .letters ≤ n))
+Small st n = (st .variants ≤ n) × ((st .parts ≤ n) × ((st .breaks ≤ n) × (st .letters ≤ n)))
 
 -- the letters behind a variant, and behind a part
 unfoldable pub variantLettersHere : Kind → List ℕ → List ℕ
