@@ -25,12 +25,13 @@ laidOver u t = record {
   partSizes = placed (u .partSizes) (t .partSizes);
   partNegatives = placed (u .partNegatives) (t .partNegatives);
   partCounts = placed (u .partCounts) (t .partCounts);
+  breaks = placed (u .breaks) (t .breaks);
   letters = placed (u .letters) (t .letters);
 }
 
 -- V is the number of starts, m the number of part sizes
 unfoldable pub lentCounts : Lent → Counts
-lentCounts t = record { variants = length (t .starts); parts = length (t .partSizes); letters = length (t .letters) }
+lentCounts t = record { variants = length (t .starts); parts = length (t .partSizes); breaks = length (t .breaks); letters = length (t .letters) }
 
 pub record RoundTrip : Type 0 where
   pub job-back : (job : Job) → JobHolds job → readJob (jobBytes job) ≡ Held job

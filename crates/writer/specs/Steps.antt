@@ -9,9 +9,9 @@ use lib.Seq.{sets}
 use lib.Dec.{leb, eqb}
 use Rattle.params.specs.declared.Settings.{Settings}
 use Rattle.form.specs.Form.{lettersKind, lettersLen, kindOf, bodyLen}
-use Rattle.form.specs.Job.{recordsFor, variantsBytes, partsBytes, jobBytes}
+use Rattle.form.specs.Job.{recordsFor, variantsBytes, partsBytes, haplotypesBytes, jobBytes}
 use Rattle.form.specs.Lent.{Lent, sum}
-use Rattle.writer.specs.Writing.{variantsFrom, partsFrom, agree, jobFrom}
+use Rattle.writer.specs.Writing.{variantsFrom, partsFrom, cutAt, inOrder, agree, jobFrom}
 use Rattle.writer.specs.declared.Left.{Left}
 use Rattle.writer.specs.declared.Left.the-variants.{Short, Enough}
 
@@ -44,6 +44,14 @@ pub record PartsFit (sizes : List ℤ) (negatives : List Bool) (counts letters :
   pub first-in : first ≤ end
   pub end-in : end ≤ length sizes
   pub fits : at + length (partsBytes (partsFrom sizes negatives counts letters first from (end - first))) ≤ room
+
+-- all parts, cut into haplotypes
+pub record HaplotypesFit (sizes : List ℤ) (negatives : List Bool) (counts letters : List ℕ) (from : ℕ) (breaks : List ℕ) (at room : ℕ) : Type 0 where
+  pub negatives-are : length negatives ≡ length sizes
+  pub counts-are : length counts ≡ length sizes
+  pub letters-are : from + sum counts ≡ length letters
+  pub breaks-are : inOrder (length sizes) 0 breaks ≡ true
+  pub fits : at + length (haplotypesBytes (cutAt 0 breaks (partsFrom sizes negatives counts letters 0 from (length sizes)))) ≤ room
 
 -- xs stand in u from position at on, and r is behind them
 pub record Put (t u : List ℕ) (at r : ℕ) (xs : List ℕ) : Type 0 where
