@@ -42,6 +42,9 @@ ordered m low b bs h =
     let q = both (leb b m) _ (p .1) in
     record { low-in = leb-true low b (p .0); end-in = leb-true b m (q .0); rest = q .1 }
 
+pub ordered-at : (m low : ℕ) (bs : List ℕ) (i : ℕ) → i < length bs → inOrder m low (drop i bs) ≡ true → Ordered m low (getD bs i 0) (drop (i + 1) bs)
+ordered-at m low bs i inside h = ordered m low (getD bs i 0) (drop (i + 1) bs) (rw (add-one i) (ap (inOrder m low) (sym (drop-cons bs i 0 inside)) ∙ h))
+
 breaks-from : (m at : ℕ) (bs : List ℕ) (xs : List Part) → m ≡ at + length xs → inOrder m at bs ≡ true → breaksFrom at (cutAt at bs xs) ≡ at ∷ bs
 unfolding cutAt breaksFrom
 breaks-from m at [] xs e h = refl
@@ -150,9 +153,6 @@ module _ (sizes : List ℤ) (negatives : List Bool) (counts letters breaks : Lis
   haplotypes-last i r p h = rw (drop-of-length-le breaks {i = i} h) (last-bytes r (partsFrom sizes negatives counts letters r p (length sizes - r)))
 
   module _ (i r p : ℕ) (inside : i < length breaks) (counted : length counts ≡ length sizes) (order : inOrder (length sizes) r (drop i breaks) ≡ true) where
-    pub order-here : Ordered (length sizes) r (getD breaks i 0) (drop (i + 1) breaks)
-    order-here = ordered (length sizes) r (getD breaks i 0) (drop (i + 1) breaks) (rw (add-one i) (ap (inOrder (length sizes) r) (sym (drop-cons breaks i 0 inside)) ∙ order))
-
     abbrev rows : List Part
     rows = partsFrom sizes negatives counts letters r p (length sizes - r)
 
@@ -160,7 +160,7 @@ module _ (sizes : List ℤ) (negatives : List Bool) (counts letters breaks : Lis
     here = getD breaks i 0
 
     parted : length sizes - r ≡ here - r + (length sizes - here)
-    parted = omega (arith, order-here .low-in, order-here .end-in)
+    parted = let o = ordered-at (length sizes) r breaks i inside order in omega (arith, o .low-in, o .end-in)
 
     before : take (here - r) rows ≡ partsFrom sizes negatives counts letters r p (here - r)
     before = rw parted (rows-before sizes negatives counts letters (here - r) (length sizes - here) r p)
@@ -178,8 +178,9 @@ module _ (sizes : List ℤ) (negatives : List Bool) (counts letters breaks : Lis
     module _ (q : ℕ) (sums : p + sum (drop r counts) ≡ q + sum (drop here counts)) where
       behind : drop (here - r) rows ≡ partsFrom sizes negatives counts letters here q (length sizes - here)
       behind =
-          let z : r + (here - r) ≡ here = omega (arith, order-here .low-in) in
-          rw parted (rows-behind sizes negatives counts letters (here - r) (length sizes - here) r p q (omega (arith, z, order-here .end-in, counted)) (rw z sums) ∙ rw z)
+          let o = ordered-at (length sizes) r breaks i inside order in
+          let z : r + (here - r) ≡ here = omega (arith, o .low-in) in
+          rw parted (rows-behind sizes negatives counts letters (here - r) (length sizes - here) r p q (omega (arith, z, o .end-in, counted)) (rw z sums) ∙ rw z)
 
       step : haplotypesAt i r p ≡ stretch r p here ++ (5 ∷ haplotypesAt (i + 1) here q)
       step = first-and-rest ∙ rw (behind, add-one i)
@@ -206,7 +207,7 @@ module _ (sizes : List ℤ) (negatives : List Bool) (counts letters breaks : Lis
     turn-room inside = let s = first-short i r p inside (fit .counts-are) order in omega (arith, s, left-fits)
 
     pub turn-fit : i < length breaks → (there : ℕ) → there ≡ room → PartsFit sizes negatives counts letters p r (getD breaks i 0) a there
-    turn-fit inside there e = let o = order-here i r p inside (fit .counts-are) order in record {
+    turn-fit inside there e = let o = ordered-at (length sizes) r breaks i inside order in record {
       negatives-are = fit .negatives-are;
       counts-are = fit .counts-are;
       letters-are = sums;

@@ -275,7 +275,8 @@ module _ (s : Settings) (t : Lent) (out : List ℕ) where
                 p .is ∙ sets-eq bytes out 0 (rw z h) ∙ ap (λ (k : ℕ). bytes ++ drop k out) z,
               )
 
-  pub write-fits : agree t ≡ true → {n : ℕ} → Enough n ≡ leftOf (42 + length (t .breaks) + (total 2 (t .counts) + total 3 (t .partCounts))) (length out) → JobFits s t (length out)
+  pub write-fits : agree t ≡ true → {n : ℕ} → Enough n ≡ leftOf (42 + length (t .breaks) + (total 2 (t .counts) + total 3 (t .partCounts))) (length out)
+      → JobFits s t (length out)
   write-fits agrees enough =
       let h = enough-had _ _ _ enough in
       let k = job-total s t (agreed t agrees) in

@@ -128,17 +128,20 @@ module _ (t : Lent) (a : Agreed t) where
 
   part-sizes-back : map (λ (x : Part). x .size) (flatten hs) ≡ t .partSizes
   unfolding partsFrom
-  part-sizes-back = ap (map (λ (x : Part). x .size)) all-parts ∙ field-back (t .partCounts) (pos 0) (t .partSizes) (λ r p n. map (λ (x : Part). x .size) (partsOn r p n)) (λ r p. refl) (λ r p n. refl)
+  part-sizes-back = ap (map (λ (x : Part). x .size)) all-parts
+      ∙ field-back (t .partCounts) (pos 0) (t .partSizes) (λ r p n. map (λ (x : Part). x .size) (partsOn r p n)) (λ r p. refl) (λ r p n. refl)
       (length (t .partSizes)) 0 (sum (t .counts)) (omega arith)
 
   part-negatives-back : map (λ (x : Part). x .negative) (flatten hs) ≡ t .partNegatives
   unfolding partsFrom
-  part-negatives-back = ap (map (λ (x : Part). x .negative)) all-parts ∙ field-back (t .partCounts) false (t .partNegatives) (λ r p n. map (λ (x : Part). x .negative) (partsOn r p n)) (λ r p. refl) (λ r p n. refl)
+  part-negatives-back = ap (map (λ (x : Part). x .negative)) all-parts
+      ∙ field-back (t .partCounts) false (t .partNegatives) (λ r p n. map (λ (x : Part). x .negative) (partsOn r p n)) (λ r p. refl) (λ r p n. refl)
       (length (t .partSizes)) 0 (sum (t .counts)) (let e = a .partNegatives in omega arith)
 
   part-letter-counts-back : map (λ (x : Part). length (x .letters)) (flatten hs) ≡ t .partCounts
   unfolding partsFrom
-  part-letter-counts-back = ap (map (λ (x : Part). length (x .letters))) all-parts ∙ lengths-back (t .partCounts) (t .letters) (λ r p n. map (λ (x : Part). length (x .letters)) (partsOn r p n)) (λ r p. refl) (λ r p n. refl)
+  part-letter-counts-back = ap (map (λ (x : Part). length (x .letters))) all-parts
+      ∙ lengths-back (t .partCounts) (t .letters) (λ r p n. map (λ (x : Part). length (x .letters)) (partsOn r p n)) (λ r p. refl) (λ r p n. refl)
       (length (t .partSizes)) 0 (sum (t .counts)) (let e = a .partCounts in omega arith) (let e = a .letters in omega arith)
 
   variant-letters : variantLetters vs ++ drop (0 + sum (t .counts)) (t .letters) ≡ t .letters

@@ -123,7 +123,7 @@ fn letters_agree(counts: &[u32], parts: &[u32], have: usize) -> bool
     }
 }
 
-fn breaks_agree(m: usize, breaks: &[u32]) -> bool
+fn breaks_agree(m: usize, breaks: &[u64]) -> bool
     ensures { λ r. ⌜ r ≡ inOrder m 0 (now (breaks .entry)) ⌝ }
 {
     let mut low = 0usize;
@@ -316,7 +316,7 @@ fn write_haplotypes(
     sizes: &[i32],
     negatives: &[bool],
     counts: &[u32],
-    breaks: &[u32],
+    breaks: &[u64],
     letters: &[u8],
     from: usize,
 ) -> usize
@@ -351,7 +351,7 @@ fn lay_job(
     part_sizes: &[i32],
     part_negatives: &[bool],
     part_letter_counts: &[u32],
-    breaks: &[u32],
+    breaks: &[u64],
     letters: &[u8],
     out: &mut [u8],
 ) -> usize
@@ -398,7 +398,7 @@ pub fn write_job(
     part_sizes: &[i32],
     part_negatives: &[bool],
     part_letter_counts: &[u32],
-    breaks: &[u32],
+    breaks: &[u64],
     letters: &[u8],
     out: &mut [u8],
 ) -> Writing

@@ -23,9 +23,6 @@ mul-b c = omega arith
 shared-slice-read-b : tie.Need-shared-slice-read-b Inv-loop μ-loop
 shared-slice-read-b c = omega arith
 
-cast-b : tie.Need-cast-b Inv-loop μ-loop
-cast-b c = omega (arith, c .shared-slice-known .given (c .before .before .loop .i))
-
 returns : tie.Need-returns Inv-loop μ-loop
 returns c = let i = c .before .before in let l = i .before in order-falls _ _ _ (l .loop .i) (i .loop-test .taken) (c .if1 .taken) ∙ l .loop .inv .0
 
@@ -51,4 +48,4 @@ returns-3 c = let l = c .before in order-done _ _ _ (l .loop .i) (c .loop-test .
 pub breaks-agree-spec : {M : Type 1} → statement M
 breaks-agree-spec =
     tie.close
-    (tie.spec Inv-loop μ-loop loop-holds mul-b shared-slice-read-b cast-b returns returns-2 add-i loop-less loop-again returns-3)
+    (tie.spec Inv-loop μ-loop loop-holds mul-b shared-slice-read-b returns returns-2 add-i loop-less loop-again returns-3)

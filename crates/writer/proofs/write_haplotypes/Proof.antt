@@ -8,7 +8,7 @@ use lib.ListN.{length, drop}
 use lib.Seq.{sets}
 use Rattle.form.specs.Lent.{sum}
 use Rattle.writer.specs.Writing.{inOrder}
-use Rattle.writer.proofs.CutLaws.{haplotypesAt, order-here, haplotypes-more, turn-room, turn-fit, last-fit, last-put}
+use Rattle.writer.proofs.CutLaws.{ordered-at, haplotypesAt, haplotypes-more, turn-room, turn-fit, last-fit, last-put}
 use Rattle.writer.proofs.write_haplotypes.Statement.{statement}
 use Rattle.writer.proofs.write_haplotypes.Tie as tie
 
@@ -51,13 +51,11 @@ mul-end c = omega arith
 shared-slice-read-end : tie.Need-shared-slice-read-end Inv-loop μ-loop
 shared-slice-read-end c = omega arith
 
-cast-end : tie.Need-cast-end Inv-loop μ-loop
-cast-end c = omega (arith, c .shared-slice-known5 .given (c .before .before .loop .i))
-
 write-parts-requires : tie.Need-write-parts-requires Inv-loop μ-loop
 write-parts-requires c κs =
     let i = c .before .before in let l = i .before in
-    turn-fit _ _ _ _ _ _ _ _ (start l .pre) (l .loop .a) (l .loop .p) (l .loop .r) (l .loop .i) (l .loop .inv .1) (l .loop .inv .2) (l .loop .inv .3) (i .loop-test .taken) _ (l .loop .inv .6)
+    turn-fit _ _ _ _ _ _ _ _ (start l .pre) (l .loop .a) (l .loop .p) (l .loop .r) (l .loop .i) (l .loop .inv .1) (l .loop .inv .2) (l .loop .inv .3)
+    (i .loop-test .taken) _ (l .loop .inv .6)
 
 put-u8-requires : tie.Need-put-u8-requires Inv-loop μ-loop
 put-u8-requires c κs = let w = parts c in omega (arith, room w, w .write-parts .kept .0, inside w .before .loop .inv .6)
@@ -74,10 +72,10 @@ loop-less c = let i = inside (parts (marked c .before)) in omega (arith, i .loop
 loop-again : tie.Need-loop-again Inv-loop μ-loop
 loop-again c =
     let k = marked c in let w = parts (k .before) in let i = inside w in let l = i .before in
-    let a = start l .args in
-    let f = start l .pre .counts-are in
-    let o = order-here (now (a .sizes)) (now (a .negatives)) (now (a .counts)) (now (a .letters)) (now (a .breaks)) (l .loop .i) (l .loop .r) (l .loop .p) (i .loop-test .taken) f (l .loop .inv .3) in
-    let m = haplotypes-more (now (a .sizes)) (now (a .negatives)) (now (a .counts)) (now (a .letters)) (now (a .breaks)) (l .loop .i) (l .loop .r) (l .loop .p) (i .loop-test .taken) f (l .loop .inv .3) (w .write-parts .result .letter) (l .loop .inv .2 ∙ sym (w .write-parts .ensures .1)) _ _ _ _ _ (w .write-parts .ensures .0) (k .put-u8 .ensures) in (
+    let s = start l in
+    let o = ordered-at _ _ (now (s .args .breaks)) (l .loop .i) (i .loop-test .taken) (l .loop .inv .3) in
+    let m = haplotypes-more (now (s .args .sizes)) _ _ _ (now (s .args .breaks)) (l .loop .i) (l .loop .r) (l .loop .p) (i .loop-test .taken) (s .pre .counts-are)
+    (l .loop .inv .3) (w .write-parts .result .letter) (l .loop .inv .2 ∙ sym (w .write-parts .ensures .1)) _ _ _ _ _ (w .write-parts .ensures .0) (k .put-u8 .ensures) in (
       m .0 ∙ l .loop .inv .0,
       m .1 ∙ l .loop .inv .1,
       w .write-parts .ensures .1,
@@ -90,7 +88,8 @@ loop-again c =
 write-parts-requires-2 : tie.Need-write-parts-requires-2 Inv-loop μ-loop
 write-parts-requires-2 c κs =
     let e = c .before in let l = e .before in
-    last-fit _ _ _ _ _ _ _ _ (start l .pre) (l .loop .a) (l .loop .p) (l .loop .r) (l .loop .i) (l .loop .inv .1) (l .loop .inv .2) (l .loop .inv .3) (e .loop-test .left) (l .loop .inv .4) _ (l .loop .inv .6)
+    last-fit _ _ _ _ _ _ _ _ (start l .pre) (l .loop .a) (l .loop .p) (l .loop .r) (l .loop .i) (l .loop .inv .1) (l .loop .inv .2) (l .loop .inv .3)
+    (e .loop-test .left) (l .loop .inv .4) _ (l .loop .inv .6)
 
 same-length : tie.Need-same-length Inv-loop μ-loop
 same-length c = let w = c .before .before in let l = w .before .before .before in w .write-parts2 .kept .0 ∙ l .loop .inv .6
@@ -103,5 +102,5 @@ returns c =
 pub write-haplotypes-spec : {M : Type 1} → statement M
 write-haplotypes-spec =
     tie.close
-    (tie.spec Inv-loop μ-loop loop-holds mul-end shared-slice-read-end cast-end write-parts-requires put-u8-requires add-a add-i loop-less
+    (tie.spec Inv-loop μ-loop loop-holds mul-end shared-slice-read-end write-parts-requires put-u8-requires add-a add-i loop-less
     loop-again write-parts-requires-2 same-length returns)

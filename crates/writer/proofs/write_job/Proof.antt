@@ -8,7 +8,8 @@ use borrow.Author.Tests.{not-true, not-false}
 use Rattle.form.specs.Lent.{Lent, lent}
 use Rattle.writer.specs.Writing.{anyOver, agree}
 use Rattle.writer.specs.Steps.{JobFits}
-use Rattle.writer.proofs.JobLaws.{rowsAgree, partsAgree, lettersAgree, write-many, write-rows, write-parts, write-letters, write-breaks, all-agree, write-over, write-part-over, write-short, write-fits, wrote}
+use Rattle.writer.proofs.JobLaws.{rowsAgree, partsAgree, lettersAgree, all-agree}
+use Rattle.writer.proofs.JobLaws.{write-many, write-rows, write-parts, write-letters, write-breaks, write-over, write-part-over, write-short, write-fits, wrote}
 use borrow.Author.Needs.{needs}
 use Rattle.writer.proofs.write_job.Statement.{statement}
 use Rattle.writer.proofs.write_job.Tie as tie
