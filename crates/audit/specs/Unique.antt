@@ -99,7 +99,7 @@ pub record Unique : Type 0 where
   pub scan : (bytes : List ℕ) → One Scan (ScanPromise bytes)
   pub read-job : (bytes : List ℕ) (t : Lent) → Two Lent Reading (ReadsInto bytes t)
   pub write-job : (s : Settings) (t : Lent) (out : List ℕ)
-      → Two (List ℕ) Writing (WriteJobPromise s (t .starts) (t .ends) (t .sizes) (t .negatives) (t .counts) (t .partSizes) (t .partNegatives) (t .partCounts) (t .letters) out)
+      → Two (List ℕ) Writing (WriteJobPromise s (t .starts) (t .ends) (t .sizes) (t .negatives) (t .counts) (t .partSizes) (t .partNegatives) (t .partCounts) (t .breaks) (t .letters) out)
   pub put-refused : (out : List ℕ) (at n : ℕ) → Two (List ℕ) ℕ (PutRefusedPromise out at n)
   pub put-answer : (out : List ℕ) (at : ℕ) (rows records : List ℕ) (a : Answer) → Two (List ℕ) ℕ (PutAnswerPromise out at rows records a)
   pub answer : (input out : List ℕ) → Two (List ℕ) ℕ (AnswerPromise input out)

@@ -1,4 +1,4 @@
--- Parts cut into haplotypes at breaks: together they are the parts, they give the breaks back, and their bytes are the parts' with one more for each break. Assumes nothing.
+-- Parts cut into haplotypes at breaks: these begin there, together they are the parts, and their bytes are the parts' with one more for each break. Assumes nothing.
 use Prim.Native.Nat.{ℕ, zero, suc, _+_, _-_, _≤_, _<_}
 use native.Mathlib.Omega.{arith}
 use native.Mathlib.Numerals.{add-one}
@@ -19,17 +19,7 @@ use Rattle.fields.proofs.FieldLaws.{sets-append}
 use Rattle.form.proofs.FormLaws.{both}
 use Rattle.form.proofs.GatherLaws.{sum-next}
 
-pub flat-cut : (at : ℕ) (bs : List ℕ) (xs : List Part) → flatten (cutAt at bs xs) ≡ xs
-unfolding cutAt flatten
-flat-cut at [] xs = append-nil xs
-flat-cut at (b ∷ bs) xs = ap (λ (ys : List Part). take (b - at) xs ++ ys) (flat-cut b bs (drop (b - at) xs)) ∙ take-append-drop (b - at) xs
-
-pub long-cut : (at : ℕ) (bs : List ℕ) (xs : List Part) → length (cutAt at bs xs) ≡ suc (length bs)
-unfolding cutAt
-long-cut at [] xs = refl
-long-cut at (b ∷ bs) xs = ap suc (long-cut b bs (drop (b - at) xs))
-
--- ---- the breaks come back
+-- ---- they begin at the breaks
 pub record Ordered (m low b : ℕ) (bs : List ℕ) : Type 0 where
   pub low-in : low ≤ b
   pub end-in : b ≤ m
@@ -62,6 +52,17 @@ breaks-back (b ∷ bs) xs h =
     let n : length (take (b - 0) xs) ≡ b = simp length-take (omega (arith, o .end-in)) in
     let k : length xs ≡ b + length (drop (b - 0) xs) = simp length-drop (omega (arith, o .end-in)) in
     rw n (breaks-from (length xs) b bs (drop (b - 0) xs) k (o .rest))
+
+-- ---- one behind the other they are the parts
+pub flat-cut : (at : ℕ) (bs : List ℕ) (xs : List Part) → flatten (cutAt at bs xs) ≡ xs
+unfolding cutAt flatten
+flat-cut at [] xs = append-nil xs
+flat-cut at (b ∷ bs) xs = ap (λ (ys : List Part). take (b - at) xs ++ ys) (flat-cut b bs (drop (b - at) xs)) ∙ take-append-drop (b - at) xs
+
+pub long-cut : (at : ℕ) (bs : List ℕ) (xs : List Part) → length (cutAt at bs xs) ≡ suc (length bs)
+unfolding cutAt
+long-cut at [] xs = refl
+long-cut at (b ∷ bs) xs = ap suc (long-cut b bs (drop (b - at) xs))
 
 -- ---- what holds of the parts holds of the haplotypes
 take-hold : (n : ℕ) (xs : List Part) → PartsHold xs → PartsHold (take n xs)

@@ -327,15 +327,15 @@ fn write_haplotypes(
     let mut a = at;
     let mut p = from;
     let mut r = 0usize;
-    let mut i = 0usize;
-    while i < breaks.len() {
-        let end = breaks[i] as usize;
+    let mut h = 0usize;
+    while h < breaks.len() {
+        let end = breaks[h] as usize;
         let done = write_parts(out, a, sizes, negatives, counts, letters, p, r, end);
         put_u8(out, done.at, NEXT);
         a = done.at + 1;
         p = done.letter;
         r = end;
-        i += 1;
+        h += 1;
     }
     let last = write_parts(out, a, sizes, negatives, counts, letters, p, r, sizes.len());
     last.at
