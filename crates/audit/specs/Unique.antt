@@ -40,11 +40,11 @@ One A promise = (x y : A) → promise x → promise y → x ≡ y
 abbrev pub Two : (A B : Type 0) → (A → B → Type 0) → Type 0
 Two A B promise = (x y : A) (u v : B) → promise x u → promise y v → (x ≡ y) × (u ≡ v)
 
--- the nine slices of a job, lent by what they hold
+-- the ten slices of a job, lent by what they hold
 abbrev pub ReadsInto : List ℕ → Lent → Lent → Reading → Type 0
 ReadsInto bytes t u r =
-    ReadJobPromise bytes (t .starts) (t .ends) (t .sizes) (t .negatives) (t .counts) (t .partSizes) (t .partNegatives) (t .partCounts) (t .letters)
-    (u .starts) (u .ends) (u .sizes) (u .negatives) (u .counts) (u .partSizes) (u .partNegatives) (u .partCounts) (u .letters) r
+    ReadJobPromise bytes (t .starts) (t .ends) (t .sizes) (t .negatives) (t .counts) (t .partSizes) (t .partNegatives) (t .partCounts) (t .breaks) (t .letters)
+    (u .starts) (u .ends) (u .sizes) (u .negatives) (u .counts) (u .partSizes) (u .partNegatives) (u .partCounts) (u .breaks) (u .letters) r
 
 -- what a search leaves: the queue's two slices, the rows, and what it says (with record numbers, the records and the answer)
 pub record Left (A : Type 0) : Type 0 where
@@ -101,7 +101,7 @@ pub record Unique : Type 0 where
   pub scan : (bytes : List ℕ) → One Scan (ScanPromise bytes)
   pub read-job : (bytes : List ℕ) (t : Lent) → Two Lent Reading (ReadsInto bytes t)
   pub write-job : (s : Settings) (t : Lent) (out : List ℕ)
-      → Two (List ℕ) Writing (WriteJobPromise s (t .starts) (t .ends) (t .sizes) (t .negatives) (t .counts) (t .partSizes) (t .partNegatives) (t .partCounts) (t .letters) out)
+      → Two (List ℕ) Writing (WriteJobPromise s (t .starts) (t .ends) (t .sizes) (t .negatives) (t .counts) (t .partSizes) (t .partNegatives) (t .partCounts) (t .breaks) (t .letters) out)
   pub put-refused : (out : List ℕ) (at n : ℕ) → Two (List ℕ) ℕ (PutRefusedPromise out at n)
   pub put-answer : (out : List ℕ) (at : ℕ) (rows records : List ℕ) (a : Answer) → Two (List ℕ) ℕ (PutAnswerPromise out at rows records a)
   pub answer : (input out : List ℕ) → Two (List ℕ) ℕ (AnswerPromise input out)

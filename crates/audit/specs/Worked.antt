@@ -57,7 +57,7 @@ job = record {
   variants =
       record { start = 10; end = 10; size = pos 2; negative = false; letters = ag }
       ∷ (record { start = 20; end = 20; size = pos 2; negative = false; letters = ct } ∷ []);
-  parts = record { size = pos 2; negative = false; letters = ag } ∷ [];
+  haplotypes = (record { size = pos 2; negative = false; letters = ag } ∷ []) ∷ [];
 }
 
 -- the lines that document 01 prints, and document 02's `records` (P3) after `rows`

@@ -61,13 +61,13 @@ some-haplotype (k ∷ b) zero = some-here (kindOf k) b (haplotypesIn b (bodyLen 
 pub long-from : (n : ℕ) (hs : List (List Part)) → length (breaksFrom n hs) ≡ length hs
 unfolding breaksFrom
 long-from n [] = refl
-long-from n (h ∷ hs) = ap suc (long-from (n + length h) hs)
+long-from n (h ∷ hs) = ap suc (long-from _ hs)
 
 -- each but the first begins with a break
 pub long-breaks : (hs : List (List Part)) → 1 ≤ length hs → suc (length (breaksOf hs)) ≡ length hs
 unfolding breaksOf
 long-breaks [] h = let z : ⊥ = omega arith in absurd z
-long-breaks (h ∷ hs) g = ap suc (long-from (length h) hs)
+long-breaks (h ∷ hs) g = ap suc (long-from _ hs)
 
 -- ---- what the records behind add
 pub first-none : (hs : List (List Part)) → 1 ≤ length hs → toFirst [] hs ≡ hs
