@@ -84,6 +84,7 @@ unique = record {
   read-job = λ bytes t. two;
   write-job = λ s t out. through (λ r. outAfter r (jobBytes (jobFrom s t)) out);
   put-refused = λ out at n. stored;
+  put-hap = λ out at i. stored;
   put-answer = λ out at rows records a. stored;
   answer = λ input out. two;
   nd-seq-to-kmer = λ letters k negative row. two;

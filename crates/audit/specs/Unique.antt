@@ -28,7 +28,7 @@ use Rattle.fields.specs.Promises.{U8AtPromise, U32AtPromise, U64AtPromise, I32O
 use Rattle.form.specs.Promises.{ScanPromise, KindOfPromise, BodyLenPromise, RecordAtPromise, ReadSettingsPromise, WriteSettingsPromise}
 use Rattle.reader.specs.Promises.{ReadJobPromise}
 use Rattle.writer.specs.Promises.{WriteJobPromise}
-use Rattle.text.specs.Promises.{PutRefusedPromise, PutAnswerPromise}
+use Rattle.text.specs.Promises.{PutRefusedPromise, PutHapPromise, PutAnswerPromise}
 use Rattle.desk.specs.Promises.{AnswerPromise}
 use Rattle.capi.specs.Words.{settingsOfWords}
 use Rattle.capi.specs.Promises.{NdSeqToKmerPromise, NdSeqsimPromise, NdSizesimPromise, NdCountChainsPromise, NdAnswerPromise, NdApplyHaplotypePromise}
@@ -103,6 +103,7 @@ pub record Unique : Type 0 where
   pub write-job : (s : Settings) (t : Lent) (out : List ℕ)
       → Two (List ℕ) Writing (WriteJobPromise s (t .starts) (t .ends) (t .sizes) (t .negatives) (t .counts) (t .partSizes) (t .partNegatives) (t .partCounts) (t .breaks) (t .letters) out)
   pub put-refused : (out : List ℕ) (at n : ℕ) → Two (List ℕ) ℕ (PutRefusedPromise out at n)
+  pub put-hap : (out : List ℕ) (at i : ℕ) → Two (List ℕ) ℕ (PutHapPromise out at i)
   pub put-answer : (out : List ℕ) (at : ℕ) (rows records : List ℕ) (a : Answer) → Two (List ℕ) ℕ (PutAnswerPromise out at rows records a)
   pub answer : (input out : List ℕ) → Two (List ℕ) ℕ (AnswerPromise input out)
   pub nd-seq-to-kmer : (letters : List ℕ) (k : ℕ) (negative : Bool) (row : List ℤ) → Two (List ℤ) ℕ (NdSeqToKmerPromise letters k negative row)
