@@ -17,7 +17,7 @@ use Rattle.kplib.specs.declared.vargraph.ChainCount.{ChainCount}
 use Rattle.kplib.specs.declared.traverse.Answer.{Answer}
 use Rattle.kplib.specs.Promises.{callLent, CountChainsPromise, ApplyHaplotypePromise}
 use Rattle.dive.specs.Numbered.{numberedSearches}
-use Rattle.dive.specs.Promises.{numberedLent, ApplyNumberedPromise}
+use Rattle.dive.specs.Promises.{numberedLent, NumberedFaultPromise, ApplyNumberedPromise}
 use Rattle.form.specs.declared.records.Kind.{Kind}
 use Rattle.form.specs.declared.records.Record.{Record}
 use Rattle.form.specs.declared.records.Scan.{Scan}
@@ -28,7 +28,7 @@ use Rattle.fields.specs.Promises.{U8AtPromise, U32AtPromise, U64AtPromise, I32O
 use Rattle.form.specs.Promises.{ScanPromise, KindOfPromise, BodyLenPromise, RecordAtPromise, ReadSettingsPromise, WriteSettingsPromise}
 use Rattle.reader.specs.Promises.{ReadJobPromise}
 use Rattle.writer.specs.Promises.{WriteJobPromise}
-use Rattle.text.specs.Promises.{PutRefusedPromise, PutAnswerPromise}
+use Rattle.text.specs.Promises.{PutRefusedPromise, PutHapPromise, PutAnswerPromise}
 use Rattle.desk.specs.Promises.{AnswerPromise}
 use Rattle.capi.specs.Words.{settingsOfWords}
 use Rattle.capi.specs.Promises.{NdSeqToKmerPromise, NdSeqsimPromise, NdSizesimPromise, NdCountChainsPromise, NdAnswerPromise, NdApplyHaplotypePromise}
@@ -40,11 +40,11 @@ One A promise = (x y : A) → promise x → promise y → x ≡ y
 abbrev pub Two : (A B : Type 0) → (A → B → Type 0) → Type 0
 Two A B promise = (x y : A) (u v : B) → promise x u → promise y v → (x ≡ y) × (u ≡ v)
 
--- the nine slices of a job, lent by what they hold
+-- the ten slices of a job, lent by what they hold
 abbrev pub ReadsInto : List ℕ → Lent → Lent → Reading → Type 0
 ReadsInto bytes t u r =
-    ReadJobPromise bytes (t .starts) (t .ends) (t .sizes) (t .negatives) (t .counts) (t .partSizes) (t .partNegatives) (t .partCounts) (t .letters)
-    (u .starts) (u .ends) (u .sizes) (u .negatives) (u .counts) (u .partSizes) (u .partNegatives) (u .partCounts) (u .letters) r
+    ReadJobPromise bytes (t .starts) (t .ends) (t .sizes) (t .negatives) (t .counts) (t .partSizes) (t .partNegatives) (t .partCounts) (t .breaks) (t .letters)
+    (u .starts) (u .ends) (u .sizes) (u .negatives) (u .counts) (u .partSizes) (u .partNegatives) (u .partCounts) (u .breaks) (u .letters) r
 
 -- what a search leaves: the queue's two slices, the rows, and what it says (with record numbers, the records and the answer)
 pub record Left (A : Type 0) : Type 0 where
@@ -78,6 +78,8 @@ pub record Unique : Type 0 where
   pub apply-haplotype : (s : Settings) (starts ends : List ℕ) (sizes features partSizes partFeatures : List ℤ) (links keys rows : List ℕ)
       → Agree Answer (searches (callLent s starts ends sizes features partSizes partFeatures links keys rows))
       (λ x. ApplyHaplotypePromise s starts ends sizes features partSizes partFeatures links keys rows (x .links) (x .keys) (x .rows) (x .says))
+  pub numbered-fault : (s : Settings) (starts ends : List ℕ) (sizes features : List ℤ) (numbers : List ℕ) (partSizes partFeatures : List ℤ) (queueRoom answerRoom recordRoom : ℕ)
+      → One ℕ (NumberedFaultPromise s starts ends sizes features numbers partSizes partFeatures queueRoom answerRoom recordRoom)
   pub apply-numbered : (s : Settings) (starts ends : List ℕ) (sizes features : List ℤ) (numbers : List ℕ) (partSizes partFeatures : List ℤ) (links keys rows records : List ℕ)
       → Agree (List ℕ × Answer) (numberedSearches (numberedLent s starts ends sizes features numbers partSizes partFeatures links keys rows records))
       (λ x. ApplyNumberedPromise s starts ends sizes features numbers partSizes partFeatures links keys rows records
@@ -99,8 +101,9 @@ pub record Unique : Type 0 where
   pub scan : (bytes : List ℕ) → One Scan (ScanPromise bytes)
   pub read-job : (bytes : List ℕ) (t : Lent) → Two Lent Reading (ReadsInto bytes t)
   pub write-job : (s : Settings) (t : Lent) (out : List ℕ)
-      → Two (List ℕ) Writing (WriteJobPromise s (t .starts) (t .ends) (t .sizes) (t .negatives) (t .counts) (t .partSizes) (t .partNegatives) (t .partCounts) (t .letters) out)
+      → Two (List ℕ) Writing (WriteJobPromise s (t .starts) (t .ends) (t .sizes) (t .negatives) (t .counts) (t .partSizes) (t .partNegatives) (t .partCounts) (t .breaks) (t .letters) out)
   pub put-refused : (out : List ℕ) (at n : ℕ) → Two (List ℕ) ℕ (PutRefusedPromise out at n)
+  pub put-hap : (out : List ℕ) (at i : ℕ) → Two (List ℕ) ℕ (PutHapPromise out at i)
   pub put-answer : (out : List ℕ) (at : ℕ) (rows records : List ℕ) (a : Answer) → Two (List ℕ) ℕ (PutAnswerPromise out at rows records a)
   pub answer : (input out : List ℕ) → Two (List ℕ) ℕ (AnswerPromise input out)
   pub nd-seq-to-kmer : (letters : List ℕ) (k : ℕ) (negative : Bool) (row : List ℤ) → Two (List ℤ) ℕ (NdSeqToKmerPromise letters k negative row)

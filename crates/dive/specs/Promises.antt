@@ -7,10 +7,19 @@ use mathlib.Core.List.{List}
 use lib.IntN.{ℤ}
 use lib.ListN.{length}
 use Rattle.params.specs.declared.Settings.{Settings}
+use Rattle.params.specs.Numbers.{tableOf, partsOf, callOf}
 use Rattle.metrics.specs.Placed.{placed}
 use Rattle.kplib.specs.Promises.{callLent}
 use Rattle.kplib.specs.declared.traverse.Answer.{Answer}
-use Rattle.dive.specs.Numbered.{Numbered, numberedAnswer, numberedRows, recordsOf, numberedSearches}
+use Rattle.dive.specs.Numbered.{Numbered, numberedFault, numberedAnswer, numberedRows, recordsOf, numberedSearches}
+
+abbrev pub NumberedFaultPromise : Settings → List ℕ → List ℕ → List ℤ → List ℤ → List ℕ → List ℤ → List ℤ → ℕ → ℕ → ℕ → ℕ → Type 0
+NumberedFaultPromise s starts ends sizes features numbers partSizes partFeatures queueRoom answerRoom recordRoom r =
+    r ≡ numberedFault (record {
+      call = callOf s (tableOf starts ends sizes features) (partsOf partSizes partFeatures) queueRoom answerRoom;
+      numbers = numbers;
+      recordRoom = recordRoom;
+    })
 
 -- the call that the settings and the lent slices make, with its record numbers
 abbrev pub numberedLent : Settings → List ℕ → List ℕ → List ℤ → List ℤ → List ℕ → List ℤ → List ℤ → List ℕ → List ℕ → List ℕ → List ℕ → Numbered

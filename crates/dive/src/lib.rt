@@ -14,7 +14,42 @@ use params::checks::call_fault;
 use params::checks::queue_room;
 ghost use mathlib.Core.Path.{_≡_};
 ghost use Rattle.kplib.specs.Answer.{answerWith, noneFound};
-ghost use Rattle.dive.specs.Promises.{ApplyNumberedPromise};
+ghost use Rattle.dive.specs.Promises.{NumberedFaultPromise, ApplyNumberedPromise};
+
+// The number of the first refusal of a call whose variants carry record numbers, 0 where it is accepted.
+pub fn numbered_fault(
+    s: Settings,
+    starts: &[u64],
+    ends: &[u64],
+    sizes: &[i32],
+    features: &[i32],
+    numbers: &[u32],
+    part_sizes: &[i32],
+    part_features: &[i32],
+    queue_room: usize,
+    answer_room: usize,
+    record_room: usize,
+) -> u32
+    ensures { λ r. ⌜ NumberedFaultPromise s (now (starts .entry)) (now (ends .entry)) (now (sizes .entry)) (now (features .entry)) (now (numbers .entry))
+        (now («part_sizes» .entry)) (now («part_features» .entry)) «queue_room» «answer_room» «record_room» r ⌝ }
+{
+    let other = call_fault(
+        s,
+        starts,
+        ends,
+        sizes,
+        features,
+        part_sizes,
+        part_features,
+        queue_room,
+        answer_room,
+    );
+    let own = number_fault(starts.len(), numbers, record_room);
+    if own == ACCEPTED {
+        return other;
+    }
+    earlier(other, own)
+}
 
 // A refusal: no rows, no part list, three zeros.
 fn refused(refusal: u32) -> Answer
@@ -55,18 +90,20 @@ pub fn apply_numbered(
     let own = number_fault(starts.len(), numbers, records.len());
     if own != ACCEPTED {
         let room = queue_room(links.len(), keys.len());
-        let other = call_fault(
+        let fault = numbered_fault(
             s,
             starts,
             ends,
             sizes,
             features,
+            numbers,
             part_sizes,
             part_features,
             room,
             rows.len(),
+            records.len(),
         );
-        return refused(earlier(other, own));
+        return refused(fault);
     }
     let answer = apply_haplotype(
         s,

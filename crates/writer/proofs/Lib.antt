@@ -3,6 +3,7 @@ pub mod AgreeLaws
 pub mod WriteLaws
 pub mod RowLaws
 pub mod HeadLaws
+pub mod CutLaws
 pub mod JobLaws
 pub mod BackLaws
 pub mod SlicesBack

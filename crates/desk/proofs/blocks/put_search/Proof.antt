@@ -8,8 +8,8 @@ use lib.ListN.{length, take, replicate}
 use Rattle.params.specs.Numbers.{Table, Parts, tableOf, partsOf}
 use Rattle.desk.proofs.AnswerLaws.{lent-by-row, lent-count, answer-printed}
 use borrow.Author.Needs.{needs}
-use Rattle.desk.proofs.memory.search.Statement.{statement}
-use Rattle.desk.proofs.memory.search.Tie as tie
+use Rattle.desk.proofs.blocks.put_search.Statement.{statement}
+use Rattle.desk.proofs.blocks.put_search.Tie as tie
 
 -- the lent data, and the places: once the queue has its room, once the numbers are there, once the answer is found, and where the rows' buffer is known to have kept its length
 abbrev table : tie.Start → Table
@@ -94,8 +94,8 @@ returns c =
     (replicate 16 0) (replicate 16 0) (lent-by-row (variants n) (n .row-numbers .ensures) (s .pre)) (q .link-room .ensures) (k .key-room .ensures) refl refl
     (a .result) (a .ensures .0) (rows f) (a .ensures .1 .0) (records f) (a .ensures .1 .1 .0) l (w .put-answer .ensures)
 
-pub search-spec : {M : Type 1} → statement M
-search-spec =
+pub put-search-spec : {M : Type 1} → statement M
+put-search-spec =
     tie.close
     (tie.spec link-room-requires key-room-requires row-numbers-requires array-share-prefix-numbers slice-aggregate-apply-numbered
     slice-aggregate-apply-numbered-2 slice-aggregate-apply-numbered-3 slice-aggregate-apply-numbered-4 slice-aggregate-apply-numbered-5
