@@ -464,33 +464,39 @@ fn disturb_haplotypes(r: &mut Random, job: &mut Job) {
     }
 }
 
-/// The program's input with several haplotypes: mostly answered, then refusals of the whole job or of some haplotypes, and faults of the form.
-pub fn several_input(r: &mut Random) -> Vec<u8> {
-    let mut job = several_job(r, PROGRAM);
+/// Mostly accepted, then refusals of some haplotypes or of the whole job.
+fn several_job_or_refused(r: &mut Random, size: Size) -> Job {
+    let mut job = several_job(r, size);
     if r.chance(25) {
         disturb_haplotypes(r, &mut job);
     }
     if r.chance(8) {
         disturb_job(r, &mut job);
     }
+    job
+}
+
+/// The program's input with several haplotypes, with faults of the form too.
+pub fn several_input(r: &mut Random) -> Vec<u8> {
+    let mut job = several_job_or_refused(r, PROGRAM);
     let mut bytes = job.bytes();
     match r.below(20) {
         0 => disturb_bytes(r, &mut bytes),
         1 => disturb_record(r, &mut bytes),
         2 if r.chance(30) => {
-            // the sixteenth 0x05 while letters are owed, or a variant behind the fifteenth
+            // the sixteenth 0x05, where letters are owed or not
             job.haplotypes.resize(16, vec![]);
             job.haplotypes[15].push(Part { size: 1, negative: false, letters: b"A".to_vec() });
             bytes = job.bytes();
             let last = bytes.len() - 1;
-            bytes.insert(r.pick(&[last, last - record_length(0x04)]), r.pick(&[0x05, 0x05, 0x02]));
+            bytes.insert(r.pick(&[last, last - record_length(0x04)]), 0x05);
         }
         2 => {
-            // one or more 0x05, or a variant, between two records
+            // one or more 0x05, or the first variant once more, between two records
             let (at, _) = r.pick(&records(&bytes));
-            let table: Vec<u8> = job.variants.first().map_or(vec![], |v| Job { variants: vec![v.clone()], ..job }.bytes()[41..].to_vec());
-            let put = if r.chance(50) { vec![0x05; r.pick(&[1, 1, 15, 16])] } else { table };
-            bytes.splice(at..at, put);
+            let table = Job { variants: job.variants.into_iter().take(1).collect(), haplotypes: vec![vec![]], ..job }.bytes();
+            let variant = table[record_length(0x01)..table.len() - 1].to_vec();
+            bytes.splice(at..at, if r.chance(50) { vec![0x05; r.pick(&[1, 1, 15, 16])] } else { variant });
         }
         _ => {}
     }
@@ -499,14 +505,7 @@ pub fn several_input(r: &mut Random) -> Vec<u8> {
 
 /// A library call for several haplotypes; each of at most the given cost.
 pub fn several_call(r: &mut Random, size: Size, budget: u64) -> Several {
-    let mut job = several_job(r, size);
-    if r.chance(25) {
-        disturb_haplotypes(r, &mut job);
-    }
-    if r.chance(8) {
-        disturb_job(r, &mut job);
-    }
-    let mut several = Several::of_job(&job);
+    let mut several = Several::of_job(&several_job_or_refused(r, size));
     if several.refusal(&DOCUMENT) == 0 {
         if r.chance(20) {
             scatter(r, &mut several.call);
