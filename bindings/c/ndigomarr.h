@@ -45,6 +45,7 @@ enum nd_refusal {
     ND_REFUSED_BAD_FLAG = 24, /* a flag not 0 or 1 */
     ND_REFUSED_BYTES_AFTER_END = 25, /* bytes after 0x00 */
     ND_REFUSED_TOO_LARGE = 26, /* over the program's own limits */
+    ND_REFUSED_TOO_MANY_HAPLOTYPES = 27, /* not 1 to 16 haplotypes */
     ND_REFUSED_LITTLE_ROOM = 30, /* too little room */
 };
 
