@@ -5,3 +5,4 @@ mod CallLaws
 pub mod TableOrderLaws
 pub mod EndLaws
 pub mod SeveralLaws
+pub mod AcceptedLaws

@@ -18,7 +18,7 @@ abbrev ownOf : Bool → Bool → Bool → Bool → ℕ
 ownOf count six twelve reports = cond count 27 (cond six 6 (cond twelve 12 (cond reports 12 0)))
 
 -- the room that the shared call is said to have is just enough
-enough : (v : ℕ) → littleAnswerRoom v v ≡ false
+pub enough : (v : ℕ) → littleAnswerRoom v v ≡ false
 enough v = le-ltb v v (omega arith)
 
 -- the range of the count
