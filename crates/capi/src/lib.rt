@@ -1,14 +1,13 @@
 // What Rust and C link: the library's calls on numbers and slices. Each gives back the refusal's number, 0 for an accepted call.
 ghost use Rattle.capi.specs.Promises.{NdSeqToKmerPromise, NdSeqsimPromise, NdSizesimPromise, NdCountChainsPromise, NdAnswerPromise, NdApplyHaplotypePromise};
-use crate::report::put_report;
 use crate::words::length_word;
 use crate::words::settings_of_words;
+use kplib::report::put_report;
 use kplib::vargraph::ChainCount;
 use metrics::Sim;
 use metrics::kmer::Counted;
 use metrics::refusals::ACCEPTED;
 
-mod report;
 mod words;
 
 #[no_mangle]

@@ -55,8 +55,31 @@ module _ (s : Settings) (t : Table) (queue answers : ℕ) where
       let rows = a .1 .1 .1 in
       let bounds = rows .1 .1 .1 .1 .1 in
       let limits = bounds .1 .1 in
-      by-parts (a .0, (a .1 .0, (a .1 .1 .0, (rows .0, (rows .1 .0, (rows .1 .1 .1 .0, (bounds .0, (bounds .1 .0,
-      (limits .0, (limits .1 .1 .0, (limits .1 .1 .1 .1 .0, (limits .1 .1 .1 .1 .1 .0, tt)))))))))))) p
+      by-parts (
+        a .0,
+        (
+          a .1 .0,
+          (
+            a .1 .1 .0,
+            (
+              rows .0,
+              (
+                rows .1 .0,
+                (
+                  rows .1 .1 .1 .0,
+                  (
+                    bounds .0,
+                    (
+                      bounds .1 .0,
+                      (limits .0, (limits .1 .1 .0, (limits .1 .1 .1 .1 .0, (limits .1 .1 .1 .1 .1 .0, tt)))),
+                    ),
+                  ),
+                ),
+              ),
+            ),
+          ),
+        ),
+      ) p
 
 -- ---- an accepted call of several
 module _ (c : Several) (zeroFault : severalFault c ≡ 0) where
