@@ -181,6 +181,23 @@ pub fn apply_haplotype_in(settings: &Settings, table: &Table, haplotype: &Haplot
     raw::apply_haplotype(settings, table, haplotype, room)
 }
 
+/// The answers of several haplotypes over one table, in their order; the table is checked once. Each is what [`apply_haplotype`] gives, a refusal for its own
+/// parts (5, 6, 9 or 10) among them. A refusal of the whole call, for its settings, its table or a number of haplotypes that is not 1 to 16 (27), answers none.
+/// With one haplotype every refusal is the whole call's.
+pub fn apply_haplotypes(settings: &Settings, table: &Table, haplotypes: &[Haplotype]) -> Result<Vec<Result<Answer, Refusal>>, Refusal> {
+    apply_haplotypes_in(settings, table, haplotypes, &mut Room::new())
+}
+
+/// The same in a room that the caller keeps.
+pub fn apply_haplotypes_in(
+    settings: &Settings,
+    table: &Table,
+    haplotypes: &[Haplotype],
+    room: &mut Room,
+) -> Result<Vec<Result<Answer, Refusal>>, Refusal> {
+    raw::apply_haplotypes(settings, table, haplotypes, room)
+}
+
 /// The program's answer to a job's bytes: its lines of text. A job that the program refuses is answered by a line that says so.
 pub fn answer(job: &[u8]) -> String {
     String::from_utf8_lossy(&raw::answer(job)).into_owned()

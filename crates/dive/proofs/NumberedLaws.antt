@@ -14,12 +14,14 @@ use Rattle.params.specs.Numbers.{Call, firstFault}
 use Rattle.kplib.specs.Answer.{answerWith, noneFound, inSearchMode, foundAfter, answerOf, rowsOf, searches}
 use Rattle.kplib.specs.declared.traverse.Answer.{Answer}
 use Rattle.dive.specs.Numbered.{Numbered, numberedFault, numberedAnswer, numberedRows, recordsAt, recordsOf, numberedSearches}
-use Rattle.dive.specs.NumberChecks.{numberFault, earlierOf}
-use Rattle.dive.proofs.NumberLaws.{numbers-good, numbers-refused, records-suffice, still-refused}
+use Rattle.params.specs.TableOrder.{earlierOf}
+use Rattle.params.proofs.TableOrderLaws.{still-refused}
+use Rattle.dive.specs.NumberChecks.{numberFault}
+use Rattle.dive.proofs.NumberLaws.{numbers-good, numbers-refused, records-suffice}
 use Rattle.dive.proofs.RowLaws.{rows-within}
 
 -- an accepted call has its rows, any other none
-few-rows : (c : Call) (room : ℕ) → (firstFault c ≡ 0 → length (c .table .starts) ≤ room) → length (rowsOf c) ≤ room
+pub few-rows : (c : Call) (room : ℕ) → (firstFault c ≡ 0 → length (c .table .starts) ≤ room) → length (rowsOf c) ≤ room
 unfolding rowsOf
 few-rows c room h = go (firstFault c) refl
   where
@@ -29,7 +31,7 @@ few-rows c room h = go (firstFault c) refl
 
 module _ (n : Numbered) where
   abbrev own : ℕ
-  own = numberFault (length (n .call .table .starts)) (n .numbers) (n .recordRoom)
+  own = numberFault (length (n .call .table .starts)) 1 (n .numbers) (n .recordRoom)
 
   -- ---- the fault, by what the two checks found
   module _ {found other : ℕ} (is : found ≡ own) (others : other ≡ firstFault (n .call)) where

@@ -32,7 +32,7 @@ abbrev put : tie.After-slice-known8 → tie.After-put-records
 put c = c .before .before
 
 -- the numbers are not refused
-good : (c : tie.Else1) → numberFault (length (now (begin (c .before) .args .starts))) (now (begin (c .before) .args .numbers)) (length (now (begin (c .before) .args .records))) ≡ 0
+good : (c : tie.Else1) → numberFault (length (now (begin (c .before) .args .starts))) 1 (now (begin (c .before) .args .numbers)) (length (now (begin (c .before) .args .records))) ≡ 0
 good c = sym (c .before .number-fault .ensures) ∙ c .if1 .left
 
 number-fault-requires : tie.Need-number-fault-requires

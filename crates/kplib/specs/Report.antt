@@ -1,17 +1,17 @@
 -- The answer of a search as seven words.
-use Prim.Native.Nat.{ℕ, _+_}
+use Prim.Native.Nat.{ℕ, _+_, min}
 use mathlib.Core.Bool.{Bool, true, false}
 use mathlib.Core.List.{List, [], _∷_}
 use lib.Ieee.{binary32, toBits}
 use Rattle.kplib.specs.declared.pathscore.Target.{Target}
 use Rattle.kplib.specs.declared.pathscore.Target.the-variants.{Nothing, Whole, Partial}
 use Rattle.kplib.specs.declared.traverse.Answer.{Answer}
 
--- 0 no part list, 1 the whole haplotype, 1 more for each part left out
+-- 0 no part list, 1 the whole haplotype, 1 more for each part left out, up to the largest word
 abbrev pub targetNumber : Target → ℕ
 targetNumber Nothing = 0
 targetNumber Whole = 1
-targetNumber (Partial left) = 1 + left
+targetNumber (Partial left) = min (1 + left) 4294967295
 
 abbrev pub flagNumber : Bool → ℕ
 flagNumber false = 0
