@@ -147,7 +147,8 @@ module _ (s : Settings) (t : Lent) where
   job-total : Agreed t → length (jobBytes (jobFrom s t)) ≡ 42 + length (t .breaks) + (total 2 (t .counts) + total 3 (t .partCounts))
   job-total g =
       let v : length vs ≡ total 2 (t .counts) = variants-total _ _ _ _ _ _ (length (t .starts)) 0 0 (omega (arith, g .counts)) (omega (arith, g .letters)) in
-      let p : length (partsBytes (ps (sum (t .counts)))) ≡ total 3 (t .partCounts) = parts-total _ _ _ _ (length (t .partSizes)) 0 (sum (t .counts)) (omega (arith, g .partCounts)) (omega (arith, g .letters)) in
+      let p : length (partsBytes (ps (sum (t .counts)))) ≡ total 3 (t .partCounts)
+      = parts-total _ _ _ _ (length (t .partSizes)) 0 (sum (t .counts)) (omega (arith, g .partCounts)) (omega (arith, g .letters)) in
       let h = long-haplotypes 0 (t .breaks) (ps (sum (t .counts))) in
       omega (arith, v, p, h, long-job)
 

@@ -4,7 +4,10 @@ pub mod WriteLaws
 pub mod RowLaws
 pub mod HeadLaws
 pub mod CutLaws
+pub mod StretchLaws
 pub mod JobLaws
 pub mod BackLaws
 pub mod SlicesBack
+pub mod GoodForm
+pub mod WalkBack
 pub mod RoundTrip

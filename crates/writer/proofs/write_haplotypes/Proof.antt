@@ -8,7 +8,8 @@ use lib.ListN.{length, drop}
 use lib.Seq.{sets}
 use Rattle.form.specs.Lent.{sum}
 use Rattle.writer.specs.Writing.{inOrder}
-use Rattle.writer.proofs.CutLaws.{ordered-at, haplotypesAt, haplotypes-more, turn-room, turn-fit, last-fit, last-put}
+use Rattle.writer.proofs.CutLaws.{ordered-at}
+use Rattle.writer.proofs.StretchLaws.{haplotypesAt, haplotypes-more, turn-room, turn-fit, last-fit, last-put}
 use Rattle.writer.proofs.write_haplotypes.Statement.{statement}
 use Rattle.writer.proofs.write_haplotypes.Tie as tie
 
