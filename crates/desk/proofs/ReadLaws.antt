@@ -207,7 +207,9 @@ module _ (input : List ℕ) (short : length input ≤ 32768) (t : Lent) (room : 
       given-front =
           let v = variants-are in
           let p = parts-are in
-          let f : Fits (cut (c .variants) (c .parts) (c .breaks) (lentWith theJob t)) = rw cut-with (fits-held theJob rest (some-held input theJob (holds .held)) (few-rows .0) (few-rows .1) (few-breaks input theJob (holds .held)) letters-few) in
+          let some = some-held input theJob (holds .held) in
+          let few = few-breaks input theJob (holds .held) in
+          let f : Fits (cut (c .variants) (c .parts) (c .breaks) (lentWith theJob t)) = rw cut-with (fits-held theJob rest some (few-rows .0) (few-rows .1) few letters-few) in
           rw u-is record {
             starts = placed-long (t .starts) (map (λ (x : Variant). x .start) (theJob .variants)) (c .variants) (simp length-map v);
             ends = placed-long (t .ends) (map (λ (x : Variant). x .end) (theJob .variants)) (c .variants) (simp length-map v);

@@ -131,13 +131,7 @@ fn put_blocks(
 }
 
 // What refuses a whole job of several haplotypes: settings, table and room. The room is that of a search of one.
-fn whole_fault(
-    s: Settings,
-    starts: &[u64],
-    ends: &[u64],
-    sizes: &[i32],
-    features: &[i32],
-) -> u32
+fn whole_fault(s: Settings, starts: &[u64], ends: &[u64], sizes: &[i32], features: &[i32]) -> u32
     requires { ⌜ length (now starts) ≤ 16 ⌝ }
     ensures { λ r. ⌜ r ≡ wholeFault s (tableOf (now (starts .entry)) (now (ends .entry)) (now (sizes .entry)) (now (features .entry))) ⌝ }
 {

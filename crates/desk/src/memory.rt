@@ -16,7 +16,6 @@ use text::put_refused;
 ghost use mathlib.Core.Path.{_≡_};
 ghost use Prim.Native.Nat.{_≤_};
 ghost use lib.ListN.{length};
-ghost use Rattle.params.specs.Numbers.{tableOf, partsOf};
 ghost use Rattle.form.specs.Job.{readJob};
 ghost use Rattle.form.specs.Lent.{lent};
 ghost use Rattle.desk.specs.Desk.{readText};

@@ -97,7 +97,7 @@ refused-short n = number-short (bytesOf "refused ") n
 
 pub hap-short : (i : ℕ) → length (hapText i) ≤ 15
 unfolding hapText bytesOf
-hap-short i = number-short (bytesOf "hap ") i
+hap-short i = number-short (bytesOf "hap ") _
 
 pub answer-short : (a : Answer) (rows records : List ℕ) → length (answerText a rows records) ≤ 101 + 11 * length rows + 11 * length records
 unfolding answerText

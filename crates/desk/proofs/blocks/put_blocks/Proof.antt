@@ -36,8 +36,7 @@ loop-holds c = let s = c .before .before .before .before in blocks-start (s .arg
 stretched : (c : tie.After-stretch-end Inv-loop μ-loop) → let l = c .before .before .loop in let s = start (c .before .before) in let to = c .stretch-end .result in
     ((l .from ≤ to) × (to ≤ length (now (s .args .part-sizes)))) × ((l .from * s .args .width ≤ to * s .args .width) × (to * s .args .width ≤ length (now (s .args .part-features))))
 stretched c =
-    let l = c .before .before .loop in let s = start (c .before .before) in let m = c .before .loop-test .taken in let is = c .stretch-end .ensures in
-    (
+    let l = c .before .before .loop in let s = start (c .before .before) in let m = c .before .loop-test .taken in let is = c .stretch-end .ensures in (
       (rises _ (table s) (parts s) _ _ _ (s .pre) _ _ _ _ (l .inv) m _ is, parts-end _ (table s) (parts s) _ _ _ (s .pre) _ _ _ _ (l .inv) m _ is),
       (rows-rise _ (table s) (parts s) _ _ _ (s .pre) _ _ _ _ (l .inv) m _ is, rows-end _ (table s) (parts s) _ _ _ (s .pre) _ _ _ _ (l .inv) m _ is),
     )

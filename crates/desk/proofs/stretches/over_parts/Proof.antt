@@ -1,6 +1,5 @@
 -- Each turn looks at one haplotype's parts.
 use native.Mathlib.Omega.{arith}
-use denote.Ref.{now}
 use Prim.Native.Nat.{_+_, _-_}
 use lib.ListN.{length}
 use Rattle.desk.proofs.StretchLaws.{Looking, looking-start, looked-rises, looked-long, looking-next, looked-all}
