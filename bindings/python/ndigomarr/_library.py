@@ -54,7 +54,7 @@ def accepted(number: int) -> None:
 
 def entries(k: int) -> int:
     """4^k, or none for a k that the counter refuses before it looks at the room."""
-    return 4**k if 1 <= k <= 6 else 0
+    return 1 << 2 * k if 1 <= k <= 6 else 0
 
 
 def seq_to_kmer(sequence: Union[str, bytes], k: int, negative: bool = False) -> "ctypes.Array[ctypes.c_int32]":

@@ -27,6 +27,11 @@
 
 #![warn(missing_docs)]
 
+/// The page's own example is run as a test.
+#[cfg(doctest)]
+#[doc = include_str!("../README.md")]
+struct Readme;
+
 mod raw;
 mod refusal;
 mod refusals;
