@@ -45,6 +45,7 @@ enum nd_refusal {
     ND_REFUSED_BAD_FLAG = 24, /* a flag not 0 or 1 */
     ND_REFUSED_BYTES_AFTER_END = 25, /* bytes after 0x00 */
     ND_REFUSED_TOO_LARGE = 26, /* over the program's own limits */
+    ND_REFUSED_TOO_MANY_HAPLOTYPES = 27, /* not 1 to 16 haplotypes */
     ND_REFUSED_LITTLE_ROOM = 30, /* too little room */
 };
 
@@ -74,6 +75,7 @@ static inline const char *nd_refusal_text(uint32_t number)
     case ND_REFUSED_BAD_FLAG: return "a flag not 0 or 1";
     case ND_REFUSED_BYTES_AFTER_END: return "bytes after 0x00";
     case ND_REFUSED_TOO_LARGE: return "over the program's own limits";
+    case ND_REFUSED_TOO_MANY_HAPLOTYPES: return "not 1 to 16 haplotypes";
     case ND_REFUSED_LITTLE_ROOM: return "too little room";
     default: return "not in the table of refusals";
     }

@@ -23,5 +23,6 @@ TABLE: Dict[int, Tuple[str, str]] = {
     24: ("BAD_FLAG", "a flag not 0 or 1"),
     25: ("BYTES_AFTER_END", "bytes after 0x00"),
     26: ("TOO_LARGE", "over the program's own limits"),
+    27: ("TOO_MANY_HAPLOTYPES", "not 1 to 16 haplotypes"),
     30: ("LITTLE_ROOM", "too little room"),
 }

@@ -106,6 +106,18 @@ pub fn apply_haplotype(settings: &Settings, table: &Table, haplotype: &Haplotype
     checked(number, answer)
 }
 
+pub fn apply_haplotypes(settings: &Settings, table: &Table, haplotypes: &[Haplotype], room: &mut Room) -> Result<Vec<Result<Answer, Refusal>>, Refusal> {
+    // TEMPORARY until the export is there
+    if haplotypes.len() == 1 {
+        return Ok(vec![Ok(apply_haplotype(settings, table, &haplotypes[0], room)?)]);
+    }
+    if !(1..=16).contains(&haplotypes.len()) {
+        return Err(Refusal::new(27).unwrap());
+    }
+    apply_haplotype(settings, table, &Haplotype::new(settings.k), room)?;
+    Ok(haplotypes.iter().map(|h| apply_haplotype(settings, table, h, room)).collect())
+}
+
 /// The archive writes 0 for no part list, 1 for the whole haplotype, and 1 more for each part left out.
 fn target_of(number: u32) -> Target {
     match number {
