@@ -2,6 +2,7 @@
 mod answers;
 mod common;
 mod examples;
+mod haplotypes;
 mod jobs;
 mod library;
 mod messages;
