@@ -7,6 +7,8 @@ use mathlib.Core.Path.{_≡_, refl, sym, ap, _∙_}
 use mathlib.Core.Bool.{false}
 use mathlib.Core.List.{List, [], _∷_, _++_, append-nil}
 use borrow.Author.Tests.{le-ltb, ltb-false, eq-eqb}
+use lib.IntN.{pos}
+use lib.Ieee.{binary32, toBits, ofInt}
 use lib.ListN.{length, take, drop, length-drop, drop-of-length-le}
 use lib.Seq.{sets, sets-eq, take-length, length-take-le}
 use Rattle.metrics.specs.Placed.{placed}
@@ -42,8 +44,12 @@ few-rows n = go (numberedFault n) refl
 few-records : (n : Numbered) → length (recordsOf n) ≤ length (n .call .table .starts)
 few-records n = omega (arith, record-numbers .as-many n, few-rows n)
 
+zero-bits : toBits binary32 (ofInt binary32 (pos 0)) ≡ 0
+unfolding toBits ofInt
+zero-bits = refl
+
 seven-zeros : (fault : ℕ) → reportWords (answerWith fault noneFound) ≡ fault ∷ 0 ∷ 0 ∷ 0 ∷ 0 ∷ 0 ∷ 0 ∷ 0 ∷ []
-seven-zeros fault = refl
+seven-zeros fault = rw zero-bits refl
 
 nothing-found : (n : Numbered) → (numberedFault n ≡ 0 → ⊥)
     → (numberedRows n ≡ []) × ((recordsOf n ≡ []) × (reportWords (numberedAnswer n) ≡ numberedFault n ∷ 0 ∷ 0 ∷ 0 ∷ 0 ∷ 0 ∷ 0 ∷ 0 ∷ []))
@@ -56,129 +62,6 @@ nothing-found n h = go (numberedFault n) refl h
         × (reportWords (answerWith fault (foundAfter fault (n .call))) ≡ fault ∷ 0 ∷ 0 ∷ 0 ∷ 0 ∷ 0 ∷ 0 ∷ 0 ∷ []))
     go zero e h = absurd (h refl)
     go (suc fault) e h = (refl, (refl, seven-zeros (suc fault)))
-
--- ---- one haplotype
-one-end : (m : ℕ) → endsDisagree (m ∷ []) m ≡ false
-unfolding endsDisagree anyBelow
-one-end m = rw (le-ltb m 0 (omega arith), eq-eqb m m refl) refl
-
-whole-stretch : {A : Type 0} (l : List A) → take (length l - 0) l ≡ l
-whole-stretch l = let z : length l - 0 ≡ length l = omega arith in rw z (take-length l)
-
-module _ (n : Numbered) (room : ℕ) (enough : 8 ≤ room) where
-  abbrev one : NumberedSeveral
-  one = alone n room
-
-  abbrev v : ℕ
-  v = length (n .call .table .starts)
-
-  ends-agree : stretchesDisagree (one .several .partEnds) (one .several .featureEnds) (length (n .call .parts .sizes)) (length (n .call .parts .features)) ≡ false
-  ends-agree = rw (one-end (length (n .call .parts .sizes)), one-end (length (n .call .parts .features))) refl
-
-  same-fault : numberedSeveralFault one ≡ numberedFault n
-  unfolding numberedSeveralFault numberedFault
-  same-fault = rw (ends-agree, mul-one v, le-ltb room 8 enough) refl
-
-  own-parts : partsAt (one .several) 0 ≡ n .call .parts
-  own-parts = rw (whole-stretch (n .call .parts .sizes), whole-stretch (n .call .parts .features)) refl
-
-  -- its own call differs from the call for one in the room for rows and records alone
-  own-fault : numberedFault n ≡ 0 → numberedFault (ownNumbered one 0) ≡ 0
-  unfolding numberedFault
-  own-fault e =
-      let a = none-given (numberedRules n) refl e in
-      let shape = a .1 .1 .1 in
-      let bounds = shape .1 .1 .1 .1 .1 .1 in
-      let limits = bounds .1 .1 .1 in
-      rw (
-        own-parts,
-        le-ltb v v (omega arith),
-        a .0,
-        a .1 .0,
-        a .1 .1 .0,
-        shape .0,
-        shape .1 .0,
-        shape .1 .1 .0,
-        shape .1 .1 .1 .0,
-        shape .1 .1 .1 .1 .0,
-        shape .1 .1 .1 .1 .1 .0,
-        bounds .0,
-        bounds .1 .0,
-        bounds .1 .1 .0,
-        limits .0,
-        limits .1 .0,
-        limits .1 .1 .0,
-        limits .1 .1 .1 .0,
-        limits .1 .1 .1 .1 .0,
-      ) refl
-
-  same-found : foundAfter 0 (ownCall (one .several) 0) ≡ foundAfter 0 (n .call)
-  same-found = ap (λ (p : Parts). foundAfter 0 (callOf (n .call .settings) (n .call .table) p 0 0)) own-parts
-
-  module _ (e : numberedFault n ≡ 0) where
-    own-rows : numberedRows (ownNumbered one 0) ≡ numberedRows n
-    unfolding numberedRows
-    own-rows =
-        ap (λ (fault : ℕ). foundAfter fault (ownCall (one .several) 0) .rows) (own-fault e)
-        ∙ (ap (λ (f : Found). f .rows) same-found ∙ ap (λ (fault : ℕ). foundAfter fault (n .call) .rows) (sym e))
-
-    own-answer : numberedAnswer (ownNumbered one 0) ≡ numberedAnswer n
-    unfolding numberedAnswer
-    own-answer =
-        ap (λ (fault : ℕ). answerWith fault (foundAfter fault (ownCall (one .several) 0))) (own-fault e)
-        ∙ (ap (λ (f : Found). answerWith 0 f) same-found ∙ ap (λ (fault : ℕ). answerWith fault (foundAfter fault (n .call))) (sym e))
-
-    answered-one : numberedAnswered one ≡ 1
-    answered-one = ap (λ (fault : ℕ). answeredAfter fault 1) (same-fault ∙ e)
-
-    -- one list laid down stands at the front
-    laid-one : (width : ℕ) (each : ℕ → List ℕ) (buffer : List ℕ) → length (each 0) ≤ length buffer → laid width each (numberedAnswered one) buffer ≡ placed buffer (each 0)
-    unfolding laid
-    laid-one width each buffer few =
-        let z : 0 * width ≡ 0 = omega arith in
-        let y : 0 + length (each 0) ≡ length (each 0) = omega arith in
-        ap (λ (m : ℕ). laid width each m buffer) answered-one
-        ∙ (ap (λ (at : ℕ). sets buffer at (each 0)) z ∙ (sets-eq (each 0) buffer 0 (omega arith) ∙ ap (λ (at : ℕ). each 0 ++ drop at buffer) y))
-
-    rooms : (v ≤ n .call .answerRoom) × (v ≤ n .recordRoom)
-    unfolding numberedFault
-    rooms =
-        let a = none-given (numberedRules n) refl e in
-        let last = a .1 .1 .1 .1 .1 .1 .1 .1 .1 .1 .1 .1 .1 .1 .1 .1 .1 in
-        (ltb-false (n .call .answerRoom) v (last .0), ltb-false (n .recordRoom) v (last .1 .0))
-
-  -- where it is refused nothing is laid down
-  module _ (h : numberedFault n ≡ 0 → ⊥) where
-    none-answered : numberedAnswered one ≡ 0
-    none-answered = go (numberedSeveralFault one) (λ z. h (sym same-fault ∙ z))
-      where
-        go : (fault : ℕ) → (fault ≡ 0 → ⊥) → answeredAfter fault 1 ≡ 0
-        go zero q = absurd (q refl)
-        go (suc fault) q = refl
-
-    laid-none : (width : ℕ) (each : ℕ → List ℕ) (buffer l : List ℕ) → l ≡ [] → laid width each (numberedAnswered one) buffer ≡ placed buffer l
-    laid-none width each buffer l q =
-        ap (λ (m : ℕ). laid width each m buffer) none-answered ∙ (sym (none-laid width each buffer) ∙ ap (λ (m : List ℕ). placed buffer m) (sym q))
-
-  either : (P : Type 0) → (numberedFault n ≡ 0 → P) → ((numberedFault n ≡ 0 → ⊥) → P) → P
-  either P yes no = go (numberedFault n) refl
-    where
-      go : (fault : ℕ) → numberedFault n ≡ fault → P
-      go zero e = yes e
-      go (suc fault) e = no (λ z. let w : _≡_ {A = ℕ} 0 (suc fault) = sym z ∙ e in absurd (omega arith))
-
-  one-holds : OneOfSeveral n room
-  one-holds = record {
-    refusal = same-fault;
-    rows = λ rows l. either _
-        (λ e. laid-one e v (λ i. numberedRows (ownNumbered one i)) rows (omega (arith, few-rows (ownNumbered one 0), rooms e .0, l)) ∙ ap (λ (m : List ℕ). placed rows m) (own-rows e))
-        (λ h. laid-none h v (λ i. numberedRows (ownNumbered one i)) rows (numberedRows n) (nothing-found n h .0));
-    records = λ records l. either _
-        (λ e. laid-one e v (λ i. recordsOf (ownNumbered one i)) records (omega (arith, few-records (ownNumbered one 0), rooms e .1, l))
-        ∙ ap (λ (m : List ℕ). placed records (recordsAt (n .numbers) m)) (own-rows e))
-        (λ h. laid-none h v (λ i. recordsOf (ownNumbered one i)) records (recordsOf n) (nothing-found n h .1 .0));
-    report = λ e reports l. laid-one e 8 (λ i. reportWords (numberedAnswer (ownNumbered one i))) reports (omega arith) ∙ ap (λ (a : Answer). placed reports (reportWords a)) (own-answer e);
-  }
 
 -- ---- each of several
 stretch-length : (width i many : ℕ) (buffer : List ℕ) → i < many → many * width ≤ length buffer → length (stretchAt width i buffer) ≡ width
@@ -256,6 +139,109 @@ module _ (n : NumberedSeveral) (e : numberedSeveralFault n ≡ 0) where
         let room : many * 8 ≤ length reports = omega (arith, rooms-suffice .1 .1, q) in
         stretch-holds 8 i (λ j. reportWords (numberedAnswer (ownNumbered n j))) reports l (λ j. omega arith) room ∙ eight-placed (numberedAnswer (ownNumbered n i)) (stretchAt 8 i reports)
         (stretch-length 8 i many reports l room);
+  }
+
+-- ---- one haplotype
+one-end : (m : ℕ) → endsDisagree (m ∷ []) m ≡ false
+unfolding endsDisagree anyBelow
+one-end m = rw (le-ltb m 0 (omega arith), eq-eqb m m refl) refl
+
+whole-stretch : {A : Type 0} (l : List A) → take (length l - 0) l ≡ l
+whole-stretch l = let z : length l - 0 ≡ length l = omega arith in rw z (take-length l)
+
+module _ (n : Numbered) (room : ℕ) (enough : 8 ≤ room) where
+  abbrev one : NumberedSeveral
+  one = alone n room
+
+  abbrev v : ℕ
+  v = length (n .call .table .starts)
+
+  ends-agree : stretchesDisagree (one .several .partEnds) (one .several .featureEnds) (length (n .call .parts .sizes)) (length (n .call .parts .features)) ≡ false
+  ends-agree = rw (one-end (length (n .call .parts .sizes)), one-end (length (n .call .parts .features))) refl
+
+  same-fault : numberedSeveralFault one ≡ numberedFault n
+  unfolding numberedSeveralFault numberedFault
+  same-fault = rw (ends-agree, mul-one v, le-ltb room 8 enough) refl
+
+  own-parts : partsAt (one .several) 0 ≡ n .call .parts
+  own-parts = rw (whole-stretch (n .call .parts .sizes), whole-stretch (n .call .parts .features)) refl
+
+  -- its own call is refused by its parts alone, and they are not
+  own-fault : numberedFault n ≡ 0 → numberedFault (ownNumbered one 0) ≡ 0
+  unfolding numberedFault
+  own-fault e =
+      let a = none-given (numberedRules n) refl e in
+      let shape = a .1 .1 .1 in
+      let limits = shape .1 .1 .1 .1 .1 .1 .1 .1 .1 in
+      let parts : firstOf (partsRules (4 ^ n .call .settings .k) (n .call .parts)) ≡ 0 = rw (shape .1 .1 .0, shape .1 .1 .1 .1 .0, limits .1 .0, limits .1 .1 .1 .0) refl in
+      by-parts one (same-fault ∙ e) 0 ∙ (ap (λ (p : Parts). firstOf (partsRules (4 ^ n .call .settings .k) p)) own-parts ∙ parts)
+
+  same-found : foundAfter 0 (ownCall (one .several) 0) ≡ foundAfter 0 (n .call)
+  same-found = ap (λ (p : Parts). foundAfter 0 (callOf (n .call .settings) (n .call .table) p 0 0)) own-parts
+
+  module _ (e : numberedFault n ≡ 0) where
+    own-rows : numberedRows (ownNumbered one 0) ≡ numberedRows n
+    unfolding numberedRows
+    own-rows =
+        ap (λ (fault : ℕ). foundAfter fault (ownCall (one .several) 0) .rows) (own-fault e)
+        ∙ (ap (λ (f : Found). f .rows) same-found ∙ ap (λ (fault : ℕ). foundAfter fault (n .call) .rows) (sym e))
+
+    own-answer : numberedAnswer (ownNumbered one 0) ≡ numberedAnswer n
+    unfolding numberedAnswer
+    own-answer =
+        ap (λ (fault : ℕ). answerWith fault (foundAfter fault (ownCall (one .several) 0))) (own-fault e)
+        ∙ (ap (λ (f : Found). answerWith 0 f) same-found ∙ ap (λ (fault : ℕ). answerWith fault (foundAfter fault (n .call))) (sym e))
+
+    answered-one : numberedAnswered one ≡ 1
+    answered-one = ap (λ (fault : ℕ). answeredAfter fault 1) (same-fault ∙ e)
+
+    -- one list laid down stands at the front
+    laid-one : (width : ℕ) (each : ℕ → List ℕ) (buffer : List ℕ) → length (each 0) ≤ length buffer → laid width each (numberedAnswered one) buffer ≡ placed buffer (each 0)
+    unfolding laid
+    laid-one width each buffer few =
+        let z : 0 * width ≡ 0 = omega arith in
+        let y : 0 + length (each 0) ≡ length (each 0) = omega arith in
+        ap (λ (m : ℕ). laid width each m buffer) answered-one
+        ∙ (ap (λ (at : ℕ). sets buffer at (each 0)) z ∙ (sets-eq (each 0) buffer 0 (omega arith) ∙ ap (λ (at : ℕ). each 0 ++ drop at buffer) y))
+
+    rooms : (v ≤ n .call .answerRoom) × (v ≤ n .recordRoom)
+    unfolding numberedFault
+    rooms =
+        let a = none-given (numberedRules n) refl e in
+        let last = a .1 .1 .1 .1 .1 .1 .1 .1 .1 .1 .1 .1 .1 .1 .1 .1 .1 in
+        (ltb-false (n .call .answerRoom) v (last .0), ltb-false (n .recordRoom) v (last .1 .0))
+
+  -- where it is refused nothing is laid down
+  module _ (h : numberedFault n ≡ 0 → ⊥) where
+    none-answered : numberedAnswered one ≡ 0
+    none-answered = go (numberedSeveralFault one) (λ z. h (sym same-fault ∙ z))
+      where
+        go : (fault : ℕ) → (fault ≡ 0 → ⊥) → answeredAfter fault 1 ≡ 0
+        go zero q = absurd (q refl)
+        go (suc fault) q = refl
+
+    laid-none : (width : ℕ) (each : ℕ → List ℕ) (buffer l : List ℕ) → l ≡ [] → laid width each (numberedAnswered one) buffer ≡ placed buffer l
+    laid-none width each buffer l q =
+        ap (λ (m : ℕ). laid width each m buffer) none-answered ∙ (sym (none-laid width each buffer) ∙ ap (λ (m : List ℕ). placed buffer m) (sym q))
+
+  either : (P : Type 0) → (numberedFault n ≡ 0 → P) → ((numberedFault n ≡ 0 → ⊥) → P) → P
+  either P accepted refused = go (numberedFault n) refl
+    where
+      go : (fault : ℕ) → numberedFault n ≡ fault → P
+      go zero e = accepted e
+      go (suc fault) e = refused (λ z. let w : _≡_ {A = ℕ} 0 (suc fault) = sym z ∙ e in absurd (omega arith))
+
+  one-holds : OneOfSeveral n room
+  one-holds = record {
+    refusal = same-fault;
+    rows = λ rows l. either _
+        (λ e. laid-one e v (λ i. numberedRows (ownNumbered one i)) rows (omega (arith, few-rows (ownNumbered one 0), rooms e .0, l)) ∙ ap (λ (m : List ℕ). placed rows m) (own-rows e))
+        (λ h. laid-none h v (λ i. numberedRows (ownNumbered one i)) rows (numberedRows n) (nothing-found n h .0));
+    records = λ records l. either _
+        (λ e. laid-one e v (λ i. recordsOf (ownNumbered one i)) records (omega (arith, few-records (ownNumbered one 0), rooms e .1, l))
+        ∙ ap (λ (m : List ℕ). placed records (recordsAt (n .numbers) m)) (own-rows e))
+        (λ h. laid-none h v (λ i. recordsOf (ownNumbered one i)) records (recordsOf n) (nothing-found n h .1 .0));
+    report = λ e reports l. laid-one e 8 (λ i. reportWords (numberedAnswer (ownNumbered one i))) reports (omega arith) ∙ ap (λ (a : Answer). placed reports (reportWords a)) (own-answer e);
   }
 
 whole-refused : (n : NumberedSeveral) → (numberedSeveralFault n ≡ 0 → ⊥) → (rows records reports : List ℕ)
