@@ -102,17 +102,49 @@ fn width(shape: &Shape) -> u64 {
     }
 }
 
+/// A haplotype's parts, each from its own stretch of the table.
+fn parts_of(random: &mut Random, shape: &Shape, variants: &[Change]) -> Vec<Change> {
+    let stretch = shape.variants / shape.parts;
+    (0..shape.parts)
+        .map(|part| {
+            let row = part * stretch + random.below(stretch);
+            variants[row].noisy(random)
+        })
+        .collect()
+}
+
+/// Several haplotypes over one table.
+pub struct Shared {
+    pub settings: Settings,
+    pub table: Table,
+    pub haplotypes: Vec<Haplotype>,
+}
+
+impl Shared {
+    pub fn new(random: &mut Random, shape: &Shape, count: usize) -> Self {
+        let variants: Vec<Change> = (0..shape.variants).map(|_| Change::random(random)).collect();
+        let mut table = Table::new(shape.k);
+        for (row, change) in variants.iter().enumerate() {
+            let start = 100 * row as u64;
+            table.add_counted(start, start + width(shape), change.size(), &change.features(shape.k));
+        }
+        let haplotypes = (0..count)
+            .map(|_| {
+                let mut haplotype = Haplotype::new(shape.k);
+                for change in parts_of(random, shape, &variants) {
+                    haplotype.add_counted(change.size(), &change.features(shape.k));
+                }
+                haplotype
+            })
+            .collect();
+        Shared { settings: shape.settings(), table, haplotypes }
+    }
+}
+
 impl Case {
     pub fn new(random: &mut Random, shape: &Shape) -> Self {
         let variants: Vec<Change> = (0..shape.variants).map(|_| Change::random(random)).collect();
-        // every part from its own stretch of the table
-        let stretch = shape.variants / shape.parts;
-        let parts: Vec<Change> = (0..shape.parts)
-            .map(|part| {
-                let row = part * stretch + random.below(stretch);
-                variants[row].noisy(random)
-            })
-            .collect();
+        let parts = parts_of(random, shape, &variants);
         let settings = shape.settings();
         let judged = judges(&settings);
         let starts: Vec<u64> = (0..shape.variants as u64).map(|row| 100 * row).collect();

@@ -302,7 +302,7 @@ fn search_all(settings: &Settings, table: &Table, parts: &Stretches, room: &mut 
 /// What a safe caller cannot see: the lent buffers themselves.
 #[cfg(test)]
 mod tests {
-    use super::{search, Haplotype, Room, Settings, Table};
+    use super::{search, search_all, Haplotype, Left, Room, Settings, Stretches, Table};
 
     const MARK: u32 = 0xdead_0001;
 
@@ -344,5 +344,76 @@ mod tests {
             // both come before the second buffer's 12
             assert_eq!(searched(record_numbers, 3, 2), (wanted, vec![MARK; 3], vec![MARK; 2]));
         }
+    }
+
+    /// The number of a call of several haplotypes, the second refused for a size, over the same rows; and what the buffers hold then, cut to these lengths.
+    fn searched_all(count: usize, rows: usize, records: usize, reports: usize) -> (u32, Left) {
+        let settings = Settings { k: 1, minkfreq: 1, maxpaths: 10, ..Settings::default() };
+        let mut table = Table::new(1);
+        for (at, letters) in [b"AG", b"CT"].into_iter().enumerate() {
+            table.add(at as u64, at as u64, 2, letters, false).expect("few letters");
+        }
+        let haplotypes: Vec<_> = [2, 131_073, 2][..count]
+            .iter()
+            .map(|&size| {
+                let mut haplotype = Haplotype::new(1);
+                haplotype.add(size, b"CT", false).expect("few letters");
+                haplotype
+            })
+            .collect();
+        let mut room = Room::new();
+        room.grow(&settings, table.len());
+        let mut left = Left { rows: vec![MARK; rows], records: vec![MARK; records], reports: vec![MARK; reports] };
+        let number = search_all(&settings, &table, &Stretches::of(&haplotypes), &mut room, &mut left);
+        (number, left)
+    }
+
+    #[test]
+    fn each_haplotype_has_its_own_stretch() {
+        let (number, left) = searched_all(3, 7, 8, 25);
+        assert_eq!(number, 0);
+        assert_eq!(left.rows, [1, MARK, MARK, MARK, 1, MARK, MARK]);
+        assert_eq!(left.records, [1, MARK, MARK, MARK, 1, MARK, MARK, MARK]);
+        assert_eq!(left.reports[8..16], [9, 0, 0, 0, 0, 0, 0, 0]);
+        assert_eq!((left.reports[0..3].to_vec(), left.reports[16..19].to_vec(), left.reports[24]), (vec![0, 1, 1], vec![0, 1, 1], MARK));
+    }
+
+    #[test]
+    fn a_refusal_of_the_whole_call_leaves_every_buffer() {
+        for (rows, records, reports) in [(5, 6, 24), (6, 5, 24), (6, 6, 23)] {
+            let (number, left) = searched_all(3, rows, records, reports);
+            assert_eq!((number, left.rows, left.records, left.reports), (12, vec![MARK; rows], vec![MARK; records], vec![MARK; reports]));
+        }
+        // with one haplotype its own refusals too
+        let settings = Settings { k: 0, ..Settings::default() };
+        let mut left = Left { rows: vec![MARK; 2], records: vec![MARK; 2], reports: vec![MARK; 8] };
+        let number = search_all(&settings, &Table::new(1), &Stretches::of(&[Haplotype::new(1)]), &mut Room::new(), &mut left);
+        assert_eq!((number, left.rows, left.records, left.reports), (1, vec![MARK; 2], vec![MARK; 2], vec![MARK; 8]));
+    }
+
+    #[test]
+    fn ends_that_do_not_fit_are_a_6_of_the_whole_call() {
+        let settings = Settings { k: 1, minkfreq: 1, maxpaths: 10, ..Settings::default() };
+        let mut table = Table::new(1);
+        table.add(0, 0, 2, b"AG", false).expect("few letters");
+        let mut room = Room::new();
+        room.grow(&settings, 1);
+        let whole = || Stretches { sizes: vec![2, 2], features: vec![1, 1, 0, 0, 0, 0, 1, 1], part_ends: vec![1, 2], feature_ends: vec![4, 8] };
+        let mut number = |parts: Stretches| search_all(&settings, &table, &parts, &mut room, &mut Left::new(1, 2, MARK));
+        assert_eq!(number(whole()), 0);
+        for wrong in [
+            Stretches { part_ends: vec![2, 1], ..whole() },
+            Stretches { part_ends: vec![1, 1], ..whole() },
+            Stretches { part_ends: vec![1, 3], ..whole() },
+            Stretches { feature_ends: vec![8, 4], ..whole() },
+            Stretches { feature_ends: vec![4, 9], ..whole() },
+            Stretches { feature_ends: vec![8], ..whole() },
+        ] {
+            assert_eq!(number(wrong), 6);
+        }
+        // a stretch of features that is not its parts' is that haplotype's own 6
+        let mut left = Left::new(1, 2, MARK);
+        assert_eq!(search_all(&settings, &table, &Stretches { feature_ends: vec![3, 8], ..whole() }, &mut room, &mut left), 0);
+        assert_eq!((left.reports[0], left.reports[8]), (6, 6));
     }
 }

@@ -22,7 +22,8 @@ use Rattle.dive.specs.Numbered.{Numbered, numberedRules, numberedFault, numbere
 use Rattle.params.specs.declared.Settings.{Settings}
 use Rattle.kplib.specs.declared.pathscore.Scored.{Scored}
 use Rattle.params.proofs.CheckLaws.{none-given}
-use Rattle.capi.specs.Report.{targetNumber}
+use Rattle.kplib.specs.Report.{targetNumber}
+use Rattle.audit.specs.Targets.{TargetsTold}
 
 -- a result whose target leaves out at most n parts
 abbrev Within : ℕ → Scored → Type 0
@@ -119,7 +120,7 @@ few-parts : (n : Numbered) → numberedFault n ≡ 0 → length (n .call .parts 
 unfolding numberedFault
 few-parts n e = ltb-false 64 (length (n .call .parts .sizes)) (none-given (numberedRules n) refl e .1 .1 .1 .1 .1 .0)
 
-pub target-within : (n : Numbered) → targetNumber (numberedAnswer n .target) ≤ 65
+pub target-within : TargetsTold
 unfolding numberedAnswer
 target-within n = go (numberedFault n) refl
   where

@@ -47,6 +47,12 @@ both x p = let d = p .1 .0 in let e = p .0 in ((λ i. (d i, e i)), p .1 .1)
 recorded : {A B P R : Type 0} {a : A} {b : B} (x : A × B) → (x .1 ≡ b) × (P × ((x .0 ≡ a) × R)) → (x ≡ (a, b)) × (P × R)
 recorded x p = let q = both x (p .0, p .1 .1) in (q .0, (p .1 .0, q .1))
 
+-- records, reports, rows and a number
+recorded-both : {A B N P R : Type 0} {a : A} {b : B} {n : N} (x : A × (B × N)) → (x .1 .1 ≡ n) × (P × ((x .0 ≡ a) × ((x .1 .0 ≡ b) × R))) → (x ≡ (a, (b, n))) × (P × R)
+recorded-both x p =
+    let q = both (x .1) (p .0, p .1 .1 .1) in
+    recorded x (q .0, (p .1 .0, (p .1 .1 .0, q .1)))
+
 pub unique : Unique
 unique = record {
   sizesim = λ a b. one;
@@ -61,11 +67,19 @@ unique = record {
   search-mode = λ s v. one;
   queue-room = λ links keys. one;
   call-fault = λ s starts ends sizes features partSizes partFeatures queueRoom answerRoom. one;
+  parts-fault = λ k partSizes partFeatures. one;
+  several-fault = λ s starts ends sizes features partEnds featureEnds partSizes partFeatures queueRoom answerRoom reportRoom. one;
+  earlier = λ other own. one;
   count-fault = λ starts ends cap. one;
   count-chains = λ starts ends full cap. one;
   apply-haplotype = λ s starts ends sizes features partSizes partFeatures links keys rows. agree;
+  put-report = λ answer report. one;
+  apply-haplotypes = λ s starts ends sizes features partEnds featureEnds partSizes partFeatures links keys rows reports x y p q.
+      agree x y (recorded (x .says) p) (recorded (y .says) q);
   numbered-fault = λ s starts ends sizes features numbers partSizes partFeatures queueRoom answerRoom recordRoom. one;
   apply-numbered = λ s starts ends sizes features numbers partSizes partFeatures links keys rows records x y p q. agree x y (recorded (x .says) p) (recorded (y .says) q);
+  apply-numbered-haplotypes = λ s starts ends sizes features numbers partEnds featureEnds partSizes partFeatures links keys rows records reports x y p q.
+      agree x y (recorded-both (x .says) p) (recorded-both (y .says) q);
   u8-at = λ s at. one;
   u32-at = λ s at. one;
   u64-at = λ s at. one;
@@ -94,4 +108,6 @@ unique = record {
   nd-answer = λ job text. two;
   nd-apply-haplotype = λ settings starts ends sizes features numbers partSizes partFeatures links keys rows records report x y p q.
       agree x y (recorded (x .says) (both (x .says .1) p)) (recorded (y .says) (both (y .says .1) q));
+  nd-apply-haplotypes = λ settings starts ends sizes features numbers partEnds featureEnds partSizes partFeatures links keys rows records reports x y p q.
+      agree x y (recorded-both (x .says) p) (recorded-both (y .says) q);
 }

@@ -11,13 +11,15 @@ use Rattle.metrics.specs.declared.Sim.{Sim}
 use Rattle.metrics.specs.declared.kmer.Counted.{Counted}
 use Rattle.metrics.specs.Promises.{SizesimPromise, SeqsimPromise, OverlapsPromise, SeqToKmerPromise, ClearRowPromise, EntriesPromise, MagnitudePromise, RowOverPromise, BitsOfPromise}
 use Rattle.params.specs.declared.Settings.{Settings}
-use Rattle.params.specs.Promises.{SearchModePromise, QueueRoomPromise, CallFaultPromise, CountFaultPromise}
+use Rattle.params.specs.Promises.{SearchModePromise, QueueRoomPromise, CallFaultPromise, PartsFaultPromise, CountFaultPromise, SeveralFaultPromise, EarlierPromise}
 use Rattle.kplib.specs.Answer.{searches}
 use Rattle.kplib.specs.declared.vargraph.ChainCount.{ChainCount}
 use Rattle.kplib.specs.declared.traverse.Answer.{Answer}
-use Rattle.kplib.specs.Promises.{callLent, CountChainsPromise, ApplyHaplotypePromise}
+use Rattle.kplib.specs.Haplotypes.{severalSearches}
+use Rattle.kplib.specs.Promises.{callLent, severalLent, CountChainsPromise, ApplyHaplotypePromise, PutReportPromise, ApplyHaplotypesPromise}
 use Rattle.dive.specs.Numbered.{numberedSearches}
-use Rattle.dive.specs.Promises.{numberedLent, NumberedFaultPromise, ApplyNumberedPromise}
+use Rattle.dive.specs.NumberedSeveral.{numberedSeveralSearches}
+use Rattle.dive.specs.Promises.{numberedLent, numberedSeveralLent, NumberedFaultPromise, ApplyNumberedPromise, ApplyNumberedHaplotypesPromise}
 use Rattle.form.specs.declared.records.Kind.{Kind}
 use Rattle.form.specs.declared.records.Record.{Record}
 use Rattle.form.specs.declared.records.Scan.{Scan}
@@ -31,7 +33,7 @@ use Rattle.writer.specs.Promises.{WriteJobPromise}
 use Rattle.text.specs.Promises.{PutRefusedPromise, PutHapPromise, PutAnswerPromise}
 use Rattle.desk.specs.Promises.{AnswerPromise}
 use Rattle.capi.specs.Words.{settingsOfWords}
-use Rattle.capi.specs.Promises.{NdSeqToKmerPromise, NdSeqsimPromise, NdSizesimPromise, NdCountChainsPromise, NdAnswerPromise, NdApplyHaplotypePromise}
+use Rattle.capi.specs.Promises.{NdSeqToKmerPromise, NdSeqsimPromise, NdSizesimPromise, NdCountChainsPromise, NdAnswerPromise, NdApplyHaplotypePromise, NdApplyHaplotypesPromise}
 
 -- at most one result meets a promise of a value, and at most one pair a promise of what a slice holds at exit and a value
 abbrev pub One : (A : Type 0) → (A → Type 0) → Type 0
@@ -73,17 +75,31 @@ pub record Unique : Type 0 where
   pub queue-room : (links keys : ℕ) → One ℕ (QueueRoomPromise links keys)
   pub call-fault : (s : Settings) (starts ends : List ℕ) (sizes features partSizes partFeatures : List ℤ) (queueRoom answerRoom : ℕ)
       → One ℕ (CallFaultPromise s starts ends sizes features partSizes partFeatures queueRoom answerRoom)
+  pub parts-fault : (k : ℕ) (partSizes partFeatures : List ℤ) → One ℕ (PartsFaultPromise k partSizes partFeatures)
+  pub several-fault : (s : Settings) (starts ends : List ℕ) (sizes features : List ℤ) (partEnds featureEnds : List ℕ) (partSizes partFeatures : List ℤ)
+      (queueRoom answerRoom reportRoom : ℕ) → One ℕ (SeveralFaultPromise s starts ends sizes features partEnds featureEnds partSizes partFeatures queueRoom answerRoom reportRoom)
+  pub earlier : (other own : ℕ) → One ℕ (EarlierPromise other own)
   pub count-fault : (starts ends : List ℕ) (cap : ℕ) → One ℕ (CountFaultPromise starts ends cap)
   pub count-chains : (starts ends : List ℕ) (full : Bool) (cap : ℕ) → One ChainCount (CountChainsPromise starts ends full cap)
   pub apply-haplotype : (s : Settings) (starts ends : List ℕ) (sizes features partSizes partFeatures : List ℤ) (links keys rows : List ℕ)
       → Agree Answer (searches (callLent s starts ends sizes features partSizes partFeatures links keys rows))
       (λ x. ApplyHaplotypePromise s starts ends sizes features partSizes partFeatures links keys rows (x .links) (x .keys) (x .rows) (x .says))
+  pub put-report : (answer : Answer) (report : List ℕ) → One (List ℕ) (PutReportPromise answer report)
+  pub apply-haplotypes : (s : Settings) (starts ends : List ℕ) (sizes features : List ℤ) (partEnds featureEnds : List ℕ) (partSizes partFeatures : List ℤ) (links keys rows reports : List ℕ)
+      → Agree (List ℕ × ℕ) (severalSearches (severalLent s starts ends sizes features partEnds featureEnds partSizes partFeatures links keys rows reports))
+      (λ x. ApplyHaplotypesPromise s starts ends sizes features partEnds featureEnds partSizes partFeatures links keys rows reports
+      (x .links) (x .keys) (x .rows) (x .says .0) (x .says .1))
   pub numbered-fault : (s : Settings) (starts ends : List ℕ) (sizes features : List ℤ) (numbers : List ℕ) (partSizes partFeatures : List ℤ) (queueRoom answerRoom recordRoom : ℕ)
       → One ℕ (NumberedFaultPromise s starts ends sizes features numbers partSizes partFeatures queueRoom answerRoom recordRoom)
   pub apply-numbered : (s : Settings) (starts ends : List ℕ) (sizes features : List ℤ) (numbers : List ℕ) (partSizes partFeatures : List ℤ) (links keys rows records : List ℕ)
       → Agree (List ℕ × Answer) (numberedSearches (numberedLent s starts ends sizes features numbers partSizes partFeatures links keys rows records))
       (λ x. ApplyNumberedPromise s starts ends sizes features numbers partSizes partFeatures links keys rows records
       (x .links) (x .keys) (x .rows) (x .says .0) (x .says .1))
+  pub apply-numbered-haplotypes : (s : Settings) (starts ends : List ℕ) (sizes features : List ℤ) (numbers partEnds featureEnds : List ℕ) (partSizes partFeatures : List ℤ)
+      (links keys rows records reports : List ℕ)
+      → Agree (List ℕ × (List ℕ × ℕ)) (numberedSeveralSearches (numberedSeveralLent s starts ends sizes features numbers partEnds featureEnds partSizes partFeatures links keys rows records reports))
+      (λ x. ApplyNumberedHaplotypesPromise s starts ends sizes features numbers partEnds featureEnds partSizes partFeatures links keys rows records reports
+      (x .links) (x .keys) (x .rows) (x .says .0) (x .says .1 .0) (x .says .1 .1))
   pub u8-at : (s : List ℕ) (at : ℕ) → One ℕ (U8AtPromise s at)
   pub u32-at : (s : List ℕ) (at : ℕ) → One ℕ (U32AtPromise s at)
   pub u64-at : (s : List ℕ) (at : ℕ) → One ℕ (U64AtPromise s at)
@@ -114,4 +130,10 @@ pub record Unique : Type 0 where
   pub nd-apply-haplotype : (settings starts ends : List ℕ) (sizes features : List ℤ) (numbers : List ℕ) (partSizes partFeatures : List ℤ) (links keys rows records report : List ℕ)
       → Agree (List ℕ × (List ℕ × ℕ)) (numberedSearches (numberedLent (settingsOfWords settings) starts ends sizes features numbers partSizes partFeatures links keys rows records))
       (λ x. NdApplyHaplotypePromise settings starts ends sizes features numbers partSizes partFeatures links keys rows records report
+      (x .links) (x .keys) (x .rows) (x .says .0) (x .says .1 .0) (x .says .1 .1))
+  pub nd-apply-haplotypes : (settings starts ends : List ℕ) (sizes features : List ℤ) (numbers partEnds featureEnds : List ℕ) (partSizes partFeatures : List ℤ)
+      (links keys rows records reports : List ℕ)
+      → Agree (List ℕ × (List ℕ × ℕ)) (numberedSeveralSearches
+      (numberedSeveralLent (settingsOfWords settings) starts ends sizes features numbers partEnds featureEnds partSizes partFeatures links keys rows records reports))
+      (λ x. NdApplyHaplotypesPromise settings starts ends sizes features numbers partEnds featureEnds partSizes partFeatures links keys rows records reports
       (x .links) (x .keys) (x .rows) (x .says .0) (x .says .1 .0) (x .says .1 .1))
