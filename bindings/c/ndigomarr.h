@@ -48,6 +48,37 @@ enum nd_refusal {
     ND_REFUSED_LITTLE_ROOM = 30, /* too little room */
 };
 
+/* The table's words for a refusal's number, for a message. */
+static inline const char *nd_refusal_text(uint32_t number)
+{
+    switch (number) {
+    case ND_ACCEPTED: return "accepted";
+    case ND_REFUSED_BAD_K: return "k not 1 to 6";
+    case ND_REFUSED_BAD_FLOAT: return "a float setting is NaN or outside its range";
+    case ND_REFUSED_BAD_NUMBER: return "a whole-number setting over its limit";
+    case ND_REFUSED_NO_VARIANTS: return "no variants";
+    case ND_REFUSED_TOO_MANY: return "over 64 variants or over 64 parts";
+    case ND_REFUSED_BAD_LENGTHS: return "lent lengths disagree with V, m or 4^k";
+    case ND_REFUSED_START_AFTER_END: return "a start is greater than its end";
+    case ND_REFUSED_FALLING_START: return "a start is less than the row before's";
+    case ND_REFUSED_BAD_SIZE: return "a size over its limit";
+    case ND_REFUSED_BAD_ROW: return "a feature row over its limit";
+    case ND_REFUSED_QUEUE_ROOM: return "search mode, and queue room under 1 + (maxpaths + 1) × V entries";
+    case ND_REFUSED_ANSWER_ROOM: return "answer room under V rows";
+    case ND_REFUSED_TOO_MANY_LETTERS: return "a sequence over its letter limit";
+    case ND_REFUSED_REPEATED_NUMBER: return "a repeated record number";
+    case ND_REFUSED_UNKNOWN_KIND: return "unknown kind";
+    case ND_REFUSED_CUT_SHORT: return "input ends inside a record or without 0x00";
+    case ND_REFUSED_OUT_OF_PLACE: return "out of place";
+    case ND_REFUSED_BAD_PADDING: return "padding not zero";
+    case ND_REFUSED_BAD_FLAG: return "a flag not 0 or 1";
+    case ND_REFUSED_BYTES_AFTER_END: return "bytes after 0x00";
+    case ND_REFUSED_TOO_LARGE: return "over the program's own limits";
+    case ND_REFUSED_LITTLE_ROOM: return "too little room";
+    default: return "not in the table of refusals";
+    }
+}
+
 /* Counts the windows of k letters in a row of 4^k entries, each +1, or -1 for a negative sequence.
  * Refuses by 1, 6 (row_len not 4^k), 13 (over 131,072 letters), in this order. */
 uint32_t nd_seq_to_kmer(const uint8_t *letters, size_t letters_len, uint8_t k, bool negative,
@@ -80,24 +111,27 @@ enum nd_report {
     ND_REPORT_LEN
 };
 
-/* The words of a search's settings, in their order. A flag is no at 0 and yes at any other word; a
- * float's word is its bits. */
-enum nd_settings {
-    ND_SETTING_K,          /* letters of a k-mer, 1 to 6 */
-    ND_SETTING_SQUISH,     /* flag: the gap penalty counts rows beyond the first */
-    ND_SETTING_ONE_TO_ONE, /* flag: each row alone, no search */
-    ND_SETTING_FULL,       /* flag: rows that do not overlap may follow each other */
-    ND_SETTING_MAXPATHS,   /* at most this many paths and one more are scored */
-    ND_SETTING_MAXNODES,   /* tables of more rows are matched one to one */
-    ND_SETTING_FNMAX,      /* how many parts a part list may leave out */
-    ND_SETTING_PILEUPMAX,  /* from this many parts on only the whole haplotype is tried */
-    ND_SETTING_MINKFREQ,   /* k-mers seen fewer times in both rows together are passed over */
-    ND_SETTING_SIZESIM,    /* float: the least similarity of sizes */
-    ND_SETTING_SEQSIM,     /* float: the least similarity of sequences */
-    ND_SETTING_FPENALTY,   /* float: taken off for each part left out */
-    ND_SETTING_GPENALTY,   /* float: taken off for each row too many or too few */
-    ND_SETTINGS_LEN
+/* The settings of a search. A flag is no at 0 and yes at any other number. Made from
+ * docs/settings.tsv by tools/settings --write, as the defaults below are. */
+struct nd_settings {
+    uint32_t k; /* Letters of a k-mer, 1 to 6. */
+    uint32_t squish; /* Prefer paths of few rows: the gap penalty counts rows beyond the first. */
+    uint32_t one_to_one; /* Match each row alone instead of searching paths. */
+    uint32_t full; /* Rows that do not overlap may follow each other; without it only the empty path stands. */
+    uint32_t maxpaths; /* The search scores at most this many paths and one more; at most 4,095. */
+    uint32_t maxnodes; /* Tables of more rows are matched one to one. */
+    uint32_t fnmax; /* How many parts a part list may leave out. */
+    uint32_t pileupmax; /* From this many parts on only the whole haplotype is tried; at most 12. */
+    uint32_t minkfreq; /* K-mers seen fewer times in both rows together are passed over. */
+    float sizesim; /* The least similarity of sizes, 0 to 1. */
+    float seqsim; /* The least similarity of sequences, 0 to 1. */
+    float fpenalty; /* Taken off the score for each part left out, 0 to 1,000. */
+    float gpenalty; /* Taken off the score for each row too many or too few, 0 to 1,000. */
 };
+
+/* kanpig's defaults where they lie in the limits here:
+ * struct nd_settings settings = ND_SETTINGS_DEFAULT; settings.k = 5; */
+#define ND_SETTINGS_DEFAULT {4, 0, 0, 1, 4095, 5000, 3, 12, 2, 0.9f, 0.9f, 0.1f, 0.02f}
 
 /* The path of a table that best explains a haplotype. Rows are row numbers of the table handed
  * over, from 0, ascending, at the front of rows. Of equally good paths the later one wins.
@@ -109,7 +143,7 @@ enum nd_settings {
  * afterwards is open. Refuses by 1 to 12 and by 14 (a repeated record number), which comes after 8
  * and before 9; 6 is also for other than V record numbers, and 12 for fewer than V entries in rows
  * or in records. The report is then all zeros. */
-uint32_t nd_apply_haplotype(const uint32_t settings[ND_SETTINGS_LEN], const uint64_t *starts,
+uint32_t nd_apply_haplotype(const struct nd_settings *settings, const uint64_t *starts,
                             size_t starts_len, const uint64_t *ends, size_t ends_len,
                             const int32_t *sizes, size_t sizes_len, const int32_t *features,
                             size_t features_len, const uint32_t *record_numbers,
