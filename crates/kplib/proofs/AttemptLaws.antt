@@ -6,6 +6,7 @@ use mathlib.Core.List.{List, _++_, append-nil}
 use Prim.Native.Nat.{ℕ, _+_, _-_, _/_, _≤_}
 use native.Mathlib.Omega.{arith}
 use lib.IntN.{ℤ}
+use lib.Ieee.{Float}
 use lib.ListN.{length, take, drop, length-append, length-drop}
 use lib.Seq.{length-take-le, take-length, drop-length, take-at, drop-at}
 use borrow.Rule.Slice.PartMut.{putMid, post-is}
@@ -19,6 +20,7 @@ use Rattle.kplib.specs.declared.pathscore.Verdict.{Verdict}
 use Rattle.kplib.specs.declared.pathscore.Best.{Best}
 use Rattle.kplib.specs.declared.plan.Plan.{Plan}
 use Rattle.kplib.proofs.RowSumLaws.{summable, features-length, features-sum}
+use Rattle.kplib.proofs.StandLaws.{tried}
 use Rattle.kplib.proofs.VerdictLaws.{chain-as-read, list-as-read, lost}
 
 -- ---- two rows in one slice
@@ -69,15 +71,15 @@ module _ {plan : Plan} {features : List ℤ} {chain : List ℕ} {chainSize : ℤ
   pub may-ok : Testable (toZ w32 (ofZ w32 chainSize)) (length chain) (toZ w32 (ofZ w32 size)) (code / 65536) (plan .m - code / 65536)
   may-ok = rw (chain-as-read tests, list-as-read tests) tests
 
-  pub attempt-lost : (best : Best) {t : Bool}
-      → t ≡ mayWin (plan .s) (toZ w32 (ofZ w32 chainSize)) (length chain) (toZ w32 (ofZ w32 size)) (code / 65536) (plan .m - code / 65536) (best .scored .score)
+  pub attempt-lost : (floor : Float) (best : Best) {t : Bool}
+      → t ≡ mayWin (plan .s) (toZ w32 (ofZ w32 chainSize)) (length chain) (toZ w32 (ofZ w32 size)) (code / 65536) (plan .m - code / 65536) floor (best .scored .score)
       → t ≡ false → Ready (best .summed) (take (plan .width) scratch) (featuresOf (plan .width) features chain)
-      → Attempted plan features chain chainSize partFeatures code size (best .scored) best scratch
+      → Attempted plan features chain chainSize partFeatures code size floor (best .scored) best scratch
   unfolding afterCode
-  attempt-lost best f h r = record {
-    best-is =
-        lost (plan .s) (best .scored) chainSize (featuresOf width features chain) (length chain) size (featuresOf width partFeatures list) (code / 65536) partial
-        (sym (rw (chain-as-read tests, list-as-read tests) at f) ∙ h);
+  attempt-lost floor best f h r = record {
+    stands = λ x st.
+        lost (plan .s) floor x (best .scored) chainSize (featuresOf width features chain) (length chain) size (featuresOf width partFeatures list) (code / 65536) partial
+        (sym (rw (chain-as-read tests, list-as-read tests) at f) ∙ h) st;
     ready = r;
   }
 
@@ -149,9 +151,12 @@ module _ {plan : Plan} {features : List ℤ} {chain : List ℕ} {chainSize : ℤ
           });
         })
 
-        pub attempt-scored : (best : Scored) {scored : Scored} {v : Verdict}
+        pub attempt-scored : (floor : Float) (best : Scored) {scored : Scored} {v : Verdict}
             → v ≡ listScore (plan .s) (total (toZ w32 (ofZ w32 chainSize)) (take (plan .width) both) (length chain)) (total (toZ w32 (ofZ w32 size)) (drop (plan .width) both) (code / 65536))
             (plan .m - code / 65536) → scored ≡ greaterOf best (plan .m - code / 65536) v
-            → Attempted plan features chain chainSize partFeatures code size best (record { scored = scored; summed = true }) both
+            → Attempted plan features chain chainSize partFeatures code size floor best (record { scored = scored; summed = true }) both
         unfolding afterCode
-        attempt-scored best k u = record { best-is = u ∙ rw (k, chain-as-read tests, list-as-read tests, front-is, back-is); ready = front-is }
+        attempt-scored floor best {scored} {v} k u =
+            let own : v ≡ listScore (plan .s) (total chainSize (featuresOf width features chain) (length chain)) (total size (featuresOf width partFeatures list) (code / 65536)) partial =
+            k ∙ rw (chain-as-read tests, list-as-read tests, front-is, back-is) in
+            record { stands = λ x st. rw (u, ← own) (tried floor x best partial v st); ready = front-is }

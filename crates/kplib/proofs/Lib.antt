@@ -12,6 +12,7 @@ pub mod SizeSumLaws
 pub mod PartLaws
 pub mod CodeLaws
 mod CodedLaws
+mod StandLaws
 pub mod VerdictLaws
 pub mod OneToOneLaws
 pub mod LayLaws

@@ -456,7 +456,7 @@ seq-safe d n = rw one-fin (go (eqb d 0) (eqb n 0))
         (unfold ofInt in div-up binary32 (round binary32 false n 1) (round binary32 false d 1) (round-up binary32 n 1) (round-up binary32 d 1))
 
 -- ---- what is at most a number that is at most the best does not beat the best
-nothing-beats : (x : Float) → lt x nan ≡ false
+pub nothing-beats : (x : Float) → lt x nan ≡ false
 unfolding lt
 nothing-beats nan = refl
 nothing-beats (inf s) = refl
@@ -469,7 +469,7 @@ nan-under x h = let z : _≡_ {A = ℕ} 0 1 = cc in omega arith
 pub holds : (t : Bool) → t ≡ true → T t
 holds t e = subst (λ (b : Bool). T b) (sym e) tt
 
-no : (t : Bool) → (T t → ⊥) → t ≡ false
+pub no : (t : Bool) → (T t → ⊥) → t ≡ false
 no true h = absurd (h tt)
 no false h = refl
 

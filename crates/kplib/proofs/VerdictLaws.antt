@@ -1,4 +1,4 @@
--- One list against one chain: which way each test goes, and that a list which may not win leaves the best as it is. Assumes nothing.
+-- One list against one chain: which way each test goes, and that a list which may not win changes nothing that the search sees. Assumes nothing.
 use mathlib.Core.Path.{_≡_, refl, sym, ap, _∙_}
 use mathlib.Core.Bool.{Bool, true, false, cond, not, _&&_}
 use mathlib.Core.List.{List}
@@ -13,14 +13,15 @@ use mir.Val.{toZ, ofZ}
 use Rattle.metrics.specs.Similarity.{whole, sizesimValue, seqsimValue, sumD, sumN}
 use Rattle.metrics.proofs.Casts.{one-is}
 use Rattle.kplib.specs.Score.{sign, gapOf, scoreValue, seqsimOfRows, listScore, targetOf, greaterOf}
-use Rattle.kplib.specs.Scoring.{total, Testable, Comparable, mayWin}
+use Rattle.kplib.specs.Scoring.{total, Testable, Comparable, StandsFor, mayWin}
 use Rattle.params.specs.declared.Settings.{Settings}
 use Rattle.kplib.specs.declared.pathscore.Scored.{Scored}
 use Rattle.kplib.specs.declared.pathscore.Target.{Target}
 use Rattle.kplib.specs.declared.pathscore.Verdict.{Verdict}
 use Rattle.kplib.specs.declared.pathscore.Verdict.the-variants.{Skipped, Scores}
 use Rattle.kplib.proofs.WordLaws.{back}
-use Rattle.kplib.proofs.RoundingLaws.{beaten, score-safe}
+use Rattle.kplib.proofs.RoundingLaws.{score-safe}
+use Rattle.kplib.proofs.StandLaws.{pass-floor, pass-best}
 
 -- ---- the sizes as the machine reads them
 module _ {c : ℤ} {chainLen : ℕ} {l : ℤ} {listLen partial : ℕ} (y : Testable c chainLen l listLen partial) where
@@ -69,21 +70,28 @@ module _ {s : Settings} {c : ℤ} {chainRow : List ℤ} {chainLen : ℕ} {l : �
             rw (xe, we, size-is (y .tests) ze, qe, sym te ∙ tf, same-sign (y .tests) f g h, rw (size-is (y .tests) ze) at zf, rw qe at k)
 
 -- ---- whether it may win
-module _ (s : Settings) (best : Float) {c : ℤ} {chainLen : ℕ} {l : ℤ} {listLen partial : ℕ} (y : Testable c chainLen l listLen partial)
+module _ (s : Settings) (floor best : Float) {c : ℤ} {chainLen : ℕ} {l : ℤ} {listLen partial : ℕ} (y : Testable c chainLen l listLen partial)
     {a b : ℕ} (f : a ≡ sign (toZ w32 (ofZ w32 c))) (g : b ≡ sign (toZ w32 (ofZ w32 l))) where
-  pub lost-by-sign : (a ≡ b → ⊥) → false ≡ mayWin s c chainLen l listLen partial best
+  pub lost-by-sign : (a ≡ b → ⊥) → false ≡ mayWin s c chainLen l listLen partial floor best
   unfolding mayWin
   lost-by-sign h = rw (other-sign y f g h)
 
   module _ (h : a ≡ b) {z : Float} (ze : z ≡ sizesimValue (natAbs (toZ w32 (ofZ w32 c))) (natAbs (toZ w32 (ofZ w32 l)))) where
-    pub lost-by-size : lt z (s .sizesim) ≡ true → false ≡ mayWin s c chainLen l listLen partial best
+    pub lost-by-size : lt z (s .sizesim) ≡ true → false ≡ mayWin s c chainLen l listLen partial floor best
     unfolding mayWin
     lost-by-size k = rw (same-sign y f g h, rw (size-is y ze) at k)
 
-    pub by-bound : lt z (s .sizesim) ≡ false → {w : ℕ} → w ≡ gapOf (s .squish) listLen chainLen → {x : Float} → x ≡ scoreValue s (ofBits binary32 0x3f80_0000) z partial w
-        → not (le x best) ≡ mayWin s c chainLen l listLen partial best
-    unfolding mayWin
-    by-bound k we xe = rw (xe, we, one-is, size-is y ze, same-sign y f g h, rw (size-is y ze) at k)
+    module _ (k : lt z (s .sizesim) ≡ false) {w : ℕ} (we : w ≡ gapOf (s .squish) listLen chainLen) {x : Float} (xe : x ≡ scoreValue s (ofBits binary32 0x3f80_0000) z partial w) where
+      bound-is : x ≡ scoreValue s (whole 1) (sizesimValue (natAbs c) (natAbs l)) partial (gapOf (s .squish) listLen chainLen)
+      bound-is = rw (xe, we, one-is, size-is y ze)
+
+      pub lost-by-floor : lt x floor ≡ true → false ≡ mayWin s c chainLen l listLen partial floor best
+      unfolding mayWin
+      lost-by-floor j = rw (same-sign y f g h, rw (size-is y ze) at k, rw bound-is at j)
+
+      pub by-bound : lt x floor ≡ false → not (le x best) ≡ mayWin s c chainLen l listLen partial floor best
+      unfolding mayWin
+      by-bound j = rw (same-sign y f g h, rw (size-is y ze) at k, ← bound-is, j)
 
 -- ---- the better of the two
 pub greater-new : (best : Scored) (partial : ℕ) (v : Verdict) (target : Target) (x size seq : Float) → v ≡ Scores x size seq → target ≡ targetOf partial → lt (best .score) x ≡ true
@@ -99,25 +107,33 @@ pub greater-skipped : (best : Scored) (partial : ℕ) (v : Verdict) → v ≡ Sk
 unfolding greaterOf
 greater-skipped best partial v e = rw e
 
--- a list that may not win is skipped, or scores no more than with seqsim 1.0, which is no more than the best
-lost-with : (best : Scored) (partial : ℕ) (empty sign size bound seq : Bool) (x z q : Float) → (sign && (not size && not bound)) ≡ false
-    → (bound ≡ true → lt (best .score) x ≡ false) → best ≡ greaterOf best partial (cond empty Skipped (cond (not sign) Skipped (cond size Skipped (cond seq Skipped (Scores x z q)))))
-unfolding greaterOf
-lost-with best partial true sign size bound seq x z q h k = refl
-lost-with best partial false false size bound seq x z q h k = refl
-lost-with best partial false true true bound seq x z q h k = refl
-lost-with best partial false true false bound true x z q h k = refl
-lost-with best partial false true false true false x z q h k = rw (k refl)
-lost-with best partial false true false false false x z q h k = let z : _≡_ {A = ℕ} 0 1 = cc in absurd (omega arith)
+-- a list that may not win is skipped, or scores no more than with seqsim 1.0, which is no more than the best or below the floor
+module _ (floor : Float) (full best : Scored) (partial : ℕ) where
+  lost-with : (empty sign size low bound seq : Bool) (x z q : Float) → (sign && (not size && (not low && not bound))) ≡ false
+      → (low ≡ true → StandsFor floor (greaterOf full partial (Scores x z q)) best) → (bound ≡ true → StandsFor floor (greaterOf full partial (Scores x z q)) best)
+      → StandsFor floor full best
+      → StandsFor floor (greaterOf full partial (cond empty Skipped (cond (not sign) Skipped (cond size Skipped (cond seq Skipped (Scores x z q)))))) best
+  unfolding greaterOf
+  lost-with true sign size low bound seq x z q h j k st = st
+  lost-with false false size low bound seq x z q h j k st = st
+  lost-with false true true low bound seq x z q h j k st = st
+  lost-with false true false low bound true x z q h j k st = st
+  lost-with false true false true bound false x z q h j k st = j refl
+  lost-with false true false false true false x z q h j k st = k refl
+  lost-with false true false false false false x z q h j k st = let z : _≡_ {A = ℕ} 0 1 = cc in absurd (omega arith)
 
-pub lost : (s : Settings) (best : Scored) (c : ℤ) (chainRow : List ℤ) (chainLen : ℕ) (l : ℤ) (listRow : List ℤ) (listLen partial : ℕ)
-    → mayWin s c chainLen l listLen partial (best .score) ≡ false → best ≡ greaterOf best partial (listScore s (total c chainRow chainLen) (total l listRow listLen) partial)
+pub lost : (s : Settings) (floor : Float) (full best : Scored) (c : ℤ) (chainRow : List ℤ) (chainLen : ℕ) (l : ℤ) (listRow : List ℤ) (listLen partial : ℕ)
+    → mayWin s c chainLen l listLen partial floor (best .score) ≡ false → StandsFor floor full best
+    → StandsFor floor (greaterOf full partial (listScore s (total c chainRow chainLen) (total l listRow listLen) partial)) best
 unfolding mayWin listScore
-lost s best c chainRow chainLen l listRow listLen partial h =
+lost s floor full best c chainRow chainLen l listRow listLen partial h st =
     let g = gapOf (s .squish) listLen chainLen in
     let z = sizesimValue (natAbs c) (natAbs l) in
     let d = sumD (s .minkfreq) chainRow listRow in
     let n = sumN (s .minkfreq) chainRow listRow in
-    lost-with best partial (s .squish && eqb chainLen 0) (eqb (sign c) (sign l)) (lt z (s .sizesim)) (le (scoreValue s (whole 1) z partial g) (best .score))
-    (lt (seqsimValue d n) (s .seqsim)) (scoreValue s (seqsimValue d n) z partial g) z (seqsimValue d n) h
-    (λ k. beaten (scoreValue s (seqsimValue d n) z partial g) (scoreValue s (whole 1) z partial g) (best .score) (score-safe s d n z partial g) k)
+    let x = scoreValue s (seqsimValue d n) z partial g in
+    let bound = scoreValue s (whole 1) z partial g in
+    lost-with floor full best partial (s .squish && eqb chainLen 0) (eqb (sign c) (sign l)) (lt z (s .sizesim)) (lt bound floor) (le bound (best .score))
+    (lt (seqsimValue d n) (s .seqsim)) x z (seqsimValue d n) h
+    (λ k. pass-floor floor full best partial x z (seqsimValue d n) bound (score-safe s d n z partial g) k st)
+    (λ k. pass-best floor full best partial x z (seqsimValue d n) bound (score-safe s d n z partial g) k st) st

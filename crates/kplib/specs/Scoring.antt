@@ -164,12 +164,17 @@ pub record Paired (plan : Plan) (chainSize : ℤ) (chainLen : ℕ) (listSize : �
   pub most : listLen ≤ plan .m
   pub comparable : Comparable (plan .s) chainSize (take (plan .width) scratch) chainLen listSize (drop (plan .width) scratch) listLen (plan .m - listLen)
 
--- whether a list passes the sign and size tests and, were its seqsim 1.0, would score above the best
-unfoldable pub mayWin : Settings → ℤ → ℕ → ℤ → ℕ → ℕ → Float → Bool
-mayWin s chainSize chainLen listSize listLen partial best =
+-- r may stand for the score x in a search whose best is at `floor`: it is x, or both are below the floor and replace nothing there
+pub data StandsFor (floor : Float) : Scored → Scored → Type 0 where
+  same : {x r : Scored} → r ≡ x → StandsFor floor x r
+  below : {x r : Scored} → lt (x .score) floor ≡ true → lt (r .score) floor ≡ true → StandsFor floor x r
+
+-- whether a list passes the sign and size tests and, were its seqsim 1.0, would score above the best and no lower than the floor
+unfoldable pub mayWin : Settings → ℤ → ℕ → ℤ → ℕ → ℕ → Float → Float → Bool
+mayWin s chainSize chainLen listSize listLen partial floor best =
     let size = sizesimValue (natAbs chainSize) (natAbs listSize) in
-    eqb (sign chainSize) (sign listSize)
-    && (not (lt size (s .sizesim)) && not (le (scoreValue s (whole 1) size partial (gapOf (s .squish) listLen chainLen)) best))
+    let bound = scoreValue s (whole 1) size partial (gapOf (s .squish) listLen chainLen) in
+    eqb (sign chainSize) (sign listSize) && (not (lt size (s .sizesim)) && (not (lt bound floor) && not (le bound best)))
 
 -- ---- the lists as they lie, each a code and a size
 
@@ -219,8 +224,10 @@ pub record Attempt (plan : Plan) (features : List ℤ) (chain : List ℕ) (chain
   pub scratch-is : length scratch ≡ plan .width + plan .width
   pub ready : Ready summed (take (plan .width) scratch) (featuresOf (plan .width) features chain)
 
-pub record Attempted (plan : Plan) (features : List ℤ) (chain : List ℕ) (chainSize : ℤ) (partFeatures : List ℤ) (code : ℕ) (size : ℤ) (best : Scored) (r : Best) (scratch : List ℤ) : Type 0 where
-  pub best-is : r .scored ≡ afterCode plan partFeatures (chainTotal (plan .width) features chain chainSize) best code size
+-- what the best stood for, with the list tried, is what the result stands for
+pub record Attempted (plan : Plan) (features : List ℤ) (chain : List ℕ) (chainSize : ℤ) (partFeatures : List ℤ) (code : ℕ) (size : ℤ) (floor : Float) (best : Scored) (r : Best)
+    (scratch : List ℤ) : Type 0 where
+  pub stands : (x : Scored) → StandsFor floor x best → StandsFor floor (afterCode plan partFeatures (chainTotal (plan .width) features chain chainSize) x code size) (r .scored)
   pub ready : Ready (r .summed) (take (plan .width) scratch) (featuresOf (plan .width) features chain)
 
 -- ---- a chain, and one-to-one

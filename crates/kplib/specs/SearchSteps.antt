@@ -4,7 +4,7 @@ use mathlib.Core.Path.{_≡_}
 use mathlib.Core.Bool.{Bool, true, false, cond}
 use mathlib.Core.List.{List, map, reverse}
 use lib.Dec.{eqb}
-use lib.Ieee.{le}
+use lib.Ieee.{Float, le}
 use lib.IntN.{ℤ, natAbs}
 use lib.ListN.{length}
 use Rattle.paths.specs.Chains.{firstAfter}
@@ -15,7 +15,7 @@ use Rattle.params.specs.Checked.{Flat, Sized, Checked}
 use Rattle.params.specs.Numbers.{Table, Parts}
 use Rattle.kplib.specs.Sums.{sizeOf, featuresOf, totalOf}
 use Rattle.kplib.specs.Score.{start}
-use Rattle.kplib.specs.Scoring.{AllBelow, Planned, Coded, codedScore}
+use Rattle.kplib.specs.Scoring.{AllBelow, Planned, Coded, codedScore, StandsFor}
 use Rattle.kplib.specs.GraphWalk.{flagOf}
 use Rattle.kplib.specs.Search.{Result, distanceTo, resultWith, startResult, noLower, followsIn, distanceIn, resultOf}
 use Rattle.params.specs.declared.Settings.{Settings}
@@ -149,9 +149,9 @@ pub record Weighable (plan : Plan) (sizes features partFeatures : List ℤ) (cod
   pub most : length (reverse (chainOf links entry)) ≤ 64
   pub scratch-is : length scratch ≡ plan .width + plan .width
 
-pub record WeighedAs (plan : Plan) (sizes features partFeatures : List ℤ) (codes : List ℕ) (listSizes : List ℤ) (rows : List ℕ) (r : Weighed) : Type 0 where
+pub record WeighedAs (plan : Plan) (sizes features partFeatures : List ℤ) (codes : List ℕ) (listSizes : List ℤ) (rows : List ℕ) (floor : Float) (r : Weighed) : Type 0 where
   pub size-is : r .size ≡ sizeOf sizes rows
-  pub scored-is : r .scored ≡ scoreBy plan sizes features partFeatures codes listSizes rows
+  pub stands : StandsFor floor (scoreBy plan sizes features partFeatures codes listSizes rows) (r .scored)
 
 -- what does not change in a search
 pub record Searchable (q : Told) (linkRoom keyRoom scratchRoom : ℕ) : Type 0 where

@@ -8,7 +8,7 @@ ghost use lib.ListN.{length, take, drop};
 ghost use Rattle.metrics.specs.Similarity.{sizesimValue, magnitudeSum};
 ghost use Rattle.kplib.specs.Sums.{rowPlus, featuresFrom, featuresOf};
 ghost use Rattle.kplib.specs.Score.{sign, seqsimOfRows, gapOf, scoreValue, listScore, start, targetOf, greaterOf};
-ghost use Rattle.kplib.specs.Scoring.{Summable, Ready, Testable, Comparable, Paired, mayWin, total, chainTotal, codedScore, Attempt, Attempted, noneTried, Scorable};
+ghost use Rattle.kplib.specs.Scoring.{Summable, Ready, Testable, Comparable, Paired, StandsFor, mayWin, total, chainTotal, codedScore, Attempt, Attempted, noneTried, Scorable};
 use crate::haplotype::positions;
 use crate::plan::Plan;
 use metrics::Sim;
@@ -222,7 +222,7 @@ fn ready(table: &[i32], chain: &[u32], row: &mut [i32], summed: bool)
     sum_features(table, chain, row);
 }
 
-// Whether a list passes the sign and size tests and could still beat the best: with seqsim 1.0 it scores no less than with its own.
+// Whether a list passes the sign and size tests and could still beat the best and reach the floor: with seqsim 1.0 it scores no less than with its own.
 fn may_win(
     s: Settings,
     chain_size: i32,
@@ -230,10 +230,11 @@ fn may_win(
     list_size: i32,
     list_len: usize,
     partial: usize,
+    floor: f32,
     best: f32,
 ) -> bool
     requires { ⌜ Testable «chain_size» «chain_len» «list_size» «list_len» partial ⌝ }
-    ensures { λ r. ⌜ r ≡ mayWin s «chain_size» «chain_len» «list_size» «list_len» partial best ⌝ }
+    ensures { λ r. ⌜ r ≡ mayWin s «chain_size» «chain_len» «list_size» «list_len» partial floor best ⌝ }
 {
     if sign_of(chain_size) != sign_of(list_size) {
         return false;
@@ -243,7 +244,11 @@ fn may_win(
         return false;
     }
     let g = gap_of(s.squish, list_len, chain_len);
-    !(score_value(s, 1.0, size, partial, g) <= best)
+    let bound = score_value(s, 1.0, size, partial, g);
+    if bound < floor {
+        return false;
+    }
+    !(bound <= best)
 }
 
 // A list's score against a chain. The front of `scratch` is the chain's row, its rest the list's.
@@ -275,7 +280,7 @@ fn score_rows(
     )
 }
 
-// One laid list against the chain. The front of `scratch` is the chain's row, its rest the list's.
+// One laid list against the chain, in a search whose best is at `floor`. The front of `scratch` is the chain's row, its rest the list's.
 fn try_list(
     plan: Plan,
     features: &[i32],
@@ -286,17 +291,18 @@ fn try_list(
     size: i32,
     chosen: &mut [u32],
     scratch: &mut [i32],
+    floor: f32,
     best: Best,
 ) -> Best
     requires { ⌜ Attempt plan (now features) (now chain) «chain_size» (now «part_features») code size (now chosen) (now scratch) (best .summed) ⌝ }
-    ensures { λ r. ⌜ Attempted plan (now (features .entry)) (now (chain .entry)) «chain_size» (now («part_features» .entry)) code size (best .scored) r (now (scratch .exit)) ⌝ }
+    ensures { λ r. ⌜ Attempted plan (now (features .entry)) (now (chain .entry)) «chain_size» (now («part_features» .entry)) code size floor (best .scored) r (now (scratch .exit)) ⌝ }
 {
     let s = plan.s;
     let n = (code / 65536) as usize;
     let partial = plan.m - n;
     let len = chain.len();
     let old = best.scored;
-    if !may_win(s, chain_size, len, size, n, partial, old.score) {
+    if !may_win(s, chain_size, len, size, n, partial, floor, old.score) {
         return best;
     }
     let w = plan.width;
@@ -322,7 +328,7 @@ fn none_tried() -> Best
     }
 }
 
-// The score of a chain of this size. The scratch is lent, so that nothing is cleared for a chain that no list passes the tests with.
+// The score of a chain of this size, for a search whose best is at `floor`: a list that cannot reach it is passed over. The scratch is lent, so that nothing is cleared for a chain that no list passes the tests with.
 pub(crate) fn score_chain(
     plan: Plan,
     features: &[i32],
@@ -333,10 +339,12 @@ pub(crate) fn score_chain(
     list_sizes: &[i32],
     chosen: &mut [u32],
     scratch: &mut [i32],
+    floor: f32,
 ) -> Scored
     requires { ⌜ Scorable plan (now features) (now chain) «chain_size» (now «part_features») (now codes) (now «list_sizes») (now chosen) (now scratch) ⌝ }
-    ensures { λ r. ⌜ r ≡ codedScore plan (now («part_features» .entry)) (now (codes .entry)) (now («list_sizes» .entry))
-        (chainTotal (plan .width) (now (features .entry)) (now (chain .entry)) «chain_size») ⌝ }
+    ensures { λ r.
+        let chain = chainTotal (plan .width) (now (features .entry)) (now (chain .entry)) «chain_size» in
+        ⌜ StandsFor floor (codedScore plan (now («part_features» .entry)) (now (codes .entry)) (now («list_sizes» .entry)) chain) r ⌝ }
 {
     let mut best = none_tried();
     let mut i: usize = 0;
@@ -351,6 +359,7 @@ pub(crate) fn score_chain(
             list_sizes[i],
             chosen,
             scratch,
+            floor,
             best,
         );
         i += 1;

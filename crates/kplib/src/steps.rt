@@ -40,7 +40,7 @@ pub(crate) struct Progress {
     pub best: Leader,
 }
 
-// Reads an entry's chain back, and scores it.
+// Reads an entry's chain back, and scores it for a search whose best is at `floor`.
 fn weigh(
     plan: Plan,
     sizes: &[i32],
@@ -51,10 +51,11 @@ fn weigh(
     links: &[u32],
     entry: usize,
     scratch: &mut [i32],
+    floor: f32,
 ) -> Weighed
     requires { ⌜ Weighable plan (now sizes) (now features) (now «part_features») (now codes) (now «list_sizes») (now links) entry (now scratch) ⌝ }
     ensures { λ r. ⌜ WeighedAs plan (now (sizes .entry)) (now (features .entry)) (now («part_features» .entry)) (now (codes .entry)) (now («list_sizes» .entry))
-        (reverse (chainOf (now (links .entry)) entry)) r ⌝ }
+        (reverse (chainOf (now (links .entry)) entry)) floor r ⌝ }
 {
     let mut chain = [0u32; 64];
     let mut chosen = [0u32; 64];
@@ -70,6 +71,7 @@ fn weigh(
         list_sizes,
         &mut chosen,
         scratch,
+        floor,
     );
     Weighed { size, scored }
 }
@@ -129,6 +131,7 @@ fn step(
         links,
         entry,
         scratch,
+        at.best.scored.score,
     );
     let scored = weighed.scored;
     let end = end_node(links, entry);

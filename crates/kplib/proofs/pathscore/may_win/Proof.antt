@@ -1,5 +1,5 @@
 -- The sign and size tests of a list, and the bound of its score.
-use Rattle.kplib.proofs.VerdictLaws.{lost-by-sign, lost-by-size, by-bound}
+use Rattle.kplib.proofs.VerdictLaws.{lost-by-sign, lost-by-size, lost-by-floor, by-bound}
 use borrow.Author.Needs.{needs}
 use Rattle.kplib.proofs.pathscore.may_win.Statement.{statement}
 use Rattle.kplib.proofs.pathscore.may_win.Tie as tie
@@ -11,6 +11,9 @@ begin c = c .before .before
 abbrev signed : tie.After-struct-known → tie.Else1
 signed c = c .before .before
 
+abbrev sized : tie.After-score-value → tie.Else2
+sized c = c .before .before
+
 sign-of-requires : tie.Need-sign-of-requires
 sign-of-requires c κs = search needs
 
@@ -20,7 +23,7 @@ sign-of-requires-2 c κs = search needs
 returns : tie.Need-returns
 returns c =
     let b = c .before in let s = begin b in
-    lost-by-sign (s .args .s) (s .args .best) (s .pre) (b .before .sign-of .ensures) (b .sign-of2 .ensures) (c .if1 .taken)
+    lost-by-sign (s .args .s) (s .args .floor) (s .args .best) (s .pre) (b .before .sign-of .ensures) (b .sign-of2 .ensures) (c .if1 .taken)
 
 size-alike-requires : tie.Need-size-alike-requires
 size-alike-requires c κs = search needs
@@ -28,7 +31,7 @@ size-alike-requires c κs = search needs
 returns-2 : tie.Need-returns-2
 returns-2 c =
     let z = c .before .before in let e = signed (c .before) in let b = e .before in let s = begin b in
-    lost-by-size (s .args .s) (s .args .best) (s .pre) (b .before .sign-of .ensures) (b .sign-of2 .ensures) (e .if1 .left) (z .size-alike .ensures) (c .if2 .taken)
+    lost-by-size (s .args .s) (s .args .floor) (s .args .best) (s .pre) (b .before .sign-of .ensures) (b .sign-of2 .ensures) (e .if1 .left) (z .size-alike .ensures) (c .if2 .taken)
 
 gap-of-requires : tie.Need-gap-of-requires
 gap-of-requires c κs = search needs
@@ -38,9 +41,15 @@ score-value-requires c κs = search needs
 
 returns-3 : tie.Need-returns-3
 returns-3 c =
-    let f = c .before .before in let z = f .before .before in let e = signed (f .before) in let b = e .before in let s = begin b in
-    by-bound (s .args .s) (s .args .best) (s .pre) (b .before .sign-of .ensures) (b .sign-of2 .ensures) (e .if1 .left) (z .size-alike .ensures) (f .if2 .left)
-    (c .before .gap-of .ensures .0) (c .score-value .ensures)
+    let v = c .before in let f = sized v in let z = f .before .before in let e = signed (f .before) in let b = e .before in let s = begin b in
+    lost-by-floor (s .args .s) (s .args .floor) (s .args .best) (s .pre) (b .before .sign-of .ensures) (b .sign-of2 .ensures) (e .if1 .left) (z .size-alike .ensures) (f .if2 .left)
+    (v .before .gap-of .ensures .0) (v .score-value .ensures) (c .if3 .taken)
+
+returns-4 : tie.Need-returns-4
+returns-4 c =
+    let v = c .before in let f = sized v in let z = f .before .before in let e = signed (f .before) in let b = e .before in let s = begin b in
+    by-bound (s .args .s) (s .args .floor) (s .args .best) (s .pre) (b .before .sign-of .ensures) (b .sign-of2 .ensures) (e .if1 .left) (z .size-alike .ensures) (f .if2 .left)
+    (v .before .gap-of .ensures .0) (v .score-value .ensures) (c .if3 .left)
 
 pub may-win-spec : {M : Type 1} → statement M
 may-win-spec =
@@ -53,4 +62,5 @@ may-win-spec =
     returns-2
     gap-of-requires
     score-value-requires
-    returns-3)
+    returns-3
+    returns-4)

@@ -48,7 +48,7 @@ may-win-requires c κs = may-ok (begin c .pre)
 returns : tie.Need-returns
 returns c =
     let s = begun (c .before) in
-    attempt-lost (s .pre) (s .args .best) (c .before .may-win .ensures) (not-true (c .before .may-win .result) (c .if1 .taken)) (s .pre .ready)
+    attempt-lost (s .pre) (s .args .floor) (s .args .best) (c .before .may-win .ensures) (not-true (c .before .may-win .result) (c .if1 .taken)) (s .pre .ready)
 
 positions-requires : tie.Need-positions-requires
 positions-requires c κs =
@@ -104,7 +104,7 @@ same-length-2 c = search needs
 returns-2 : tie.Need-returns-2
 returns-2 c =
     let l = summed (c .before .before) in let r = both l in let s = given r in
-    attempt-scored (s .pre) (r .ready .ensures) (listed r .positions .ensures .1) (l .sum-features .ensures) (s .args .best .scored) (c .before .score-rows .ensures) (c .greater-of .ensures)
+    attempt-scored (s .pre) (r .ready .ensures) (listed r .positions .ensures .1) (l .sum-features .ensures) (s .args .floor) (s .args .best .scored) (c .before .score-rows .ensures) (c .greater-of .ensures)
 
 pub try-list-spec : {M : Type 1} → statement M
 try-list-spec =
