@@ -7,7 +7,7 @@ use native.Mathlib.Omega.{arith}
 use native.Mathlib.Numerals.{add-one}
 use lib.IntN.{ℤ, pos}
 use lib.Ieee.{Float}
-use lib.ListN.{length, getD, take, drop, drop-of-length-le}
+use lib.ListN.{length, getD, drop, drop-of-length-le}
 use lib.Seq.{drop-cons}
 use mir.Syntax.{w32}
 use mir.Val.{toZ, ofZ}
@@ -35,7 +35,7 @@ module _ (after : Scored → ℕ → ℤ → Scored) (codes : List ℕ) (sizes :
 -- after i lists: `full` is the best with no list passed over
 pub record Tried (plan : Plan) (features : List ℤ) (chain : List ℕ) (chainSize : ℤ) (partFeatures : List ℤ) (codes : List ℕ) (sizes : List ℤ) (floor : Float) (best : Best)
     (scratch : List ℤ) (i : ℕ) : Type 0 where
-  pub ready : Ready (best .summed) (take (plan .width) scratch) (featuresOf (plan .width) features chain)
+  pub ready : Ready (best .summed) scratch (best .weight) (featuresOf (plan .width) features chain)
   pub full : Scored
   pub stands : StandsFor floor full (best .scored)
   pub rest : afterCodes (afterCode plan partFeatures (chainTotal (plan .width) features chain chainSize)) full (drop i codes) (drop i sizes)
@@ -45,7 +45,7 @@ pub none-tried : (plan : Plan) (features : List ℤ) (chain : List ℕ) (chainSi
     {b : Best} → b ≡ noneTried → Tried plan features chain chainSize partFeatures codes sizes floor b scratch 0
 unfolding codedScore
 none-tried plan features chain chainSize partFeatures codes sizes floor scratch e = record {
-  ready = subst (λ (x : Best). Ready (x .summed) (take (plan .width) scratch) (featuresOf (plan .width) features chain)) (sym e) tt;
+  ready = subst (λ (x : Best). Ready (x .summed) scratch (x .weight) (featuresOf (plan .width) features chain)) (sym e) tt;
   full = start;
   stands = same (ap (λ (x : Best). x .scored) e);
   rest = refl;
@@ -60,9 +60,9 @@ module _ {plan : Plan} {features : List ℤ} {chain : List ℕ} {chainSize : ℤ
     s-back : toZ w32 (ofZ w32 (getD sizes i (pos 0))) ≡ getD sizes i (pos 0)
     s-back = back (getD sizes i (pos 0)) (omega (arith, y .coded .each i h .size-small))
 
-    pub attempt : {chosen' : List ℕ} {scratch' : List ℤ} {t : Bool} → length chosen' ≡ length chosen → length scratch' ≡ length scratch
-        → Ready t (take (plan .width) scratch') (featuresOf (plan .width) features chain)
-        → Attempt plan features chain (toZ w32 (ofZ w32 chainSize)) partFeatures (getD codes i 0) (toZ w32 (ofZ w32 (getD sizes i (pos 0)))) chosen' scratch' t
+    pub attempt : {chosen' : List ℕ} {scratch' : List ℤ} {t : Bool} {w : ℕ} → length chosen' ≡ length chosen → length scratch' ≡ length scratch
+        → Ready t scratch' w (featuresOf (plan .width) features chain)
+        → Attempt plan features chain (toZ w32 (ofZ w32 chainSize)) partFeatures (getD codes i 0) (toZ w32 (ofZ w32 (getD sizes i (pos 0)))) chosen' scratch' t w
     attempt lc ls r = rw (c-back, s-back) (record {
       planned = y .planned;
       chained = y .chained;

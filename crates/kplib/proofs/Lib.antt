@@ -8,6 +8,9 @@ pub mod WordLaws
 pub mod SimilarityLaws
 pub mod RoundingLaws
 pub mod RowSumLaws
+mod PartSumLaws
+mod BoundLaws
+mod BlockLaws
 pub mod SizeSumLaws
 pub mod PartLaws
 pub mod CodeLaws

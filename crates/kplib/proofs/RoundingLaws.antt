@@ -478,9 +478,12 @@ beaten nan y best lost h = nothing-beats best
 beaten x nan best gone h = absurd (nan-under best h)
 beaten x y best (kept k) h = no (lt best x) (λ t. lt-not-le best x t (le-trans x y best (Le→le x y k) (holds (le y best) h)))
 
+-- a greater seqsim scores no less
+pub score-grows : (s : Settings) (x y size : Float) (partial g : ℕ) → Safe x y → Safe (scoreValue s x size partial g) (scoreValue s y size partial g)
+score-grows s x y size partial g h =
+    sub-safe binary32 _ _ (mul binary32 (s .gpenalty) (whole g))
+    (sub-safe binary32 _ _ (mul binary32 (s .fpenalty) (whole partial)) (half-safe _ _ (add-safe binary32 x y size h)))
+
 -- the score of a list is at most what it were if its seqsim were 1.0
 pub score-safe : (s : Settings) (d n : ℕ) (size : Float) (partial g : ℕ) → Safe (scoreValue s (seqsimValue d n) size partial g) (scoreValue s (whole 1) size partial g)
-score-safe s d n size partial g =
-    sub-safe binary32 _ _ (mul binary32 (s .gpenalty) (whole g))
-    (sub-safe binary32 _ _ (mul binary32 (s .fpenalty) (whole partial))
-    (half-safe _ _ (add-safe binary32 (seqsimValue d n) (whole 1) size (seq-safe d n))))
+score-safe s d n size partial g = score-grows s (seqsimValue d n) (whole 1) size partial g (seq-safe d n)

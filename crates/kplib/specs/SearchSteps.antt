@@ -147,7 +147,7 @@ pub record Weighable (plan : Plan) (sizes features partFeatures : List ℤ) (cod
   pub walk : Walk (parentsOf links) (lastsOf links) entry 64
   pub within : AllBelow (length sizes) (reverse (chainOf links entry))
   pub most : length (reverse (chainOf links entry)) ≤ 64
-  pub scratch-is : length scratch ≡ plan .width + plan .width
+  pub scratch-is : length scratch ≡ plan .width
 
 pub record WeighedAs (plan : Plan) (sizes features partFeatures : List ℤ) (codes : List ℕ) (listSizes : List ℤ) (rows : List ℕ) (floor : Float) (r : Weighed) : Type 0 where
   pub size-is : r .size ≡ sizeOf sizes rows
@@ -164,7 +164,7 @@ pub record Searchable (q : Told) (linkRoom keyRoom scratchRoom : ℕ) : Type 0 w
   pub coded : Coded (q .plan .m) (q .codes) (q .listSizes)
   pub link-room : 1 + (q .plan .s .maxpaths + 1) * length (q .sizes) ≤ linkRoom
   pub key-room : 1 + (q .plan .s .maxpaths + 1) * length (q .sizes) ≤ keyRoom
-  pub scratch-is : scratchRoom ≡ q .plan .width + q .plan .width
+  pub scratch-is : scratchRoom ≡ q .plan .width
 
 -- before the first step: the empty chain is queued
 abbrev pub notBegun : Progress

@@ -217,7 +217,7 @@ pub(crate) fn entries(k: u8) -> usize
     metrics::kmer::entries(k)
 }
 
-// The search, with the room that it asks: codes and sizes of at most 2,047 part lists and the flags of all pairs, laid down once, and two feature rows.
+// The search, with the room that it asks: codes and sizes of at most 2,047 part lists and the flags of all pairs, laid down once, and a feature row.
 pub(crate) fn search(
     s: Settings,
     starts: &[u64],
@@ -239,7 +239,7 @@ pub(crate) fn search(
 {
     let mut codes = [0u32; 2047];
     let mut list_sizes = [0i32; 2047];
-    let mut scratch = [0i32; 8192];
+    let mut scratch = [0i32; 4096];
     let width = entries(s.k);
     let count = lay_lists(s, part_sizes, &mut codes, &mut list_sizes);
     let target = whole_size(part_sizes);
@@ -262,7 +262,7 @@ pub(crate) fn search(
         &list_sizes[..count],
         links,
         keys,
-        &mut scratch[..2 * width],
+        &mut scratch[..width],
         not_begun(),
     )
 }

@@ -141,7 +141,7 @@ more-t m p q t k s r et ek er h g =
     rw (← e) (sum-kept (leb m t) s k t r (ek l) er (omega arith))
 
 -- what is left of a row is at most the row, and each entry is at most what is left
-row-drop : (i : ℕ) (a : List ℤ) → magnitudeSum (drop i a) ≤ magnitudeSum a
+pub row-drop : (i : ℕ) (a : List ℤ) → magnitudeSum (drop i a) ≤ magnitudeSum a
 unfolding magnitudeSum
 row-drop zero a = le-refl (magnitudeSum a)
 row-drop (suc i) [] = zero-le
