@@ -312,10 +312,10 @@ fn judge(
 {
     let width = chain_row.len();
     let mut sums = Sums { d: 0, n: 0 };
-    let mut i: usize = 0;
-    while i < width {
-        let e = block_end(i, width);
-        sums = sum_block(sums, table, rows, chain_row, i, e, s.minkfreq);
+    let mut from: usize = 0;
+    while from < width {
+        let to = block_end(from, width);
+        sums = sum_block(sums, table, rows, chain_row, from, to, s.minkfreq);
         let most = most_alike(weight, sums.n);
         if most < s.seqsim {
             return Verdict::Skipped;
@@ -323,7 +323,7 @@ fn judge(
         if !may_score(s, terms, most) {
             return Verdict::Skipped;
         }
-        i = e;
+        from = to;
     }
     verdict_of(s, terms, metrics::similarity(sums.d, sums.n))
 }

@@ -11,10 +11,10 @@ use Rattle.kplib.proofs.pathscore.judge.Statement.{statement}
 use Rattle.kplib.proofs.pathscore.judge.Tie as tie
 
 abbrev Inv-loop : tie.InvT-loop
-Inv-loop s table rows chain-row weight terms width sums₀ i₀ sums i = (width ≡ length chain-row) × Passed (s .minkfreq) chain-row (featuresOf (length chain-row) table rows) i sums
+Inv-loop s table rows chain-row weight terms width sums₀ from₀ sums from = (width ≡ length chain-row) × Passed (s .minkfreq) chain-row (featuresOf (length chain-row) table rows) from sums
 
 abbrev μ-loop : tie.MeasureT-loop
-μ-loop s table rows chain-row weight terms width sums₀ i₀ sums i = width - i
+μ-loop s table rows chain-row weight terms width sums₀ from₀ sums from = width - from
 
 -- the places that the proof speaks of
 abbrev begin : tie.At-loop Inv-loop μ-loop → tie.Start Inv-loop μ-loop
