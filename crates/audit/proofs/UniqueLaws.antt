@@ -50,6 +50,7 @@ recorded x p = let q = both x (p .0, p .1 .1) in (q .0, (p .1 .0, q .1))
 pub unique : Unique
 unique = record {
   sizesim = λ a b. one;
+  similarity = λ d n. one;
   seqsim = λ a b minkfreq. one;
   bits-of = λ x. one;
   overlaps = λ s1 e1 s2 e2. one;

@@ -9,7 +9,7 @@ use lib.IntN.{ℤ}
 use lib.Ieee.{Float}
 use Rattle.metrics.specs.declared.Sim.{Sim}
 use Rattle.metrics.specs.declared.kmer.Counted.{Counted}
-use Rattle.metrics.specs.Promises.{SizesimPromise, SeqsimPromise, OverlapsPromise, SeqToKmerPromise, ClearRowPromise, EntriesPromise, MagnitudePromise, RowOverPromise, BitsOfPromise}
+use Rattle.metrics.specs.Promises.{SizesimPromise, SimilarityPromise, SeqsimPromise, OverlapsPromise, SeqToKmerPromise, ClearRowPromise, EntriesPromise, MagnitudePromise, RowOverPromise, BitsOfPromise}
 use Rattle.params.specs.declared.Settings.{Settings}
 use Rattle.params.specs.Promises.{SearchModePromise, QueueRoomPromise, CallFaultPromise, CountFaultPromise}
 use Rattle.kplib.specs.Answer.{searches}
@@ -61,6 +61,7 @@ Agree A searching promise = (x y : Left A) → promise x → promise y → (x .r
 
 pub record Unique : Type 0 where
   pub sizesim : (a b : ℕ) → One Sim (SizesimPromise a b)
+  pub similarity : (d n : ℕ) → One Float (SimilarityPromise d n)
   pub seqsim : (a b : List ℤ) (minkfreq : ℕ) → One Sim (SeqsimPromise a b minkfreq)
   pub bits-of : (x : Float) → One ℕ (BitsOfPromise x)
   pub overlaps : (s1 e1 s2 e2 : ℕ) → One Bool (OverlapsPromise s1 e1 s2 e2)

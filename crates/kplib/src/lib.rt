@@ -6,5 +6,6 @@ pub mod pathscore;
 mod plan;
 mod queue;
 mod steps;
+mod sums;
 pub mod traverse;
 pub mod vargraph;

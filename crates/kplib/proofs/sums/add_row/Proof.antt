@@ -5,8 +5,8 @@ use borrow.Author.Needs.{needs}
 use Prim.Native.Nat.{_-_, _≤_, _<_}
 use lib.ListN.{length, length-set}
 use Rattle.kplib.proofs.RowSumLaws.{mixed, mixed-all, added-fits, added}
-use Rattle.kplib.proofs.pathscore.add_row.Statement.{statement}
-use Rattle.kplib.proofs.pathscore.add_row.Tie as tie
+use Rattle.kplib.proofs.sums.add_row.Statement.{statement}
+use Rattle.kplib.proofs.sums.add_row.Tie as tie
 
 abbrev Inv-loop : tie.InvT-loop
 Inv-loop acc₀ row i₀ acc i = (i ≤ length acc₀) × (length acc ≡ length acc₀) × (acc ≡ mixed i acc₀ row)
