@@ -46,6 +46,11 @@ enum nd_refusal {
     ND_REFUSED_BYTES_AFTER_END = 25, /* bytes after 0x00 */
     ND_REFUSED_TOO_LARGE = 26, /* over the program's own limits */
     ND_REFUSED_LITTLE_ROOM = 30, /* too little room */
+    ND_REFUSED_BAD_LINE = 40, /* a bad line of BED, or a bad name to write */
+    ND_REFUSED_SECOND_NAME = 41, /* a second name in BED */
+    ND_REFUSED_TOO_MANY_LINES = 42, /* a sixty-fifth line of BED */
+    ND_REFUSED_LITTLE_TEXT_ROOM = 43, /* too little room for BED text */
+    ND_REFUSED_MISSING_ROW = 44, /* a row that isn't there */
 };
 
 /* Counts the windows of k letters in a row of 4^k entries, each +1, or -1 for a negative sequence.

@@ -1,0 +1,5 @@
+pub mod Bed
+pub mod Reading
+pub mod Writing
+pub mod Promises
+pub mod Steps
