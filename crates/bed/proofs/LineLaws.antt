@@ -198,9 +198,15 @@ line-good name start end g p q =
     let n = name-said name start end g in
     let s = start-said name start end g p in
     let e = end-said name start end g q in
-    record { name = ap goodName n ∙ g; start = rw s p; end = rw e q; text = sym (ap (λ (l : List ℕ). bedLine l _ _) n ∙ ap (λ (m : ℕ). bedLine name m _) s ∙ ap (bedLine name start) e) }
+    record { name = ap goodName n ∙ g; start = rw s p; end = rw e q; text = sym (rw (n, s, e) refl) }
 
 -- ---- what the code finds of a line
+
+pub judged-as : {xs ys : List ℕ} {r : Line} → xs ≡ ys → Judged xs r → Judged ys r
+judged-as {xs} {ys} {r} e p = subst (λ (l : List ℕ). Judged l r) e p
+
+pub reads-as : {xs ys : List ℕ} {r : ℕ} → xs ≡ ys → Reads64 (valueOf xs) r → Reads64 (valueOf ys) r
+reads-as {xs} {ys} {r} e p = subst (λ (l : List ℕ). Reads64 (valueOf l) r) e p
 
 pub judged-bad : (line : List ℕ) (r : Line) → goodName (nameIn line) ≡ false → r .good ≡ false → Judged line r
 unfolding goodLine

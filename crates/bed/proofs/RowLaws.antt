@@ -72,8 +72,8 @@ module _ (name starts ends : List ℕ) where
   pub rows-on : {t u w : List ℕ} {end r : ℕ} (i : ℕ) (rows : List ℕ) → i < length rows → Written t 0 (textOf (take i rows)) u end
       → {a b : ℕ} → a ≡ getD starts (getD rows i 0) 0 → b ≡ getD ends (getD rows i 0) 0 → Written u end (bedLine name a b) w r
       → Written t 0 (textOf (take (i + 1) rows)) w r
-  rows-on i rows h p e f q =
-      let line : bedLine name _ _ ≡ lineAt (getD rows i 0) = ap (λ (m : ℕ). bedLine name m _) e ∙ ap (bedLine name _) f in
+  rows-on i rows h p {a} {b} e f q =
+      let line : bedLine name a b ≡ lineAt (getD rows i 0) = ap (λ (m : ℕ). bedLine name m b) e ∙ ap (bedLine name (getD starts (getD rows i 0) 0)) f in
       let step : take (i + 1) rows ≡ take i rows ++ (getD rows i 0 ∷ []) = rw (add-one i) (take-suc rows i 0 h) in
       written-as (written-then p (written-as q line)) (sym (ap textOf step ∙ rows-snoc (take i rows) (getD rows i 0)))
 
@@ -81,7 +81,7 @@ module _ (name starts ends : List ℕ) where
   rows-done i rows h p = written-as p (ap textOf (take-all i rows h))
 
   -- whether there is room: what is left has room for the rest exactly where all of it has for the whole
-  abbrev Room : List ℕ → ℕ → ℕ → ℕ → Type 0
+  abbrev pub Room : List ℕ → ℕ → ℕ → ℕ → Type 0
   Room rows room left i = ltb left (length (textOf (drop i rows))) ≡ ltb room (length (textOf rows))
 
   module _ (rows : List ℕ) (room left i : ℕ) (inv : Room rows room left i) where
@@ -116,12 +116,12 @@ room-begun name starts ends rows room = refl
 -- ---- which refusal
 
 pub not-true : {b : Bool} → not b ≡ true → b ≡ false
-not-true {true} h = sym h
-not-true {false} h = refl
+not-true {b = true} h = sym h
+not-true {b = false} h = refl
 
 pub not-false : {b : Bool} → not b ≡ false → b ≡ true
-not-false {true} h = refl
-not-false {false} h = sym h
+not-false {b = true} h = refl
+not-false {b = false} h = sym h
 
 module _ (name starts ends rows : List ℕ) (room : ℕ) where
   abbrev all : List ℕ
@@ -137,7 +137,9 @@ module _ (name starts ends rows : List ℕ) (room : ℕ) where
   module _ (even : length ends ≡ length starts) where
     pub bad-name : (length rows ≡ 0 → ⊥) → goodName name ≡ false → 40 ≡ fault
     unfolding writeFault
-    bad-name some h = passed _ 6 _ 40 (agree (length ends) (length starts) even) (given _ 40 _ (rw (le-leb 1 (length rows) (omega arith), h)))
+    bad-name some h =
+        let named : badNameFor rows name ≡ true = rw (le-leb 1 (length rows) (omega arith), h) in
+        passed (not (eqb (length ends) (length starts))) 6 _ 40 (agree (length ends) (length starts) even) (given (badNameFor rows name) 40 _ named)
 
     pub nothing : length rows ≡ 0 → (0 ≡ fault) × ([] ≡ all)
     unfolding writeFault rowsText chosenOf bedText missingRow

@@ -13,7 +13,7 @@ use borrow.Author.Tests.{le-leb, lt-leb, lt-ltb, le-ltb, eq-eqb, ne-eqb}
 use Rattle.metrics.specs.Placed.{placed}
 use Rattle.params.specs.Numbers.{firstOf, boundRules, startAfterEnd, fallingStart, anyBelow, chainCountFault}
 use Rattle.params.proofs.CheckLaws.{given, passed, agree, numbered, Passed, none-given, stops, goes-on}
-use Rattle.bed.specs.Bed.{goodName, newline}
+use Rattle.bed.specs.Bed.{goodName, tab, newline}
 use Rattle.bed.specs.Reading.{sameBytes, linesOf, upTo, behindFirst, nameIn, startIn, endIn, goodLine, lineRules, linesFrom, textRules, startsIn, endsIn, readFault, readAnswer, unlessRefused}
 use Rattle.bed.specs.Steps.{firstLine, Rows, Scanned, Checked}
 use Rattle.bed.specs.declared.table.Found.{Found}
@@ -43,9 +43,10 @@ begun text s e p q =
 -- one more number behind those of the first rows
 module _ (f : List ℕ → ℕ) (s : List ℕ) (rows : ℕ) (line : List ℕ) (lines later : List (List ℕ)) (step : lines ≡ line ∷ later) (h : rows < length s) where
   number-on : {a : ℕ} → a ≡ f line → take (rows + 1) (set s rows a) ++ map f later ≡ take rows s ++ map f lines
-  number-on e =
-      ap (λ (l : List ℕ). l ++ map f later) (rw (add-one rows) (take-suc-set s rows _ h))
-      ∙ append-snoc (take rows s) _ (map f later)
+  number-on {a} e =
+      let one : take (rows + 1) (set s rows a) ≡ take rows s ++ (a ∷ []) = rw (add-one rows) (take-suc-set s rows a h) in
+      ap (λ (l : List ℕ). l ++ map f later) one
+      ∙ append-snoc (take rows s) a (map f later)
       ∙ ap (λ (x : ℕ). take rows s ++ x ∷ map f later) e
       ∙ sym (ap (λ (ls : List (List ℕ)). take rows s ++ map f ls) step)
 
@@ -156,6 +157,11 @@ module _ (text s e : List ℕ) (at rows : ℕ) (g : Going text s e at rows) (h :
             ends = sym (append-nil (take rows e)) ∙ sym (ap (λ (ls : List (List ℕ)). take rows e ++ map endIn ls) none-left) ∙ g .ends;
           }
 
+-- the names, as the code has them
+pub names-told : {xs a b : List ℕ} {r : Bool} (line text : List ℕ) → a ≡ upTo tab xs → xs ≡ line → b ≡ upTo tab text → r ≡ sameBytes a b
+    → r ≡ sameBytes (nameIn line) (nameIn text)
+names-told {xs} {a} {b} line text p e q t = t ∙ ap (λ (l : List ℕ). sameBytes l b) (p ∙ ap (upTo tab) e) ∙ ap (sameBytes (nameIn line)) q
+
 pub scan-refused : {text s e : List ℕ} {r : Found} {n : ℕ} → r .fault ≡ n → (n ≡ 0 → ⊥) → n ≡ firstOf (textRules text) → Scanned text s e r
 scan-refused f h e = record { fault = f ∙ e; rows = λ z. absurd (h (sym f ∙ z)) }
 
@@ -261,4 +267,4 @@ pub accepted-read : (fault : ℕ) (text starts ends name : List ℕ) {starts' en
 unfolding readAnswer unlessRefused
 accepted-read fault text starts ends name e n w p q r =
     let z = eq-eqb fault 0 (sym e) in
-    (rw z (ap (λ (k : ℕ). Table k _) n ∙ ap (Table (length (linesOf text))) w), (rw z p, (rw z q, rw z r)))
+    (rw (z, n, w) refl, (rw z p, (rw z q, rw z r)))

@@ -52,8 +52,8 @@ pub fn read_bed(
     if found.fault != 0 {
         return BedRead::Refused(found.fault);
     }
-    lay(&s[..n], starts);
-    lay(&e[..n], ends);
+    lay(&s, n, starts);
+    lay(&e, n, ends);
     let width = put_bytes(name, 0, first(text, 9));
     BedRead::Table(n, width)
 }

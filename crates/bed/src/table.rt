@@ -21,7 +21,8 @@ pub(crate) struct Found {
     pub(crate) rows: usize,
 }
 
-fn scan(text: &[u8], s: &mut [u64; 64], e: &mut [u64; 64]) -> Found
+fn scan(text: &[u8], s: &mut [u64], e: &mut [u64]) -> Found
+    requires { ⌜ (length (now s) ≡ 64) × (length (now e) ≡ 64) ⌝ }
     ensures { λ r. ⌜ Scanned (now (text .entry)) (now (s .exit)) (now (e .exit)) r ⌝ }
 {
     let mut at: usize = 0;
@@ -68,7 +69,8 @@ fn bounds_fault(s: &[u64], e: &[u64], n: usize) -> u32
     count_fault(&s[..n], &e[..n], 0)
 }
 
-pub(crate) fn check(text: &[u8], s: &mut [u64; 64], e: &mut [u64; 64]) -> Found
+pub(crate) fn check(text: &[u8], s: &mut [u64], e: &mut [u64]) -> Found
+    requires { ⌜ (length (now s) ≡ 64) × (length (now e) ≡ 64) ⌝ }
     ensures { λ r. ⌜ Checked (now (text .entry)) (now (s .exit)) (now (e .exit)) r ⌝ }
 {
     let found = scan(text, s, e);
@@ -86,12 +88,13 @@ pub(crate) fn check(text: &[u8], s: &mut [u64; 64], e: &mut [u64; 64]) -> Found
     found
 }
 
-pub(crate) fn lay(from: &[u64], to: &mut [u64])
-    requires { ⌜ length (now from) ≤ length (now to) ⌝ }
-    ensures { λ _. ⌜ now (to .exit) ≡ placed (now (to .entry)) (now (from .entry)) ⌝ }
+// The first n numbers to the front of a buffer.
+pub(crate) fn lay(from: &[u64], n: usize, to: &mut [u64])
+    requires { ⌜ (n ≤ length (now from)) × (n ≤ length (now to)) ⌝ }
+    ensures { λ _. ⌜ now (to .exit) ≡ placed (now (to .entry)) (take n (now (from .entry))) ⌝ }
 {
     let mut i: usize = 0;
-    while i < from.len() {
+    while i < n {
         to[i] = from[i];
         i += 1;
     }
