@@ -4,3 +4,5 @@ pub mod NameLaws
 pub mod StoredLaws
 pub mod TableLaws
 pub mod RowLaws
+pub mod RoundLaws
+pub mod RoundTrip

@@ -164,6 +164,14 @@ module _ (name : List ℕ) (start end : ℕ) (good : goodName name ≡ true) whe
       ((λ e. omega arith), free-append newline (decimal64 start) (tab ∷ decimal64 end) (free-digits newline 20 start (omega arith))
       ((λ e. omega arith), free-digits newline 20 end (omega arith))))
 
+  pub line-whole : bedLine name start end ≡ name ++ (tab ∷ (decimal64 start ++ (tab ∷ decimal64 end))) ++ (newline ∷ [])
+  line-whole = line-right ∙ simp append-assoc
+
+  -- its name stands before the first tab, whatever follows
+  pub name-first : (rest : List ℕ) → nameIn (bedLine name start end ++ rest) ≡ name
+  name-first rest =
+      ap (λ (l : List ℕ). upTo tab (l ++ rest)) line-right ∙ ap (upTo tab) (simp append-assoc) ∙ up-at tab name (behindName ++ rest) (free tab (omega arith))
+
 -- what a good line is made of
 pub record Said (line : List ℕ) : Type 0 where
   pub name : goodName (nameIn line) ≡ true
