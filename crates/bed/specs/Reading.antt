@@ -102,6 +102,15 @@ readFault text starts ends = firstOf (rule 6 (under64 starts ends) ∷ (textRule
 unfoldable pub readAnswer : ℕ → List ℕ → BedRead
 readAnswer fault text = cond (eqb fault 0) (Table (length (linesOf text)) (length (nameIn text))) (Refused fault)
 
+-- the same as a number, 0 for an accepted text, and the two counts, both 0 on a refusal
+abbrev pub readNumber : BedRead → ℕ
+readNumber (Table rows width) = 0
+readNumber (Refused n) = n
+
+abbrev pub readCounts : BedRead → List ℕ
+readCounts (Table rows width) = rows ∷ width ∷ []
+readCounts (Refused n) = 0 ∷ 0 ∷ []
+
 -- what is laid down at the front of a lent buffer: nothing on a refusal
 unfoldable pub unlessRefused : ℕ → List ℕ → List ℕ
 unlessRefused fault xs = cond (eqb fault 0) xs []

@@ -40,3 +40,12 @@ writeFault name starts ends rows room = firstOf
 -- how many bytes were written
 unfoldable pub writeAnswer : ℕ → List ℕ → BedWritten
 writeAnswer fault text = cond (eqb fault 0) (Bytes (length text)) (Refused fault)
+
+-- the same as a number, 0 for an accepted call, and how many bytes, 0 on a refusal
+abbrev pub writtenNumber : BedWritten → ℕ
+writtenNumber (Bytes n) = 0
+writtenNumber (Refused n) = n
+
+abbrev pub writtenBytes : BedWritten → ℕ
+writtenBytes (Bytes n) = n
+writtenBytes (Refused n) = 0

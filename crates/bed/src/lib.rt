@@ -20,7 +20,7 @@ ghost use Rattle.bed.specs.Promises.{ReadBedPromise, WriteBedPromise};
 
 // How many rows a table has and how long its name is, or the refusal's number.
 pub enum BedRead {
-    Table(usize, usize),
+    Table(u32, u32),
     Refused(u32),
 }
 
@@ -55,7 +55,7 @@ pub fn read_bed(
     lay(&s, n, starts);
     lay(&e, n, ends);
     let width = put_bytes(name, 0, first(text, 9));
-    BedRead::Table(n, width)
+    BedRead::Table(n as u32, width as u32)
 }
 
 // The chosen rows' lines to the front of `text`, in the order of `rows`.

@@ -82,6 +82,33 @@ first-requires c κs = search needs
 put-bytes-requires : tie.Need-put-bytes-requires
 put-bytes-requires c κs = search needs
 
+cast-t28 : tie.Need-cast-t28
+cast-t28 c =
+    let found = c .before .before .before .before .before .before .before .before .before .before .before .before .before .before .before .before .before .check .ensures in
+    let none = c .before .before .before .before .before .before .before .before .before .before .before .before .before .if3 .left in
+    let rows = found .rows none in
+    let few = rows .few in
+    omega arith
+
+cast-t29 : tie.Need-cast-t29
+cast-t29 c =
+    let a = c .before .before .before .before .before .before .before .before .before .before .before .before .before .before .before .before .before .before .before .before .before .before .before .before .before .args in
+    let text = now (a .text) in
+    let starts = now (a .starts) in
+    let ends = now (a .ends) in
+    let name = now (a .name) in
+    let fault = readFault text (length starts) (length ends) in
+    let found = c .before .before .before .before .before .before .before .before .before .before .before .before .before .before .before .before .before .check .ensures in
+    let none = c .before .before .before .before .before .before .before .before .before .before .before .before .before .if3 .left in
+    let rows = found .rows none in
+    let few = rows .few in
+    let first = c .before .first .ensures in
+    let short : length (nameIn text) ≤ length name = let s = name-fits text (rows .sound) in omega arith in
+    let put = written-as (c .put-bytes .ensures) first in
+    let w = stored-length name (nameIn text) put short in
+    let s = name-fits text (rows .sound) in
+    omega arith
+
 same-length : tie.Need-same-length
 same-length c = search needs
 
@@ -108,4 +135,4 @@ returns-4 c =
     (c .before .before .before .before .before .before .before .before .before .before .lay .ensures ∙ ap (placed starts) (rows .starts)) (c .before .before .before .before .before .lay2 .ensures ∙ ap (placed ends) (rows .ends)) (stored-placed name (nameIn text) put short)
 
 pub read-bed-spec : {M : Type 1} → statement M
-read-bed-spec = tie.close (tie.spec returns returns-2 slice-aggregate-check slice-aggregate-check-2 check-requires returns-3 slice-aggregate-lay lay-requires slice-aggregate-lay-2 lay-requires-2 first-requires put-bytes-requires same-length same-length-2 returns-4)
+read-bed-spec = tie.close (tie.spec returns returns-2 slice-aggregate-check slice-aggregate-check-2 check-requires returns-3 slice-aggregate-lay lay-requires slice-aggregate-lay-2 lay-requires-2 first-requires put-bytes-requires cast-t28 cast-t29 same-length same-length-2 returns-4)
