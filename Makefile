@@ -1,5 +1,5 @@
 # `make run` and `make test` do all set-up themselves; README.md says what each target is for.
-.PHONY: run test changed program ndigo proofs packages texts wrong runs must-fail oracle faults fuzz bindings bench
+.PHONY: run test changed program ndigo proofs packages texts wrong runs must-fail oracle faults fuzz bed bindings bench
 
 # rt waits for all crates of a batch before it starts the next: a batch of four keeps two cores busy where a long crate stands beside a short one.
 # Each takes about 1 GB. Who sets RT_JOBS decides.
@@ -51,7 +51,7 @@ wrong:
 # What is run, one after the other, since two rt in one folder mix their logs. One archive serves all that link it.
 runs:
 	tools/run-examples
-	set -e; ARCHIVE_MADE=$$(tools/library); export ARCHIVE_MADE; NDIGO_NEEDS_PROGRAM=1 SHEET_WRITER=target/bin/copy_job ndigo/test; oracle/run --short; bindings/test
+	set -e; ARCHIVE_MADE=$$(tools/library); export ARCHIVE_MADE; NDIGO_NEEDS_PROGRAM=1 SHEET_WRITER=target/bin/copy_job ndigo/test; oracle/run --short; bindings/test; oracle/bed/check
 
 # What stands on one line runs at the same time. rt ci stands last: its last line, 'N passed, 0 failed', is the gate's. It proves all from nothing, so what runs before it builds for itself.
 test:
@@ -77,6 +77,10 @@ faults:
 
 fuzz: program
 	tools/fuzz --seed 1
+
+bed:
+	oracle/setup
+	oracle/bed/check --long
 
 bindings:
 	bindings/test

@@ -25,10 +25,12 @@
 //! # Ok::<(), ndigomarr::Refusal>(())
 //! ```
 
+mod bed;
 mod raw;
 mod refusal;
 mod table;
 
+pub use bed::Bed;
 pub use refusal::Refusal;
 pub use table::{Haplotype, Table};
 
