@@ -3,12 +3,11 @@ use Prim.Native.Nat.{ℕ, zero, suc, _+_, _-_, _*_, _/_, _%_, _^_, _≤_, _<_}
 use native.Mathlib.Omega.{arith}
 use native.Mathlib.Nat.{pow-suc}
 use mathlib.Core.Path.{_≡_, refl, sym, ap, subst, _∙_}
-use mathlib.Core.Bool.{Bool, true, false, cond, not, _&&_}
+use mathlib.Core.Bool.{Bool, true, false, cond, _&&_}
 use mathlib.Core.List.{List, [], _∷_, _++_, append-assoc}
 use lib.Dec.{leb, ltb, eqb}
 use lib.ListN.{length, drop, length-append}
-use lib.Seq.{drop-append-add}
-use borrow.Author.Tests.{eq-eqb, ne-eqb, eqb-true, ltb-true, ltb-false, lt-ltb, leb-true}
+use borrow.Author.Tests.{eq-eqb, ne-eqb, eqb-true, ltb-true, lt-ltb, leb-true}
 use Rattle.paths.proofs.BooleanLaws.{clash, and-both}
 use Rattle.text.specs.Text.{digitsWithin}
 use Rattle.text.proofs.TextLaws.{digits-short}
@@ -160,9 +159,11 @@ module _ (name : List ℕ) (start end : ℕ) (good : goodName name ≡ true) whe
       ap (λ (l : List ℕ). upTo newline (l ++ rest)) line-right
       ∙ ap (upTo newline) (simp append-assoc)
       ∙ up-at newline (name ++ (tab ∷ (decimal64 start ++ (tab ∷ decimal64 end)))) rest
-      (free-append newline name (tab ∷ (decimal64 start ++ (tab ∷ decimal64 end))) (free newline (omega arith))
-      ((λ e. omega arith), free-append newline (decimal64 start) (tab ∷ decimal64 end) (free-digits newline 20 start (omega arith))
-      ((λ e. omega arith), free-digits newline 20 end (omega arith))))
+      (free-append newline name (tab ∷ (decimal64 start ++ (tab ∷ decimal64 end))) (free newline (omega arith)) (
+        (λ e. omega arith),
+        free-append newline (decimal64 start) (tab ∷ decimal64 end) (free-digits newline 20 start (omega arith))
+            ((λ e. omega arith), free-digits newline 20 end (omega arith)),
+      ))
 
   pub line-whole : bedLine name start end ≡ name ++ (tab ∷ (decimal64 start ++ (tab ∷ decimal64 end))) ++ (newline ∷ [])
   line-whole = line-right ∙ simp append-assoc

@@ -4,12 +4,12 @@ use native.Mathlib.Omega.{arith}
 use native.Mathlib.Numerals.{add-one}
 use mathlib.Core.Path.{_≡_, refl, sym, ap, _∙_}
 use mathlib.Core.Bool.{Bool, true, false, cond}
-use mathlib.Core.List.{List, [], _∷_, _++_}
+use mathlib.Core.List.{List, [], _∷_}
 use lib.Dec.{eqb}
 use lib.ListN.{length, getD, take, drop, length-take, length-drop}
-use lib.Seq.{drop-cons, drop-drop, take-all}
+use lib.Seq.{drop-cons, take-all}
 use lib.ListN.{drop-of-length-le}
-use borrow.Author.Tests.{eq-eqb, ne-eqb, eqb-true, eqb-false}
+use borrow.Author.Tests.{eq-eqb, ne-eqb}
 use Rattle.bed.specs.Bed.{newline}
 use Rattle.bed.specs.Reading.{upTo, behindFirst, valueFrom, valueOf, onto, linesOf}
 use Rattle.bed.specs.Steps.{firstLine, Reads64}
@@ -52,7 +52,7 @@ module _ (b : ℕ) (s : List ℕ) (i : ℕ) (inv : i + length (upTo b (drop i s)
   pub up-on : i < length s → (getD s i 0 ≡ b → ⊥) → (i + 1) + length (upTo b (drop (i + 1) s)) ≡ length (upTo b s)
   up-on h n =
       let z : length (upTo b (drop i s)) ≡ suc (length (upTo b (drop (suc i) s))) =
-          ap (λ (l : List ℕ). length (upTo b l)) (drop-cons s i 0 h) ∙ ap length (not-here b (getD s i 0) (drop (suc i) s) n) in
+      ap (λ (l : List ℕ). length (upTo b l)) (drop-cons s i 0 h) ∙ ap length (not-here b (getD s i 0) (drop (suc i) s) n) in
       rw (add-one i) (omega arith)
 
   pub up-ended : length s ≤ i → i ≡ length (upTo b s)

@@ -3,17 +3,16 @@ use Prim.Native.Nat.{ℕ, zero, suc, _+_, _≤_, _<_}
 use native.Mathlib.Omega.{arith}
 use mathlib.Core.Path.{_≡_, refl, sym, ap, _∙_}
 use mathlib.Core.Bool.{Bool, true, false, not, cond}
-use mathlib.Core.List.{List, [], _∷_, _++_, map, append-assoc}
-use lib.Dec.{leb, ltb, eqb}
-use lib.ListN.{length, getD, take, drop, length-append, length-map}
+use mathlib.Core.List.{List, [], _∷_, _++_, map}
+use lib.Dec.{leb, eqb}
+use lib.ListN.{length, getD, length-append, length-map}
 use lib.Seq.{ext-getD, take-at, drop-at}
 use borrow.Author.Tests.{eqb-true, eqb-false, le-ltb, lt-leb}
-use Rattle.paths.proofs.BooleanLaws.{clash}
-use Rattle.params.specs.Numbers.{Rule, rule, firstOf, boundRules}
+use Rattle.params.specs.Numbers.{Rule, firstOf, boundRules}
 use Rattle.params.proofs.CheckLaws.{passed, stops, goes-on}
 use Rattle.bed.specs.Bed.{goodName, tab, newline, decimal64, bedLine, bedText}
-use Rattle.bed.specs.Reading.{sameBytes, onto, linesOf, upTo, behindFirst, nameIn, startIn, endIn, goodLine, lineRules, linesFrom, textRules, startsIn, endsIn, under64, readFault}
-use Rattle.bed.specs.Writing.{chosenOf, rowsText, missingRow, littleTextRoom, writeFault}
+use Rattle.bed.specs.Reading.{sameBytes, onto, linesOf, upTo, behindFirst, nameIn, startIn, endIn, goodLine, linesFrom, textRules, startsIn, endsIn, under64, readFault}
+use Rattle.bed.specs.Writing.{chosenOf, rowsText, missingRow, writeFault}
 use Rattle.bed.specs.RoundTrip.{Writable, Says, AllRows}
 use Rattle.bed.specs.Steps.{firstLine}
 use Rattle.bed.proofs.PartLaws.{lines-step, lines-none}
@@ -239,7 +238,7 @@ module _ (name starts ends : List ℕ) (a b : ℕ) (ha : 64 ≤ a) (hb : 64 ≤ 
   table-read =
       let rules = text-passed text (sym text-sound) in
       let numbers : 0 ≡ firstOf (boundRules (startsIn text) (endsIn text)) =
-          sym (ap (λ (l : List ℕ). firstOf (boundRules l (endsIn text))) starts-read ∙ ap (λ (l : List ℕ). firstOf (boundRules starts l)) ends-read ∙ w .bounds) in
+      sym (ap (λ (l : List ℕ). firstOf (boundRules l (endsIn text))) starts-read ∙ ap (λ (l : List ℕ). firstOf (boundRules starts l)) ends-read ∙ w .bounds) in
       record {
         accepted = sym (enough text a b ha hb (goes-on (textRules text) _ 0 rules numbers));
         itsStarts = starts-read;

@@ -9,7 +9,6 @@ use lib.Dec.{leb, ltb, eqb}
 use lib.ListN.{length, getD, take, drop, drop-of-length-le, length-append}
 use lib.Seq.{drop-cons, take-suc, take-all}
 use borrow.Author.Tests.{le-leb, lt-leb, lt-ltb, le-ltb, ltb-true, ltb-false, eq-eqb, ne-eqb}
-use Rattle.paths.proofs.BooleanLaws.{clash}
 use Rattle.params.proofs.CheckLaws.{given, passed, differ, agree}
 use Rattle.metrics.specs.Placed.{placed}
 use Rattle.text.specs.Written.{Written}
@@ -17,9 +16,7 @@ use Rattle.text.proofs.PieceLaws.{written-as, written-then, written-none}
 use Rattle.bed.specs.Bed.{goodName, bedLine, bedText}
 use Rattle.bed.specs.Reading.{unlessRefused}
 use Rattle.bed.specs.Writing.{chosenOf, rowsText, badNameFor, missingRow, littleTextRoom, writeFault, writeAnswer}
-use Rattle.bed.specs.declared.BedWritten.{BedWritten}
 use Rattle.bed.specs.declared.BedWritten.the-variants.{Bytes, Refused}
-use Rattle.bed.proofs.StoredLaws.{stored-length, stored-placed}
 
 not-there : (v r : ℕ) (rows : List ℕ) → v ≤ r → missingRow v (r ∷ rows) ≡ true
 unfolding missingRow

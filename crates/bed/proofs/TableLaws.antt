@@ -4,20 +4,19 @@ use native.Mathlib.Omega.{arith}
 use native.Mathlib.Numerals.{add-one}
 use native.Mathlib.Nat.{zero-add}
 use mathlib.Core.Path.{_≡_, refl, sym, ap, _∙_}
-use mathlib.Core.Bool.{Bool, true, false, not, cond, _&&_}
+use mathlib.Core.Bool.{Bool, true, false, not}
 use mathlib.Core.List.{List, [], _∷_, _++_, map, append-nil}
-use lib.Dec.{leb, ltb, eqb}
+use lib.Dec.{leb}
 use lib.ListN.{length, take, drop, set, length-drop, length-set, drop-of-length-le}
 use lib.Seq.{drop-drop, take-all, take-suc-set, append-snoc}
 use borrow.Author.Tests.{le-leb, lt-leb, lt-ltb, le-ltb, eq-eqb, ne-eqb}
 use Rattle.metrics.specs.Placed.{placed}
 use Rattle.params.specs.Numbers.{firstOf, boundRules, startAfterEnd, fallingStart, anyBelow, chainCountFault}
-use Rattle.params.proofs.CheckLaws.{given, passed, agree, numbered, Passed, none-given, stops, goes-on}
-use Rattle.bed.specs.Bed.{goodName, tab, newline}
+use Rattle.params.proofs.CheckLaws.{given, passed, numbered, Passed, none-given, stops, goes-on}
+use Rattle.bed.specs.Bed.{tab, newline}
 use Rattle.bed.specs.Reading.{sameBytes, linesOf, upTo, behindFirst, nameIn, startIn, endIn, goodLine, lineRules, linesFrom, textRules, startsIn, endsIn, readFault, readAnswer, unlessRefused}
 use Rattle.bed.specs.Steps.{firstLine, Rows, Scanned, Checked}
 use Rattle.bed.specs.declared.table.Found.{Found}
-use Rattle.bed.specs.declared.BedRead.{BedRead}
 use Rattle.bed.specs.declared.BedRead.the-variants.{Table, Refused}
 use Rattle.bed.proofs.PartLaws.{lines-step, lines-none, first-taken, first-dropped, first-within, first-some}
 use Rattle.bed.proofs.LineLaws.{good-said, name-parts, same-is}
@@ -117,20 +116,20 @@ module _ (text s e : List ℕ) (at rows : ℕ) (g : Going text s e at rows) (mor
             roomS = simp length-set (g .roomS);
             roomE = simp length-set (g .roomE);
             rules =
-              ap (λ (ls : List (List ℕ)). firstOf (linesFrom (nameIn text) (rows + 1) ls)) lines
-              ∙ ap (λ (i : ℕ). firstOf (linesFrom (nameIn text) i later)) (add-one rows)
-              ∙ passed (leb 64 rows) 42 _ _ (lt-leb 64 rows h)
-              (passed (not (goodLine line)) 40 _ _ (ap not good) (passed (not (sameBytes (nameIn line) (nameIn text))) 41 _ _ (ap not same) refl))
-              ∙ split;
+                ap (λ (ls : List (List ℕ)). firstOf (linesFrom (nameIn text) (rows + 1) ls)) lines
+                ∙ ap (λ (i : ℕ). firstOf (linesFrom (nameIn text) i later)) (add-one rows)
+                ∙ passed (leb 64 rows) 42 _ _ (lt-leb 64 rows h)
+                (passed (not (goodLine line)) 40 _ _ (ap not good) (passed (not (sameBytes (nameIn line) (nameIn text))) 41 _ _ (ap not same) refl))
+                ∙ split;
             count = omega arith;
             starts =
-              ap (λ (ls : List (List ℕ)). take (rows + 1) (set s rows a) ++ map startIn ls) lines
-              ∙ number-on startIn s rows line (linesOf left) later step (let r = g .roomS in omega arith) p
-              ∙ g .starts;
+                ap (λ (ls : List (List ℕ)). take (rows + 1) (set s rows a) ++ map startIn ls) lines
+                ∙ number-on startIn s rows line (linesOf left) later step (let r = g .roomS in omega arith) p
+                ∙ g .starts;
             ends =
-              ap (λ (ls : List (List ℕ)). take (rows + 1) (set e rows b) ++ map endIn ls) lines
-              ∙ number-on endIn e rows line (linesOf left) later step (let r = g .roomE in omega arith) q
-              ∙ g .ends;
+                ap (λ (ls : List (List ℕ)). take (rows + 1) (set e rows b) ++ map endIn ls) lines
+                ∙ number-on endIn e rows line (linesOf left) later step (let r = g .roomE in omega arith) q
+                ∙ g .ends;
           }
 
 -- no text is left

@@ -6,7 +6,7 @@ use mathlib.Core.List.{List, _++_}
 use lib.ListN.{length, take}
 use Rattle.params.specs.Numbers.{firstOf, boundRules}
 use Rattle.bed.specs.Bed.{newline}
-use Rattle.bed.specs.Reading.{upTo, valueOf, startIn, endIn, goodLine, linesOf, textRules, startsIn, endsIn}
+use Rattle.bed.specs.Reading.{upTo, startIn, endIn, goodLine, linesOf, textRules, startsIn, endsIn}
 use Rattle.bed.specs.declared.lines.Line.{Line}
 use Rattle.bed.specs.declared.table.Found.{Found}
 

@@ -1,10 +1,10 @@
 -- Document 02, P4: the text of the chosen rows of a table, and by which rule the writing is refused.
 use Prim.Native.Nat.{ℕ}
-use mathlib.Core.Bool.{Bool, true, false, not, cond, _&&_, _||_}
+use mathlib.Core.Bool.{Bool, false, not, cond, _&&_, _||_}
 use mathlib.Core.List.{List, [], _∷_, map}
 use lib.Dec.{leb, ltb, eqb}
 use lib.ListN.{length, getD}
-use Rattle.params.specs.Numbers.{Rule, rule, firstOf, disagrees}
+use Rattle.params.specs.Numbers.{rule, firstOf, disagrees}
 use Rattle.bed.specs.Bed.{goodName, bedText}
 use Rattle.bed.specs.declared.BedWritten.{BedWritten}
 use Rattle.bed.specs.declared.BedWritten.the-variants.{Bytes, Refused}

@@ -31,12 +31,7 @@ pub enum BedWritten {
 }
 
 // The table's rows to the front of `starts` and `ends`, and its name to that of `name`. They are gathered in memory of its own first, since a refusal changes nothing.
-pub fn read_bed(
-    text: &[u8],
-    starts: &mut [u64],
-    ends: &mut [u64],
-    name: &mut [u8; 32],
-) -> BedRead
+pub fn read_bed(text: &[u8], starts: &mut [u64], ends: &mut [u64], name: &mut [u8; 32]) -> BedRead
     ensures { λ r. ⌜ ReadBedPromise (now (text .entry)) (now (starts .entry)) (now (ends .entry)) (now (name .entry)) (now (starts .exit)) (now (ends .exit)) (now (name .exit)) r ⌝ }
 {
     if starts.len() < 64 {

@@ -3,7 +3,7 @@ use crate::lines::line_room;
 use crate::lines::put_line;
 ghost use mathlib.Core.Path.{_≡_};
 ghost use mathlib.Core.Bool.{true, not};
-ghost use lib.ListN.{length, getD};
+ghost use lib.ListN.{getD};
 ghost use Rattle.text.specs.Written.{Written};
 ghost use Rattle.bed.specs.Bed.{goodName};
 ghost use Rattle.bed.specs.Writing.{missingRow, rowsText, littleTextRoom};
@@ -64,7 +64,13 @@ pub(crate) fn put_rows(
     let mut i: usize = 0;
     while i < rows.len() {
         let row = rows[i];
-        end = put_line(text, end, name, number_at(starts, row), number_at(ends, row));
+        end = put_line(
+            text,
+            end,
+            name,
+            number_at(starts, row),
+            number_at(ends, row),
+        );
         i += 1;
     }
     end

@@ -1,5 +1,5 @@
 -- Each refusal in its place, and then the rows.
-use mathlib.Core.Path.{_≡_, refl, sym, ap, _∙_}
+use mathlib.Core.Path.{sym, ap, _∙_}
 use lib.ListN.{length}
 use borrow.Author.Tests.{ltb-false}
 use Rattle.metrics.specs.Placed.{placed}

@@ -1,5 +1,5 @@
 -- The fields are read, and the line written again and compared.
-use mathlib.Core.Path.{_≡_, refl, sym, ap, _∙_}
+use mathlib.Core.Path.{refl, sym, ap, _∙_}
 use Rattle.bed.specs.Bed.{goodName, tab, newline, bedLine}
 use Rattle.bed.specs.Reading.{sameBytes, upTo, behindFirst}
 use Rattle.bed.proofs.RowLaws.{not-true, not-false}

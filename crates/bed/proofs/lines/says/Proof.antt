@@ -1,5 +1,5 @@
 -- All of the line is written, and compared.
-use mathlib.Core.Path.{_≡_, sym, ap, _∙_}
+use mathlib.Core.Path.{sym, ap, _∙_}
 use lib.Seq.{length-take-le}
 use Rattle.bed.specs.Bed.{bedLine}
 use Rattle.bed.specs.Reading.{sameBytes}

@@ -1,6 +1,6 @@
 -- The bytes passed and those up to b from here are those up to b of the whole.
 use Prim.Native.Nat.{_+_, _-_, _≤_}
-use mathlib.Core.Path.{_≡_, refl}
+use mathlib.Core.Path.{_≡_}
 use native.Mathlib.Nat.{zero-add}
 use lib.ListN.{length, drop}
 use Rattle.bed.specs.Reading.{upTo}

@@ -1,6 +1,5 @@
 -- What is left has room for the rest exactly where all of it has for the whole.
 use Prim.Native.Nat.{_-_, _≤_}
-use mathlib.Core.Path.{_≡_, refl}
 use lib.ListN.{length}
 use Rattle.bed.proofs.RowLaws.{Room, room-begun, room-short, room-on, room-end}
 use borrow.Author.Needs.{needs}
@@ -51,7 +50,7 @@ loop-again c =
     let a = c .before .before .before .before .before .before .before .before .before .before .before .args in
     let l = c .before .before .before .before .before .before .loop in
     let on = room-on (now (a .name)) (now (a .starts)) (now (a .ends)) (now (a .rows)) (a .room) (l .left) (l .i) (l .inv .1) (c .before .before .before .before .before .loop-test .taken)
-            (c .before .before .before .number-at .ensures) (c .before .before .number-at2 .ensures) (c .before .line-room .ensures) (c .if1 .left) in
+    (c .before .before .before .number-at .ensures) (c .before .before .number-at2 .ensures) (c .before .line-room .ensures) (c .if1 .left) in
     (omega arith, on)
 
 returns-2 : tie.Need-returns-2 Inv-loop μ-loop

@@ -44,9 +44,11 @@ loop-less c = omega arith
 loop-again : tie.Need-loop-again Inv-loop μ-loop
 loop-again c =
     let a = c .before .before .before .before .before .before .before .before .before .before .before .before .before .before .args in
-    let l = c .before .before .before .before .before .before .before .before .loop in
-    (rows-on (now (a .name)) (now (a .starts)) (now (a .ends)) (l .i) (now (a .rows)) (c .before .before .before .before .before .before .before .loop-test .taken) (l .inv .0) (c .before .before .before .before .number-at .ensures) (c .before .before .before .number-at2 .ensures)
-        (c .before .before .put-line .ensures), omega arith)
+    let l = c .before .before .before .before .before .before .before .before .loop in (
+      rows-on (now (a .name)) (now (a .starts)) (now (a .ends)) (l .i) (now (a .rows)) (c .before .before .before .before .before .before .before .loop-test .taken) (l .inv .0) (c .before .before .before .before .number-at .ensures) (c .before .before .before .number-at2 .ensures)
+          (c .before .before .put-line .ensures),
+      omega arith,
+    )
 
 same-length : tie.Need-same-length Inv-loop μ-loop
 same-length c = written-kept (c .before .loop .inv .0)

@@ -1,6 +1,6 @@
 -- With one to 64 rows and as many ends, only the bounds are left of what a chain count is asked.
 use mathlib.Core.Path.{sym, _∙_}
-use lib.ListN.{length, take}
+use lib.ListN.{take}
 use lib.Seq.{length-take-le}
 use Rattle.bed.proofs.TableLaws.{count-bounds}
 use borrow.Author.Needs.{needs}
