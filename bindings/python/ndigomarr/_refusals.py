@@ -24,4 +24,9 @@ TABLE: Dict[int, Tuple[str, str]] = {
     25: ("BYTES_AFTER_END", "bytes after 0x00"),
     26: ("TOO_LARGE", "over the program's own limits"),
     30: ("LITTLE_ROOM", "too little room"),
+    40: ("BAD_LINE", "a bad line of BED, or a bad name to write"),
+    41: ("SECOND_NAME", "a second name in BED"),
+    42: ("TOO_MANY_LINES", "a sixty-fifth line of BED"),
+    43: ("LITTLE_TEXT_ROOM", "too little room for BED text"),
+    44: ("MISSING_ROW", "a row that isn't there"),
 }

@@ -7,7 +7,7 @@ use Rattle.metrics.specs.Letters.{countsOf, rowAfter}
 use Rattle.form.specs.Job.{jobBytes}
 use Rattle.writer.specs.Writing.{jobFrom, outAfter}
 use Rattle.text.specs.Written.{Written}
-use Rattle.audit.specs.Unique.{Agree, Unique}
+use Rattle.audit.specs.Unique.{Agree, Filled, Unique}
 
 one : {A : Type 0} {z : A} (x y : A) → x ≡ z → y ≡ z → x ≡ y
 one x y p q = p ∙ sym q
@@ -47,6 +47,16 @@ both x p = let d = p .1 .0 in let e = p .0 in ((λ i. (d i, e i)), p .1 .1)
 recorded : {A B P R : Type 0} {a : A} {b : B} (x : A × B) → (x .1 ≡ b) × (P × ((x .0 ≡ a) × R)) → (x ≡ (a, b)) × (P × R)
 recorded x p = let q = both x (p .0, p .1 .1) in (q .0, (p .1 .0, q .1))
 
+-- three slices, each by an equation of its own
+filled : {B : Type 0} {starts ends name : List ℕ} {b : B} (x y : Filled) (u v : B)
+    → (u ≡ b) × ((x .starts ≡ starts) × ((x .ends ≡ ends) × (x .name ≡ name))) → (v ≡ b) × ((y .starts ≡ starts) × ((y .ends ≡ ends) × (y .name ≡ name)))
+    → (x ≡ y) × (u ≡ v)
+filled x y u v p q =
+    let s = p .1 .0 ∙ sym (q .1 .0) in
+    let e = p .1 .1 .0 ∙ sym (q .1 .1 .0) in
+    let n = p .1 .1 .1 ∙ sym (q .1 .1 .1) in
+    ((λ i. record { starts = s i; ends = e i; name = n i }), p .0 ∙ sym (q .0))
+
 pub unique : Unique
 unique = record {
   sizesim = λ a b. one;
@@ -83,8 +93,12 @@ unique = record {
   scan = λ bytes. one;
   read-job = λ bytes t. two;
   write-job = λ s t out. through (λ r. outAfter r (jobBytes (jobFrom s t)) out);
+  put-bytes = λ out at src. stored;
+  put-digits = λ out at n left. stored;
   put-refused = λ out at n. stored;
   put-answer = λ out at rows records a. stored;
+  read-bed = λ text starts ends name. filled;
+  write-bed = λ name starts ends rows text. two;
   answer = λ input out. two;
   nd-seq-to-kmer = λ letters k negative row. two;
   nd-seqsim = λ a b minkfreq place. two;
@@ -93,4 +107,6 @@ unique = record {
   nd-answer = λ job text. two;
   nd-apply-haplotype = λ settings starts ends sizes features numbers partSizes partFeatures links keys rows records report x y p q.
       agree x y (recorded (x .says) (both (x .says .1) p)) (recorded (y .says) (both (y .says .1) q));
+  nd-read-bed = λ text starts ends name counts x y u v p q. filled x y u v (both u p) (both v q);
+  nd-write-bed = λ name starts ends rows text written x y u v p q. two x y u v (both u p) (both v q);
 }
