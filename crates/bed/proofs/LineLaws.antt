@@ -244,7 +244,13 @@ module _ (line : List ℕ) (r : Line) (good : goodName (nameIn line) ≡ true) (
       go true e false f =
           let s = starts-so e in
           let n = ends-so e in
-          let said : Said line = record { name = good; start = rw (sym s) startFits; end = rw (sym n) endFits; text = is-own e ∙ ap (λ (m : ℕ). bedLine (nameIn line) m (r .end)) s ∙ ap (bedLine (nameIn line) (startIn line)) n } in
+          let said : Said line = record {
+            name = good;
+            start = rw (sym s) startFits;
+            end = rw (sym n) endFits;
+            text = is-own e ∙ ap (λ (m : ℕ). bedLine (nameIn line) m (r .end)) s ∙ ap
+                (bedLine (nameIn line) (startIn line)) n;
+          } in
           absurd (clash (goodLine line) f (said-good line said))
       go false e true f =
           let said = good-said line f in

@@ -179,7 +179,8 @@ table-starts : (name starts ends : List ℕ) → goodName name ≡ true → leng
 table-starts name [] ends g e p = refl
 table-starts name (start ∷ starts) [] g e p = absurd (omega arith)
 table-starts name (start ∷ starts) (end ∷ ends) g e p =
-    ap (λ (n : ℕ). n ∷ map startIn (bedLines name starts ends)) (start-said name start end g (p 0)) ∙ ap (λ (l : List ℕ). start ∷ l) (table-starts name starts ends g (omega arith) (λ i. p (suc i)))
+    ap (λ (n : ℕ). n ∷ map startIn (bedLines name starts ends)) (start-said name start end g (p 0)) ∙ ap (λ (l : List ℕ). start ∷ l)
+    (table-starts name starts ends g (omega arith) (λ i. p (suc i)))
 
 table-ends : (name starts ends : List ℕ) → goodName name ≡ true → length ends ≡ length starts → Fit ends → map endIn (bedLines name starts ends) ≡ ends
 table-ends name [] [] g e p = refl

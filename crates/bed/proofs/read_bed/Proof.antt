@@ -15,7 +15,8 @@ use Rattle.bed.proofs.read_bed.Tie as tie
 
 returns : tie.Need-returns
 returns c =
-    let a = c .before .before .before .before .args in
+    let begin = c .before .before .before .before in
+    let a = begin .args in
     let text = now (a .text) in
     let starts = now (a .starts) in
     let ends = now (a .ends) in
@@ -25,13 +26,15 @@ returns c =
 
 returns-2 : tie.Need-returns-2
 returns-2 c =
-    let a = c .before .before .before .before .before .args in
+    let else-1 = c .before in
+    let begin = else-1 .before .before .before .before in
+    let a = begin .args in
     let text = now (a .text) in
     let starts = now (a .starts) in
     let ends = now (a .ends) in
     let name = now (a .name) in
     let fault = readFault text (length starts) (length ends) in
-    refused-read fault text starts ends name (little-ends text (length starts) (length ends) (c .before .if1 .left) (c .if2 .taken)) (λ z. omega arith)
+    refused-read fault text starts ends name (little-ends text (length starts) (length ends) (else-1 .if1 .left) (c .if2 .taken)) (λ z. omega arith)
 
 slice-aggregate-check : tie.Need-slice-aggregate-check
 slice-aggregate-check c = search needs
@@ -44,24 +47,31 @@ check-requires c κs = (omega arith, omega arith)
 
 returns-3 : tie.Need-returns-3
 returns-3 c =
-    let a = c .before .before .before .before .before .before .before .before .before .before .before .before .args in
+    let check-done = c .before .before .before .before in
+    let else-2 = check-done .before .before .before in
+    let else-1 = else-2 .before in
+    let begin = else-1 .before .before .before .before in
+    let a = begin .args in
     let text = now (a .text) in
     let starts = now (a .starts) in
     let ends = now (a .ends) in
     let name = now (a .name) in
     let fault = readFault text (length starts) (length ends) in
-    refused-read fault text starts ends name (enough text (length starts) (length ends) (c .before .before .before .before .before .before .before .before .if1 .left) (c .before .before .before .before .before .before .before .if2 .left) (c .before .before .before .before .check .ensures .fault)) (c .if3 .taken)
+    refused-read fault text starts ends name (enough text (length starts) (length ends) (else-1 .if1 .left) (else-2 .if2 .left) (check-done .check .ensures .fault)) (c .if3 .taken)
 
 slice-aggregate-lay : tie.Need-slice-aggregate-lay
 slice-aggregate-lay c = search needs
 
 lay-requires : tie.Need-lay-requires
 lay-requires c κs =
-    let found = c .before .before .before .before .before .before .check .ensures in
-    let none = c .before .before .if3 .left in
+    let else-3 = c .before .before in
+    let check-done = else-3 .before .before .before .before in
+    let else-1 = check-done .before .before .before .before in
+    let found = check-done .check .ensures in
+    let none = else-3 .if3 .left in
     let rows = found .rows none in
     let few = rows .few in
-    let room = c .before .before .before .before .before .before .before .before .before .before .if1 .left in
+    let room = else-1 .if1 .left in
     (omega arith, omega arith)
 
 slice-aggregate-lay-2 : tie.Need-slice-aggregate-lay-2
@@ -69,11 +79,14 @@ slice-aggregate-lay-2 c = search needs
 
 lay-requires-2 : tie.Need-lay-requires-2
 lay-requires-2 c κs =
-    let found = c .before .before .before .before .before .before .before .before .before .before .before .check .ensures in
-    let none = c .before .before .before .before .before .before .before .if3 .left in
+    let else-3 = c .before .before .before .before .before .before .before in
+    let check-done = else-3 .before .before .before .before in
+    let else-2 = check-done .before .before .before in
+    let found = check-done .check .ensures in
+    let none = else-3 .if3 .left in
     let rows = found .rows none in
     let few = rows .few in
-    let room = c .before .before .before .before .before .before .before .before .before .before .before .before .before .before .if2 .left in
+    let room = else-2 .if2 .left in
     (omega arith, omega arith)
 
 first-requires : tie.Need-first-requires
@@ -84,26 +97,33 @@ put-bytes-requires c κs = search needs
 
 cast-t28 : tie.Need-cast-t28
 cast-t28 c =
-    let found = c .before .before .before .before .before .before .before .before .before .before .before .before .before .before .before .before .before .check .ensures in
-    let none = c .before .before .before .before .before .before .before .before .before .before .before .before .before .if3 .left in
+    let else-3 = c .before .before .before .before .before .before .before .before .before .before .before .before .before in
+    let check-done = else-3 .before .before .before .before in
+    let found = check-done .check .ensures in
+    let none = else-3 .if3 .left in
     let rows = found .rows none in
     let few = rows .few in
     omega arith
 
 cast-t29 : tie.Need-cast-t29
 cast-t29 c =
-    let a = c .before .before .before .before .before .before .before .before .before .before .before .before .before .before .before .before .before .before .before .before .before .before .before .before .before .args in
+    let first-done = c .before in
+    let put-bytes-arg-done = first-done .before in
+    let else-3 = put-bytes-arg-done .before .before .before .before .before .before .before .before .before .before .before in
+    let check-done = else-3 .before .before .before .before in
+    let begin = check-done .before .before .before .before .before .before .before .before in
+    let a = begin .args in
     let text = now (a .text) in
     let starts = now (a .starts) in
     let ends = now (a .ends) in
     let name = now (a .name) in
     let fault = readFault text (length starts) (length ends) in
-    let found = c .before .before .before .before .before .before .before .before .before .before .before .before .before .before .before .before .before .check .ensures in
-    let none = c .before .before .before .before .before .before .before .before .before .before .before .before .before .if3 .left in
+    let found = check-done .check .ensures in
+    let none = else-3 .if3 .left in
     let rows = found .rows none in
     let few = rows .few in
-    let first = c .before .first .ensures in
-    let short : length (nameIn text) ≤ length name = let s = name-fits text (rows .sound) in omega arith in
+    let first = first-done .first .ensures in
+    let short : length (nameIn text) ≤ length name = let s = name-fits text (rows .sound) in omega (arith, put-bytes-arg-done .put-bytes-arg .given, s) in
     let put = written-as (c .put-bytes .ensures) first in
     let w = stored-length name (nameIn text) put short in
     let s = name-fits text (rows .sound) in
@@ -117,22 +137,50 @@ same-length-2 c = search needs
 
 returns-4 : tie.Need-returns-4
 returns-4 c =
-    let a = c .before .before .before .before .before .before .before .before .before .before .before .before .before .before .before .before .before .before .before .before .before .before .before .before .before .args in
+    let first-done = c .before in
+    let put-bytes-arg-done = first-done .before in
+    let lay2-done = put-bytes-arg-done .before .before .before in
+    let lay-done = lay2-done .before .before .before .before .before in
+    let else-3 = lay-done .before .before .before in
+    let check-done = else-3 .before .before .before .before in
+    let else-2 = check-done .before .before .before in
+    let else-1 = else-2 .before in
+    let begin = else-1 .before .before .before .before in
+    let a = begin .args in
     let text = now (a .text) in
     let starts = now (a .starts) in
     let ends = now (a .ends) in
     let name = now (a .name) in
     let fault = readFault text (length starts) (length ends) in
-    let found = c .before .before .before .before .before .before .before .before .before .before .before .before .before .before .before .before .before .check .ensures in
-    let none = c .before .before .before .before .before .before .before .before .before .before .before .before .before .if3 .left in
+    let found = check-done .check .ensures in
+    let none = else-3 .if3 .left in
     let rows = found .rows none in
     let few = rows .few in
-    let sound = enough text (length starts) (length ends) (c .before .before .before .before .before .before .before .before .before .before .before .before .before .before .before .before .before .before .before .before .before .if1 .left) (c .before .before .before .before .before .before .before .before .before .before .before .before .before .before .before .before .before .before .before .before .if2 .left) (found .fault) in
-    let first = c .before .first .ensures in
-    let short : length (nameIn text) ≤ length name = let s = name-fits text (rows .sound) in omega arith in
+    let sound = enough text (length starts) (length ends) (else-1 .if1 .left) (else-2 .if2 .left) (found .fault) in
+    let first = first-done .first .ensures in
+    let short : length (nameIn text) ≤ length name = let s = name-fits text (rows .sound) in omega (arith, put-bytes-arg-done .put-bytes-arg .given, s) in
     let put = written-as (c .put-bytes .ensures) first in
     accepted-read fault text starts ends name (sym none ∙ sound) (rows .count) (stored-length name (nameIn text) put short)
-    (c .before .before .before .before .before .before .before .before .before .before .lay .ensures ∙ ap (placed starts) (rows .starts)) (c .before .before .before .before .before .lay2 .ensures ∙ ap (placed ends) (rows .ends)) (stored-placed name (nameIn text) put short)
+    (lay-done .lay .ensures ∙ ap (placed starts) (rows .starts)) (lay2-done .lay2 .ensures ∙ ap (placed ends) (rows .ends)) (stored-placed name (nameIn text) put short)
 
 pub read-bed-spec : {M : Type 1} → statement M
-read-bed-spec = tie.close (tie.spec returns returns-2 slice-aggregate-check slice-aggregate-check-2 check-requires returns-3 slice-aggregate-lay lay-requires slice-aggregate-lay-2 lay-requires-2 first-requires put-bytes-requires cast-t28 cast-t29 same-length same-length-2 returns-4)
+read-bed-spec =
+    tie.close
+    (tie.spec
+    returns
+    returns-2
+    slice-aggregate-check
+    slice-aggregate-check-2
+    check-requires
+    returns-3
+    slice-aggregate-lay
+    lay-requires
+    slice-aggregate-lay-2
+    lay-requires-2
+    first-requires
+    put-bytes-requires
+    cast-t28
+    cast-t29
+    same-length
+    same-length-2
+    returns-4)

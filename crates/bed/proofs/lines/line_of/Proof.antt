@@ -17,7 +17,11 @@ good-name-requires : tie.Need-good-name-requires
 good-name-requires c κs = search needs
 
 returns : tie.Need-returns
-returns c = judged-bad (now (c .before .before .before .before .args .line)) _ (ap goodName (sym (c .before .before .first .ensures)) ∙ sym (c .before .good-name .ensures) ∙ not-true (c .if1 .taken)) refl
+returns c =
+    let good-name-done = c .before in
+    let first-done = good-name-done .before in
+    let begin = first-done .before .before in
+    judged-bad (now (begin .args .line)) _ (ap goodName (sym (first-done .first .ensures)) ∙ sym (good-name-done .good-name .ensures) ∙ not-true (c .if1 .taken)) refl
 
 behind-requires : tie.Need-behind-requires
 behind-requires c κs = search needs
@@ -38,19 +42,45 @@ value-requires-2 : tie.Need-value-requires-2
 value-requires-2 c κs = search needs
 
 says-requires : tie.Need-says-requires
-says-requires c κs = sym (c .before .before .before .before .before .before .before .good-name .ensures) ∙ not-false (c .before .before .before .before .before .before .if1 .left)
+says-requires c κs =
+    let else-1 = c .before .before .before .before .before .before in
+    let good-name-done = else-1 .before in
+    sym (good-name-done .good-name .ensures) ∙ not-false (else-1 .if1 .left)
 
 returns-2 : tie.Need-returns-2
 returns-2 c =
-    let s = c .before .before .before .before .before .before .before .before .before .before .before in
+    let value2-done = c .before in
+    let first3-done = value2-done .before in
+    let behind2-done = first3-done .before in
+    let value-done = behind2-done .before in
+    let first2-done = value-done .before in
+    let behind-done = first2-done .before in
+    let else-1 = behind-done .before in
+    let good-name-done = else-1 .before in
+    let first-done = good-name-done .before in
+    let begin = first-done .before .before in
+    let s = begin in
     let line = now (s .args .line) in
-    let name = c .before .before .before .before .before .before .before .before .before .first .ensures in
-    let good = ap goodName (sym name) ∙ sym (c .before .before .before .before .before .before .before .before .good-name .ensures) ∙ not-false (c .before .before .before .before .before .before .before .if1 .left) in
-    let behind = c .before .before .before .before .before .before .behind .ensures in
-    let start = reads-as (c .before .before .before .before .before .first2 .ensures ∙ ap (upTo tab) behind) (c .before .before .before .before .value .ensures) in
-    let last = c .before .before .before .behind2 .ensures ∙ ap (behindFirst tab) behind in
-    let end = reads-as (c .before .before .first3 .ensures ∙ ap (upTo newline) last) (c .before .value2 .ensures) in
-    judged line _ good start end (omega arith) (omega arith) (c .says .ensures ∙ ap (λ l. sameBytes line (bedLine l (c .before .before .before .before .value .result) (c .before .value2 .result))) name)
+    let name = first-done .first .ensures in
+    let good = ap goodName (sym name) ∙ sym (good-name-done .good-name .ensures) ∙ not-false (else-1 .if1 .left) in
+    let behind = behind-done .behind .ensures in
+    let start = reads-as (first2-done .first2 .ensures ∙ ap (upTo tab) behind) (value-done .value .ensures) in
+    let last = behind2-done .behind2 .ensures ∙ ap (behindFirst tab) behind in
+    let end = reads-as (first3-done .first3 .ensures ∙ ap (upTo newline) last) (value2-done .value2 .ensures) in
+    judged line _ good start end (omega arith) (omega arith) (c .says .ensures ∙ ap (λ l. sameBytes line (bedLine l (value-done .value .result) (value2-done .value2 .result))) name)
 
 pub line-of-spec : {M : Type 1} → statement M
-line-of-spec = tie.close (tie.spec first-requires good-name-requires returns behind-requires first-requires-2 value-requires behind-requires-2 first-requires-3 value-requires-2 says-requires returns-2)
+line-of-spec =
+    tie.close
+    (tie.spec
+    first-requires
+    good-name-requires
+    returns
+    behind-requires
+    first-requires-2
+    value-requires
+    behind-requires-2
+    first-requires-3
+    value-requires-2
+    says-requires
+    returns-2)

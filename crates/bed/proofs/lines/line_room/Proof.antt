@@ -14,7 +14,15 @@ put-line-requires : tie.Need-put-line-requires
 put-line-requires c κs = search needs
 
 returns : tie.Need-returns
-returns c = let a = c .before .before .before .before .args in stored-length _ (bedLine (now (a .name)) (a .start) (a .end)) (c .before .put-line .ensures) (line-short (now (a .name)) (a .start) (a .end) (c .before .before .before .before .pre))
+returns c =
+    let put-line-done = c .before in
+    let begin = put-line-done .before .before .before in
+    let a = begin .args in stored-length _ (bedLine (now (a .name)) (a .start) (a .end)) (put-line-done .put-line .ensures) (line-short (now (a .name)) (a .start) (a .end) (begin .pre))
 
 pub line-room-spec : {M : Type 1} → statement M
-line-room-spec = tie.close (tie.spec slice-aggregate-put-line put-line-requires returns)
+line-room-spec =
+    tie.close
+    (tie.spec
+    slice-aggregate-put-line
+    put-line-requires
+    returns)

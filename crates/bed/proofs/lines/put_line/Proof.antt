@@ -38,11 +38,30 @@ same-length c = search needs
 returns : tie.Need-returns
 unfolding bedLine
 returns c =
-    let two = written-then (c .before .before .before .before .before .before .before .before .before .before .before .before .before .before .before .before .before .before .before .before .before .before .before .before .before .put-bytes .ensures) (c .before .before .before .before .before .before .before .before .before .before .before .before .before .before .before .before .before .before .before .before .put-bytes2 .ensures) in
-    let three = written-then two (c .before .before .before .before .before .before .before .before .before .before .before .before .before .before .before .before .put-digits .ensures) in
-    let four = written-then three (c .before .before .before .before .before .before .before .before .before .before .before .put-bytes3 .ensures) in
-    let five = written-then four (c .before .before .before .before .before .before .before .put-digits2 .ensures) in
-    written-then five (c .before .before .put-bytes4 .ensures)
+    let put-bytes4-done = c .before .before in
+    let put-digits2-done = put-bytes4-done .before .before .before .before .before in
+    let put-bytes3-done = put-digits2-done .before .before .before .before in
+    let put-digits-done = put-bytes3-done .before .before .before .before .before in
+    let put-bytes2-done = put-digits-done .before .before .before .before in
+    let put-bytes-done = put-bytes2-done .before .before .before .before .before in
+    let two = written-then (put-bytes-done .put-bytes .ensures) (put-bytes2-done .put-bytes2 .ensures) in
+    let three = written-then two (put-digits-done .put-digits .ensures) in
+    let four = written-then three (put-bytes3-done .put-bytes3 .ensures) in
+    let five = written-then four (put-digits2-done .put-digits2 .ensures) in
+    written-then five (put-bytes4-done .put-bytes4 .ensures)
 
 pub put-line-spec : {M : Type 1} → statement M
-put-line-spec = tie.close (tie.spec put-bytes-requires slice-aggregate-put-bytes put-bytes-requires-2 put-digits-requires slice-aggregate-put-bytes-2 put-bytes-requires-3 put-digits-requires-2 slice-aggregate-put-bytes-3 put-bytes-requires-4 same-length returns)
+put-line-spec =
+    tie.close
+    (tie.spec
+    put-bytes-requires
+    slice-aggregate-put-bytes
+    put-bytes-requires-2
+    put-digits-requires
+    slice-aggregate-put-bytes-2
+    put-bytes-requires-3
+    put-digits-requires-2
+    slice-aggregate-put-bytes-3
+    put-bytes-requires-4
+    same-length
+    returns)

@@ -9,7 +9,13 @@ same-requires : tie.Need-same-requires
 same-requires c κs = search needs
 
 returns : tie.Need-returns
-returns c = same-told (now (c .before .before .before .args .a)) (now (c .before .before .before .args .b)) _ (c .same .ensures .0) (c .same .ensures .1)
+returns c =
+    let begin = c .before .before .before in
+    same-told (now (begin .args .a)) (now (begin .args .b)) _ (c .same .ensures .0) (c .same .ensures .1)
 
 pub same-bytes-spec : {M : Type 1} → statement M
-same-bytes-spec = tie.close (tie.spec same-requires returns)
+same-bytes-spec =
+    tie.close
+    (tie.spec
+    same-requires
+    returns)

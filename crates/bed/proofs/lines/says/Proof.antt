@@ -21,16 +21,29 @@ array-share-prefix-own c = search needs
 
 slice-aggregate-same-bytes : tie.Need-slice-aggregate-same-bytes
 slice-aggregate-same-bytes c =
-    let a = c .before .before .before .before .before .before .args in
-    sym (length-take-le _ _ (stored-within _ (bedLine (now (a .name)) (a .start) (a .end)) (c .before .before .put-line .ensures) (line-short (now (a .name)) (a .start) (a .end) (c .before .before .before .before .before .before .pre))))
+    let put-line-done = c .before .before in
+    let begin = put-line-done .before .before .before .before in
+    let a = begin .args in
+    sym (length-take-le _ _ (stored-within _ (bedLine (now (a .name)) (a .start) (a .end)) (put-line-done .put-line .ensures) (line-short (now (a .name)) (a .start) (a .end) (begin .pre))))
 
 same-bytes-requires : tie.Need-same-bytes-requires
 same-bytes-requires c κs = search needs
 
 returns : tie.Need-returns
 returns c =
-    let a = c .before .before .before .before .before .before .before .args in
-    c .same-bytes .ensures ∙ ap (sameBytes (now (a .line))) (stored-front _ (bedLine (now (a .name)) (a .start) (a .end)) (c .before .before .before .put-line .ensures) (line-short (now (a .name)) (a .start) (a .end) (c .before .before .before .before .before .before .before .pre)))
+    let put-line-done = c .before .before .before in
+    let begin = put-line-done .before .before .before .before in
+    let a = begin .args in
+    c .same-bytes .ensures ∙ ap (sameBytes (now (a .line))) (stored-front _ (bedLine (now (a .name)) (a .start) (a .end)) (put-line-done .put-line .ensures) (line-short (now (a .name))
+    (a .start) (a .end) (begin .pre)))
 
 pub says-spec : {M : Type 1} → statement M
-says-spec = tie.close (tie.spec slice-aggregate-put-line put-line-requires array-share-prefix-own slice-aggregate-same-bytes same-bytes-requires returns)
+says-spec =
+    tie.close
+    (tie.spec
+    slice-aggregate-put-line
+    put-line-requires
+    array-share-prefix-own
+    slice-aggregate-same-bytes
+    same-bytes-requires
+    returns)

@@ -21,13 +21,31 @@ part-result-end : tie.Need-part-result-end
 part-result-end c = search needs
 
 returns : tie.Need-returns
-returns c = behind-part (c .before .before .before .before .args .b) (now (c .before .before .before .before .args .s)) _ (c .before .before .up-to .ensures) (c .before .if1 .taken)
+returns c =
+    let then-1 = c .before in
+    let up-to-done = then-1 .before in
+    let begin = up-to-done .before .before in
+    behind-part (begin .args .b) (now (begin .args .s)) _ (up-to-done .up-to .ensures) (then-1 .if1 .taken)
 
 slice-aggregate-result : tie.Need-slice-aggregate-result
 slice-aggregate-result c = search needs
 
 returns-2 : tie.Need-returns-2
-returns-2 c = behind-none (c .before .before .before .before .args .b) (now (c .before .before .before .before .args .s)) _ (c .before .before .up-to .ensures) (c .before .if1 .left)
+returns-2 c =
+    let else-1 = c .before in
+    let up-to-done = else-1 .before in
+    let begin = up-to-done .before .before in
+    behind-none (begin .args .b) (now (begin .args .s)) _ (up-to-done .up-to .ensures) (else-1 .if1 .left)
 
 pub behind-spec : {M : Type 1} → statement M
-behind-spec = tie.close (tie.spec up-to-requires add-from sub-result part-result-start part-result-end returns slice-aggregate-result returns-2)
+behind-spec =
+    tie.close
+    (tie.spec
+    up-to-requires
+    add-from
+    sub-result
+    part-result-start
+    part-result-end
+    returns
+    slice-aggregate-result
+    returns-2)

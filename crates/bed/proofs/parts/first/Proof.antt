@@ -14,14 +14,24 @@ up-to-requires c κs = search needs
 
 slice-aggregate-result : tie.Need-slice-aggregate-result
 slice-aggregate-result c =
-    let s = now (c .before .before .before .args .s) in
-    let u = c .before .up-to in
-    let w = up-within (c .before .before .before .args .b) s in
+    let up-to-done = c .before in
+    let begin = up-to-done .before .before in
+    let s = now (begin .args .s) in
+    let u = up-to-done .up-to in
+    let w = up-within (begin .args .b) s in
     let n = u .ensures in
     sym (length-take-le (u .result) s (omega arith))
 
 returns : tie.Need-returns
-returns c = let s = now (c .before .before .before .args .s) in ap (λ n. take n s) (c .before .up-to .ensures) ∙ up-take (c .before .before .before .args .b) s
+returns c =
+    let up-to-done = c .before in
+    let begin = up-to-done .before .before in
+    let s = now (begin .args .s) in ap (λ n. take n s) (up-to-done .up-to .ensures) ∙ up-take (begin .args .b) s
 
 pub first-spec : {M : Type 1} → statement M
-first-spec = tie.close (tie.spec up-to-requires slice-aggregate-result returns)
+first-spec =
+    tie.close
+    (tie.spec
+    up-to-requires
+    slice-aggregate-result
+    returns)

@@ -12,10 +12,22 @@ add-result : tie.Need-add-result
 add-result c = search needs
 
 returns : tie.Need-returns
-returns c = line-length (now (c .before .before .before .args .s)) _ (c .before .up-to .ensures) (c .if1 .taken)
+returns c =
+    let up-to-done = c .before in
+    let begin = up-to-done .before .before in
+    line-length (now (begin .args .s)) _ (up-to-done .up-to .ensures) (c .if1 .taken)
 
 returns-2 : tie.Need-returns-2
-returns-2 c = line-length-last (now (c .before .before .before .args .s)) _ (c .before .up-to .ensures) (c .if1 .left)
+returns-2 c =
+    let up-to-done = c .before in
+    let begin = up-to-done .before .before in
+    line-length-last (now (begin .args .s)) _ (up-to-done .up-to .ensures) (c .if1 .left)
 
 pub line-len-spec : {M : Type 1} → statement M
-line-len-spec = tie.close (tie.spec up-to-requires add-result returns returns-2)
+line-len-spec =
+    tie.close
+    (tie.spec
+    up-to-requires
+    add-result
+    returns
+    returns-2)

@@ -23,7 +23,10 @@ shared-slice-read-if1 : tie.Need-shared-slice-read-if1 Inv-loop μ-loop
 shared-slice-read-if1 c = omega arith
 
 returns : tie.Need-returns Inv-loop μ-loop
-returns c = let l = c .before .before .before in up-found (l .before .args .b) (now (l .before .args .s)) (l .loop .i) (l .loop .inv .1) (c .before .before .loop-test .taken) (c .if1 .taken)
+returns c =
+    let inside = c .before .before in
+    let turn = inside .before in
+    let l = turn in up-found (l .before .args .b) (now (l .before .args .s)) (l .loop .i) (l .loop .inv .1) (inside .loop-test .taken) (c .if1 .taken)
 
 add-i : tie.Need-add-i Inv-loop μ-loop
 add-i c = omega arith
@@ -32,10 +35,26 @@ loop-less : tie.Need-loop-less Inv-loop μ-loop
 loop-less c = omega arith
 
 loop-again : tie.Need-loop-again Inv-loop μ-loop
-loop-again c = let l = c .before .before .before in (omega arith, up-on (l .before .args .b) (now (l .before .args .s)) (l .loop .i) (l .loop .inv .1) (c .before .before .loop-test .taken) (c .if1 .left))
+loop-again c =
+    let inside = c .before .before in
+    let turn = inside .before in
+    let l = turn in (omega arith, up-on (l .before .args .b) (now (l .before .args .s)) (l .loop .i) (l .loop .inv .1) (inside .loop-test .taken) (c .if1 .left))
 
 returns-2 : tie.Need-returns-2 Inv-loop μ-loop
-returns-2 c = let l = c .before in up-ended (l .before .args .b) (now (l .before .args .s)) (l .loop .i) (l .loop .inv .1) (c .loop-test .left)
+returns-2 c =
+    let turn = c .before in
+    let l = turn in up-ended (l .before .args .b) (now (l .before .args .s)) (l .loop .i) (l .loop .inv .1) (c .loop-test .left)
 
 pub up-to-spec : {M : Type 1} → statement M
-up-to-spec = tie.close (tie.spec Inv-loop μ-loop loop-holds shared-slice-read-if1 returns add-i loop-less loop-again returns-2)
+up-to-spec =
+    tie.close
+    (tie.spec
+    Inv-loop
+    μ-loop
+    loop-holds
+    shared-slice-read-if1
+    returns
+    add-i
+    loop-less
+    loop-again
+    returns-2)

@@ -16,7 +16,9 @@ abbrev μ-loop : tie.MeasureT-loop
 μ-loop digits i₀ v₀ i v = length digits - i
 
 loop-holds : tie.Need-loop-holds Inv-loop μ-loop
-loop-holds c = (omega arith, value-start (now (c .before .args .digits)))
+loop-holds c =
+    let begin = c .before in
+    (omega arith, value-start (now (begin .args .digits)))
 
 shared-slice-read-grow : tie.Need-shared-slice-read-grow Inv-loop μ-loop
 shared-slice-read-grow c = omega arith
@@ -31,10 +33,28 @@ loop-less : tie.Need-loop-less Inv-loop μ-loop
 loop-less c = omega arith
 
 loop-again : tie.Need-loop-again Inv-loop μ-loop
-loop-again c = let l = c .before .before .before in (omega arith, value-on (now (c .before .before .before .before .before .args .digits)) (l .loop .i) (l .loop .v) _ (c .before .before .loop-test .taken) (l .loop .inv .1) (c .grow .ensures))
+loop-again c =
+    let inside = c .before .before in
+    let turn = inside .before in
+    let begin = turn .before .before in
+    let l = turn in (omega arith, value-on (now (begin .args .digits)) (l .loop .i) (l .loop .v) _ (inside .loop-test .taken) (l .loop .inv .1) (c .grow .ensures))
 
 returns : tie.Need-returns Inv-loop μ-loop
-returns c = let l = c .before in value-end (now (c .before .before .before .args .digits)) (l .loop .i) (l .loop .v) (c .loop-test .left) (l .loop .inv .1)
+returns c =
+    let turn = c .before in
+    let begin = turn .before .before in
+    let l = turn in value-end (now (begin .args .digits)) (l .loop .i) (l .loop .v) (c .loop-test .left) (l .loop .inv .1)
 
 pub value-spec : {M : Type 1} → statement M
-value-spec = tie.close (tie.spec Inv-loop μ-loop loop-holds shared-slice-read-grow grow-requires add-i loop-less loop-again returns)
+value-spec =
+    tie.close
+    (tie.spec
+    Inv-loop
+    μ-loop
+    loop-holds
+    shared-slice-read-grow
+    grow-requires
+    add-i
+    loop-less
+    loop-again
+    returns)

@@ -15,7 +15,9 @@ abbrev μ-loop : tie.MeasureT-loop
 μ-loop name starts ends rows room left₀ i₀ left i = length rows - i
 
 loop-holds : tie.Need-loop-holds Inv-loop μ-loop
-loop-holds c = let a = c .before .before .before .before .args in (omega arith, room-begun (now (a .name)) (now (a .starts)) (now (a .ends)) (now (a .rows)) (a .room))
+loop-holds c =
+    let begin = c .before .before .before .before in
+    let a = begin .args in (omega arith, room-begun (now (a .name)) (now (a .starts)) (now (a .ends)) (now (a .rows)) (a .room))
 
 mul-row : tie.Need-mul-row Inv-loop μ-loop
 mul-row c = omega arith
@@ -30,14 +32,22 @@ number-at-requires-2 : tie.Need-number-at-requires-2 Inv-loop μ-loop
 number-at-requires-2 c κs = search needs
 
 line-room-requires : tie.Need-line-room-requires Inv-loop μ-loop
-line-room-requires c κs = c .before .before .before .before .before .before .before .before .before .pre
+line-room-requires c κs =
+    let begin = c .before .before .before .before .before .before .before .before .before in
+    begin .pre
 
 returns : tie.Need-returns Inv-loop μ-loop
 returns c =
-    let a = c .before .before .before .before .before .before .before .before .before .before .before .args in
-    let l = c .before .before .before .before .before .before .loop in
-    room-short (now (a .name)) (now (a .starts)) (now (a .ends)) (now (a .rows)) (a .room) (l .left) (l .i) (l .inv .1) (c .before .before .before .before .before .loop-test .taken)
-    (c .before .before .before .number-at .ensures) (c .before .before .number-at2 .ensures) (c .before .line-room .ensures) (c .if1 .taken)
+    let line-room-done = c .before in
+    let number-at2-done = line-room-done .before in
+    let number-at-done = number-at2-done .before in
+    let inside = number-at-done .before .before in
+    let turn = inside .before in
+    let begin = turn .before .before .before .before .before in
+    let a = begin .args in
+    let l = turn .loop in
+    room-short (now (a .name)) (now (a .starts)) (now (a .ends)) (now (a .rows)) (a .room) (l .left) (l .i) (l .inv .1) (inside .loop-test .taken)
+    (number-at-done .number-at .ensures) (number-at2-done .number-at2 .ensures) (line-room-done .line-room .ensures) (c .if1 .taken)
 
 add-i : tie.Need-add-i Inv-loop μ-loop
 add-i c = omega arith
@@ -47,17 +57,40 @@ loop-less c = omega arith
 
 loop-again : tie.Need-loop-again Inv-loop μ-loop
 loop-again c =
-    let a = c .before .before .before .before .before .before .before .before .before .before .before .args in
-    let l = c .before .before .before .before .before .before .loop in
-    let on = room-on (now (a .name)) (now (a .starts)) (now (a .ends)) (now (a .rows)) (a .room) (l .left) (l .i) (l .inv .1) (c .before .before .before .before .before .loop-test .taken)
-    (c .before .before .before .number-at .ensures) (c .before .before .number-at2 .ensures) (c .before .line-room .ensures) (c .if1 .left) in
+    let line-room-done = c .before in
+    let number-at2-done = line-room-done .before in
+    let number-at-done = number-at2-done .before in
+    let inside = number-at-done .before .before in
+    let turn = inside .before in
+    let begin = turn .before .before .before .before .before in
+    let a = begin .args in
+    let l = turn .loop in
+    let on = room-on (now (a .name)) (now (a .starts)) (now (a .ends)) (now (a .rows)) (a .room) (l .left) (l .i) (l .inv .1) (inside .loop-test .taken)
+    (number-at-done .number-at .ensures) (number-at2-done .number-at2 .ensures) (line-room-done .line-room .ensures) (c .if1 .left) in
     (omega arith, on)
 
 returns-2 : tie.Need-returns-2 Inv-loop μ-loop
 returns-2 c =
-    let a = c .before .before .before .before .before .before .args in
-    let l = c .before .loop in
+    let turn = c .before in
+    let begin = turn .before .before .before .before .before in
+    let a = begin .args in
+    let l = turn .loop in
     room-end (now (a .name)) (now (a .starts)) (now (a .ends)) (now (a .rows)) (a .room) (l .left) (l .i) (l .inv .1) (c .loop-test .left)
 
 pub fits-spec : {M : Type 1} → statement M
-fits-spec = tie.close (tie.spec Inv-loop μ-loop loop-holds mul-row shared-slice-read-row number-at-requires number-at-requires-2 line-room-requires returns add-i loop-less loop-again returns-2)
+fits-spec =
+    tie.close
+    (tie.spec
+    Inv-loop
+    μ-loop
+    loop-holds
+    mul-row
+    shared-slice-read-row
+    number-at-requires
+    number-at-requires-2
+    line-room-requires
+    returns
+    add-i
+    loop-less
+    loop-again
+    returns-2)

@@ -25,10 +25,15 @@ shared-slice-read-if1 : tie.Need-shared-slice-read-if1 Inv-loop μ-loop
 shared-slice-read-if1 c = omega arith
 
 cast-if1 : tie.Need-cast-if1 Inv-loop μ-loop
-cast-if1 c = omega (arith, c .shared-slice-known .given (c .before .before .loop .i))
+cast-if1 c =
+    let turn = c .before .before in
+    omega (arith, c .shared-slice-known .given (turn .loop .i))
 
 returns : tie.Need-returns Inv-loop μ-loop
-returns c = let l = c .before .before .before in missing-here (l .before .args .v) (now (l .before .args .rows)) (l .loop .i) (l .loop .inv .1) (c .before .before .loop-test .taken) (c .if1 .taken)
+returns c =
+    let inside = c .before .before in
+    let turn = inside .before in
+    let l = turn in missing-here (l .before .args .v) (now (l .before .args .rows)) (l .loop .i) (l .loop .inv .1) (inside .loop-test .taken) (c .if1 .taken)
 
 add-i : tie.Need-add-i Inv-loop μ-loop
 add-i c = omega arith
@@ -37,10 +42,28 @@ loop-less : tie.Need-loop-less Inv-loop μ-loop
 loop-less c = omega arith
 
 loop-again : tie.Need-loop-again Inv-loop μ-loop
-loop-again c = let l = c .before .before .before in (omega arith, missing-on (l .before .args .v) (now (l .before .args .rows)) (l .loop .i) (l .loop .inv .1) (c .before .before .loop-test .taken) (c .if1 .left))
+loop-again c =
+    let inside = c .before .before in
+    let turn = inside .before in
+    let l = turn in (omega arith, missing-on (l .before .args .v) (now (l .before .args .rows)) (l .loop .i) (l .loop .inv .1) (inside .loop-test .taken) (c .if1 .left))
 
 returns-2 : tie.Need-returns-2 Inv-loop μ-loop
-returns-2 c = let l = c .before in missing-end (l .before .args .v) (now (l .before .args .rows)) (l .loop .i) (l .loop .inv .1) (c .loop-test .left)
+returns-2 c =
+    let turn = c .before in
+    let l = turn in missing-end (l .before .args .v) (now (l .before .args .rows)) (l .loop .i) (l .loop .inv .1) (c .loop-test .left)
 
 pub missing-row-spec : {M : Type 1} → statement M
-missing-row-spec = tie.close (tie.spec Inv-loop μ-loop loop-holds mul-if1 shared-slice-read-if1 cast-if1 returns add-i loop-less loop-again returns-2)
+missing-row-spec =
+    tie.close
+    (tie.spec
+    Inv-loop
+    μ-loop
+    loop-holds
+    mul-if1
+    shared-slice-read-if1
+    cast-if1
+    returns
+    add-i
+    loop-less
+    loop-again
+    returns-2)

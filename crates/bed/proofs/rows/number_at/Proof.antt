@@ -16,7 +16,15 @@ returns : tie.Need-returns
 returns c = search needs
 
 returns-2 : tie.Need-returns-2
-returns-2 c = sym (List·getD-eq-default (now (c .before .args .numbers)) 0 (c .if1 .left))
+returns-2 c =
+    let begin = c .before in
+    sym (List·getD-eq-default (now (begin .args .numbers)) 0 (c .if1 .left))
 
 pub number-at-spec : {M : Type 1} → statement M
-number-at-spec = tie.close (tie.spec mul-result shared-slice-read-result returns returns-2)
+number-at-spec =
+    tie.close
+    (tie.spec
+    mul-result
+    shared-slice-read-result
+    returns
+    returns-2)

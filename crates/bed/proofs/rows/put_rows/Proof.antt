@@ -18,7 +18,9 @@ abbrev μ-loop : tie.MeasureT-loop
 μ-loop text₀ name starts ends rows end₀ i₀ text end i = length rows - i
 
 loop-holds : tie.Need-loop-holds Inv-loop μ-loop
-loop-holds c = let a = c .before .before .before .before .before .args in (rows-begun (now (a .name)) (now (a .starts)) (now (a .ends)) (now (a .text)) (now (a .rows)), omega arith)
+loop-holds c =
+    let begin = c .before .before .before .before .before in
+    let a = begin .args in (rows-begun (now (a .name)) (now (a .starts)) (now (a .ends)) (now (a .text)) (now (a .rows)), omega arith)
 
 mul-row : tie.Need-mul-row Inv-loop μ-loop
 mul-row c = omega arith
@@ -43,21 +45,47 @@ loop-less c = omega arith
 
 loop-again : tie.Need-loop-again Inv-loop μ-loop
 loop-again c =
-    let a = c .before .before .before .before .before .before .before .before .before .before .before .before .before .before .args in
-    let l = c .before .before .before .before .before .before .before .before .loop in (
-      rows-on (now (a .name)) (now (a .starts)) (now (a .ends)) (l .i) (now (a .rows)) (c .before .before .before .before .before .before .before .loop-test .taken) (l .inv .0) (c .before .before .before .before .number-at .ensures) (c .before .before .before .number-at2 .ensures)
-          (c .before .before .put-line .ensures),
+    let put-line-done = c .before .before in
+    let number-at2-done = put-line-done .before in
+    let number-at-done = number-at2-done .before in
+    let inside = number-at-done .before .before .before in
+    let turn = inside .before in
+    let begin = turn .before .before .before .before .before .before in
+    let a = begin .args in
+    let l = turn .loop in (
+      rows-on (now (a .name)) (now (a .starts)) (now (a .ends)) (l .i) (now (a .rows)) (inside .loop-test .taken) (l .inv .0) (number-at-done .number-at .ensures)
+          (number-at2-done .number-at2 .ensures)
+          (put-line-done .put-line .ensures),
       omega arith,
     )
 
 same-length : tie.Need-same-length Inv-loop μ-loop
-same-length c = written-kept (c .before .loop .inv .0)
+same-length c =
+    let turn = c .before in
+    written-kept (turn .loop .inv .0)
 
 returns : tie.Need-returns Inv-loop μ-loop
 returns c =
-    let a = c .before .before .before .before .before .before .before .args in
-    let l = c .before .loop in
+    let turn = c .before in
+    let begin = turn .before .before .before .before .before .before in
+    let a = begin .args in
+    let l = turn .loop in
     rows-done (now (a .name)) (now (a .starts)) (now (a .ends)) (l .i) (now (a .rows)) (c .loop-test .left) (l .inv .0)
 
 pub put-rows-spec : {M : Type 1} → statement M
-put-rows-spec = tie.close (tie.spec Inv-loop μ-loop loop-holds mul-row shared-slice-read-row number-at-requires number-at-requires-2 put-line-requires add-i loop-less loop-again same-length returns)
+put-rows-spec =
+    tie.close
+    (tie.spec
+    Inv-loop
+    μ-loop
+    loop-holds
+    mul-row
+    shared-slice-read-row
+    number-at-requires
+    number-at-requires-2
+    put-line-requires
+    add-i
+    loop-less
+    loop-again
+    same-length
+    returns)

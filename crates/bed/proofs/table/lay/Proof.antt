@@ -39,12 +39,15 @@ loop-less c = omega arith
 
 loop-again : tie.Need-loop-again Inv-loop μ-loop
 loop-again c =
-    let l = c .before .before .loop in
-    let a = c .before .before .before .args in
-    let t = c .before .loop-test .taken in
+    let inside = c .before in
+    let turn = inside .before in
+    let begin = turn .before in
+    let l = turn .loop in
+    let a = begin .args in
+    let t = inside .loop-test .taken in
     let front = take (a .n) (now (a .from)) in
-    let long = length-take-le (a .n) (now (a .from)) (c .before .before .before .pre .0) in
-    let room = c .before .before .before .pre .1 in
+    let long = length-take-le (a .n) (now (a .from)) (begin .pre .0) in
+    let room = begin .pre .1 in
     let on = put-on (l .i) front (now (a .to)) (omega arith) (omega arith) in
     let same = sym (getD-take (a .n) (now (a .from)) (l .i) 0 t) in
     (omega arith, simp length-set (l .inv .1), rw (l .inv .2) (ap (set (take (l .i) front ++ drop (l .i) (now (a .to))) (l .i)) same ∙ on))
@@ -54,10 +57,26 @@ same-length c = omega arith
 
 returns : tie.Need-returns Inv-loop μ-loop
 returns c =
-    let l = c .before .loop in
-    let a = c .before .before .args in
-    let long = length-take-le (a .n) (now (a .from)) (c .before .before .pre .0) in
+    let turn = c .before in
+    let begin = turn .before in
+    let l = turn .loop in
+    let a = begin .args in
+    let long = length-take-le (a .n) (now (a .from)) (begin .pre .0) in
     l .inv .2 ∙ put-done (l .i) (take (a .n) (now (a .from))) (now (a .to)) (omega arith)
 
 pub lay-spec : {M : Type 1} → statement M
-lay-spec = tie.close (tie.spec Inv-loop μ-loop loop-holds mul-to shared-slice-read-to mul-to-2 slice-write-to add-i loop-less loop-again same-length returns)
+lay-spec =
+    tie.close
+    (tie.spec
+    Inv-loop
+    μ-loop
+    loop-holds
+    mul-to
+    shared-slice-read-to
+    mul-to-2
+    slice-write-to
+    add-i
+    loop-less
+    loop-again
+    same-length
+    returns)

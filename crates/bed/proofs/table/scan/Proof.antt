@@ -20,22 +20,34 @@ abbrev μ-loop : tie.MeasureT-loop
 μ-loop text s₀ e₀ at₀ rows₀ s e at rows = length text - at
 
 loop-holds : tie.Need-loop-holds Inv-loop μ-loop
-loop-holds c = begun (now (c .before .before .before .args .text)) (now (c .before .before .before .args .s)) (now (c .before .before .before .args .e)) (c .before .before .before .pre .0) (c .before .before .before .pre .1)
+loop-holds c =
+    let begin = c .before .before .before in
+    begun (now (begin .args .text)) (now (begin .args .s)) (now (begin .args .e)) (begin .pre .0) (begin .pre .1)
 
 refused-requires : tie.Need-refused-requires Inv-loop μ-loop
 refused-requires c κs = tt
 
 same-length : tie.Need-same-length Inv-loop μ-loop
-same-length c = c .before .before .before .loop .inv .roomS ∙ sym (c .before .before .before .before .before .before .before .pre .0)
+same-length c =
+    let turn = c .before .before .before in
+    let begin = turn .before .before .before .before in
+    turn .loop .inv .roomS ∙ sym (begin .pre .0)
 
 same-length-2 : tie.Need-same-length-2 Inv-loop μ-loop
-same-length-2 c = c .before .before .before .loop .inv .roomE ∙ sym (c .before .before .before .before .before .before .before .pre .1)
+same-length-2 c =
+    let turn = c .before .before .before in
+    let begin = turn .before .before .before .before in
+    turn .loop .inv .roomE ∙ sym (begin .pre .1)
 
 returns : tie.Need-returns Inv-loop μ-loop
 returns c =
-    let l = c .before .before .before .loop in
-    let a = c .before .before .before .before .before .before .before .args in
-    scan-refused (c .refused .ensures .0) (λ z. omega arith) (over-64 (now (a .text)) (l .s) (l .e) (l .at) (l .rows) (l .inv) (c .before .before .loop-test .taken) (c .before .if1 .taken))
+    let then-1 = c .before in
+    let inside = then-1 .before in
+    let turn = inside .before in
+    let begin = turn .before .before .before .before in
+    let l = turn .loop in
+    let a = begin .args in
+    scan-refused (c .refused .ensures .0) (λ z. omega arith) (over-64 (now (a .text)) (l .s) (l .e) (l .at) (l .rows) (l .inv) (inside .loop-test .taken) (then-1 .if1 .taken))
 
 sub-rest : tie.Need-sub-rest Inv-loop μ-loop
 sub-rest c = omega arith
@@ -51,10 +63,14 @@ line-len-requires c κs = tt
 
 slice-aggregate-line : tie.Need-slice-aggregate-line Inv-loop μ-loop
 slice-aggregate-line c =
-    let l = c .before .before .before .before .before .loop in
-    let a = c .before .before .before .before .before .before .before .before .before .args in
-    let t = c .before .before .before .before .loop-test .taken in
-    let n = c .before .line-len .ensures in
+    let line-len-done = c .before in
+    let inside = line-len-done .before .before .before in
+    let turn = inside .before in
+    let begin = turn .before .before .before .before in
+    let l = turn .loop in
+    let a = begin .args in
+    let t = inside .loop-test .taken in
+    let n = line-len-done .line-len .ensures in
     let rest = take (length (now (a .text)) - l .at) (drop (l .at) (now (a .text))) in
     let w = first-within rest in
     sym (length-take-le _ rest (omega arith))
@@ -66,21 +82,34 @@ refused-requires-2 : tie.Need-refused-requires-2 Inv-loop μ-loop
 refused-requires-2 c κs = tt
 
 same-length-3 : tie.Need-same-length-3 Inv-loop μ-loop
-same-length-3 c = c .before .before .before .before .before .before .before .before .before .loop .inv .roomS ∙ sym (c .before .before .before .before .before .before .before .before .before .before .before .before .before .pre .0)
+same-length-3 c =
+    let turn = c .before .before .before .before .before .before .before .before .before in
+    let begin = turn .before .before .before .before in
+    turn .loop .inv .roomS ∙ sym (begin .pre .0)
 
 same-length-4 : tie.Need-same-length-4 Inv-loop μ-loop
-same-length-4 c = c .before .before .before .before .before .before .before .before .before .loop .inv .roomE ∙ sym (c .before .before .before .before .before .before .before .before .before .before .before .before .before .pre .1)
+same-length-4 c =
+    let turn = c .before .before .before .before .before .before .before .before .before in
+    let begin = turn .before .before .before .before in
+    turn .loop .inv .roomE ∙ sym (begin .pre .1)
 
 returns-2 : tie.Need-returns-2 Inv-loop μ-loop
 returns-2 c =
-    let l = c .before .before .before .before .before .before .before .before .before .loop in
-    let a = c .before .before .before .before .before .before .before .before .before .before .before .before .before .args in
-    let t = c .before .before .before .before .before .before .before .before .loop-test .taken in
-    let n = c .before .before .before .before .before .line-len .ensures in
+    let then-2 = c .before in
+    let line-of-done = then-2 .before .before in
+    let line-len-done = line-of-done .before .before in
+    let else-1 = line-len-done .before .before in
+    let inside = else-1 .before in
+    let turn = inside .before in
+    let begin = turn .before .before .before .before in
+    let l = turn .loop in
+    let a = begin .args in
+    let t = inside .loop-test .taken in
+    let n = line-len-done .line-len .ensures in
     let line = line-is (now (a .text)) (l .s) (l .e) (l .at) (l .rows) (l .inv) t n in
-    let few = c .before .before .before .before .before .before .before .if1 .left in
-    let j = judged-as line (c .before .before .before .line-of .ensures) in
-    scan-refused (c .refused2 .ensures .0) (λ z. omega arith) (bad-line (now (a .text)) (l .s) (l .e) (l .at) (l .rows) (l .inv) t few (sym (j .good) ∙ not-true (c .before .if2 .taken)))
+    let few = else-1 .if1 .left in
+    let j = judged-as line (line-of-done .line-of .ensures) in
+    scan-refused (c .refused2 .ensures .0) (λ z. omega arith) (bad-line (now (a .text)) (l .s) (l .e) (l .at) (l .rows) (l .inv) t few (sym (j .good) ∙ not-true (then-2 .if2 .taken)))
 
 first-requires : tie.Need-first-requires Inv-loop μ-loop
 first-requires c κs = tt
@@ -95,23 +124,40 @@ refused-requires-3 : tie.Need-refused-requires-3 Inv-loop μ-loop
 refused-requires-3 c κs = tt
 
 same-length-5 : tie.Need-same-length-5 Inv-loop μ-loop
-same-length-5 c = c .before .before .before .before .before .before .before .before .before .before .before .before .before .loop .inv .roomS ∙ sym (c .before .before .before .before .before .before .before .before .before .before .before .before .before .before .before .before .before .pre .0)
+same-length-5 c =
+    let turn = c .before .before .before .before .before .before .before .before .before .before .before .before .before in
+    let begin = turn .before .before .before .before in
+    turn .loop .inv .roomS ∙ sym (begin .pre .0)
 
 same-length-6 : tie.Need-same-length-6 Inv-loop μ-loop
-same-length-6 c = c .before .before .before .before .before .before .before .before .before .before .before .before .before .loop .inv .roomE ∙ sym (c .before .before .before .before .before .before .before .before .before .before .before .before .before .before .before .before .before .pre .1)
+same-length-6 c =
+    let turn = c .before .before .before .before .before .before .before .before .before .before .before .before .before in
+    let begin = turn .before .before .before .before in
+    turn .loop .inv .roomE ∙ sym (begin .pre .1)
 
 returns-3 : tie.Need-returns-3 Inv-loop μ-loop
 returns-3 c =
-    let l = c .before .before .before .before .before .before .before .before .before .before .before .before .before .loop in
-    let a = c .before .before .before .before .before .before .before .before .before .before .before .before .before .before .before .before .before .args in
-    let t = c .before .before .before .before .before .before .before .before .before .before .before .before .loop-test .taken in
-    let n = c .before .before .before .before .before .before .before .before .before .line-len .ensures in
+    let then-3 = c .before in
+    let same-bytes-done = then-3 .before in
+    let first2-done = same-bytes-done .before in
+    let first-done = first2-done .before in
+    let else-2 = first-done .before in
+    let line-of-done = else-2 .before .before in
+    let line-len-done = line-of-done .before .before in
+    let else-1 = line-len-done .before .before in
+    let inside = else-1 .before in
+    let turn = inside .before in
+    let begin = turn .before .before .before .before in
+    let l = turn .loop in
+    let a = begin .args in
+    let t = inside .loop-test .taken in
+    let n = line-len-done .line-len .ensures in
     let line = line-is (now (a .text)) (l .s) (l .e) (l .at) (l .rows) (l .inv) t n in
-    let few = c .before .before .before .before .before .before .before .before .before .before .before .if1 .left in
-    let j = judged-as line (c .before .before .before .before .before .before .before .line-of .ensures) in
-    let good = sym (j .good) ∙ not-false (c .before .before .before .before .before .if2 .left) in
-    let names = names-told _ (now (a .text)) (c .before .before .before .before .first .ensures) line (c .before .before .before .first2 .ensures) (c .before .before .same-bytes .ensures) in
-    scan-refused (c .refused3 .ensures .0) (λ z. omega arith) (second-name (now (a .text)) (l .s) (l .e) (l .at) (l .rows) (l .inv) t few good (sym names ∙ not-true (c .before .if3 .taken)))
+    let few = else-1 .if1 .left in
+    let j = judged-as line (line-of-done .line-of .ensures) in
+    let good = sym (j .good) ∙ not-false (else-2 .if2 .left) in
+    let names = names-told _ (now (a .text)) (first-done .first .ensures) line (first2-done .first2 .ensures) (same-bytes-done .same-bytes .ensures) in
+    scan-refused (c .refused3 .ensures .0) (λ z. omega arith) (second-name (now (a .text)) (l .s) (l .e) (l .at) (l .rows) (l .inv) t few good (sym names ∙ not-true (then-3 .if3 .taken)))
 
 mul-s : tie.Need-mul-s Inv-loop μ-loop
 mul-s c = omega arith
@@ -130,48 +176,111 @@ add-rows c = omega arith
 
 add-at : tie.Need-add-at Inv-loop μ-loop
 add-at c =
-    let l = c .before .before .before .before .before .before .before .before .before .before .before .before .loop in
-    let a = c .before .before .before .before .before .before .before .before .before .before .before .before .before .before .before .before .args in
-    let t = c .before .before .before .before .before .before .before .before .before .before .before .loop-test .taken in
-    let n = c .before .before .before .before .before .before .before .before .line-len .ensures in
+    let line-len-done = c .before .before .before .before .before .before .before .before in
+    let inside = line-len-done .before .before .before in
+    let turn = inside .before in
+    let begin = turn .before .before .before .before in
+    let l = turn .loop in
+    let a = begin .args in
+    let t = inside .loop-test .taken in
+    let n = line-len-done .line-len .ensures in
     let long = length-is (now (a .text)) (l .s) (l .e) (l .at) (l .rows) (l .inv) t n in
     omega arith
 
 loop-less : tie.Need-loop-less Inv-loop μ-loop
 loop-less c =
-    let l = c .before .before .before .before .before .before .before .before .before .before .before .before .loop in
-    let a = c .before .before .before .before .before .before .before .before .before .before .before .before .before .before .before .before .args in
-    let t = c .before .before .before .before .before .before .before .before .before .before .before .loop-test .taken in
-    let n = c .before .before .before .before .before .before .before .before .line-len .ensures in
+    let line-len-done = c .before .before .before .before .before .before .before .before in
+    let inside = line-len-done .before .before .before in
+    let turn = inside .before in
+    let begin = turn .before .before .before .before in
+    let l = turn .loop in
+    let a = begin .args in
+    let t = inside .loop-test .taken in
+    let n = line-len-done .line-len .ensures in
     let long = length-is (now (a .text)) (l .s) (l .e) (l .at) (l .rows) (l .inv) t n in
     omega arith
 
 loop-again : tie.Need-loop-again Inv-loop μ-loop
 loop-again c =
-    let l = c .before .before .before .before .before .before .before .before .before .before .before .before .loop in
-    let a = c .before .before .before .before .before .before .before .before .before .before .before .before .before .before .before .before .args in
-    let t = c .before .before .before .before .before .before .before .before .before .before .before .loop-test .taken in
-    let n = c .before .before .before .before .before .before .before .before .line-len .ensures in
+    let same-bytes-done = c .before in
+    let first2-done = same-bytes-done .before in
+    let first-done = first2-done .before in
+    let else-2 = first-done .before in
+    let line-of-done = else-2 .before .before in
+    let line-len-done = line-of-done .before .before in
+    let else-1 = line-len-done .before .before in
+    let inside = else-1 .before in
+    let turn = inside .before in
+    let begin = turn .before .before .before .before in
+    let l = turn .loop in
+    let a = begin .args in
+    let t = inside .loop-test .taken in
+    let n = line-len-done .line-len .ensures in
     let line = line-is (now (a .text)) (l .s) (l .e) (l .at) (l .rows) (l .inv) t n in
-    let few = c .before .before .before .before .before .before .before .before .before .before .if1 .left in
-    let j = judged-as line (c .before .before .before .before .before .before .line-of .ensures) in
-    let good = sym (j .good) ∙ not-false (c .before .before .before .before .if2 .left) in
-    let names = names-told _ (now (a .text)) (c .before .before .before .first .ensures) line (c .before .before .first2 .ensures) (c .before .same-bytes .ensures) in
+    let few = else-1 .if1 .left in
+    let j = judged-as line (line-of-done .line-of .ensures) in
+    let good = sym (j .good) ∙ not-false (else-2 .if2 .left) in
+    let names = names-told _ (now (a .text)) (first-done .first .ensures) line (first2-done .first2 .ensures) (same-bytes-done .same-bytes .ensures) in
     let long = length-is (now (a .text)) (l .s) (l .e) (l .at) (l .rows) (l .inv) t n in
-    let g = not-false (c .before .before .before .before .if2 .left) in
+    let g = not-false (else-2 .if2 .left) in
     went-on (now (a .text)) (l .s) (l .e) (l .at) (l .rows) (l .inv) t few good (sym names ∙ not-false (c .if3 .left)) (j .start g) (j .end g) (long .0)
 
 same-length-7 : tie.Need-same-length-7 Inv-loop μ-loop
-same-length-7 c = c .before .loop .inv .roomS ∙ sym (c .before .before .before .before .before .pre .0)
+same-length-7 c =
+    let turn = c .before in
+    let begin = turn .before .before .before .before in
+    turn .loop .inv .roomS ∙ sym (begin .pre .0)
 
 same-length-8 : tie.Need-same-length-8 Inv-loop μ-loop
-same-length-8 c = c .before .loop .inv .roomE ∙ sym (c .before .before .before .before .before .pre .1)
+same-length-8 c =
+    let turn = c .before in
+    let begin = turn .before .before .before .before in
+    turn .loop .inv .roomE ∙ sym (begin .pre .1)
 
 returns-4 : tie.Need-returns-4 Inv-loop μ-loop
 returns-4 c =
-    let l = c .before .loop in
-    let a = c .before .before .before .before .before .args in
+    let turn = c .before in
+    let begin = turn .before .before .before .before in
+    let l = turn .loop in
+    let a = begin .args in
     ended (now (a .text)) (l .s) (l .e) (l .at) (l .rows) (l .inv) (c .loop-test .left) _ refl refl
 
 pub scan-spec : {M : Type 1} → statement M
-scan-spec = tie.close (tie.spec Inv-loop μ-loop loop-holds refused-requires same-length same-length-2 returns sub-rest part-rest-start part-rest-end line-len-requires slice-aggregate-line line-of-requires refused-requires-2 same-length-3 same-length-4 returns-2 first-requires first-requires-2 same-bytes-requires refused-requires-3 same-length-5 same-length-6 returns-3 mul-s slice-write-s mul-e slice-write-e add-rows add-at loop-less loop-again same-length-7 same-length-8 returns-4)
+scan-spec =
+    tie.close
+    (tie.spec
+    Inv-loop
+    μ-loop
+    loop-holds
+    refused-requires
+    same-length
+    same-length-2
+    returns
+    sub-rest
+    part-rest-start
+    part-rest-end
+    line-len-requires
+    slice-aggregate-line
+    line-of-requires
+    refused-requires-2
+    same-length-3
+    same-length-4
+    returns-2
+    first-requires
+    first-requires-2
+    same-bytes-requires
+    refused-requires-3
+    same-length-5
+    same-length-6
+    returns-3
+    mul-s
+    slice-write-s
+    mul-e
+    slice-write-e
+    add-rows
+    add-at
+    loop-less
+    loop-again
+    same-length-7
+    same-length-8
+    returns-4)
