@@ -9,7 +9,8 @@ use lib.IntN.{ℤ}
 use lib.Ieee.{Float}
 use Rattle.metrics.specs.declared.Sim.{Sim}
 use Rattle.metrics.specs.declared.kmer.Counted.{Counted}
-use Rattle.metrics.specs.Promises.{SizesimPromise, SimilarityPromise, SeqsimPromise, OverlapsPromise, SeqToKmerPromise, ClearRowPromise, EntriesPromise, MagnitudePromise, RowOverPromise, BitsOfPromise}
+use Rattle.metrics.specs.Promises.{SizesimPromise, SimilarityPromise, SeqsimPromise, OverlapsPromise, BitsOfPromise}
+use Rattle.metrics.specs.Promises.{SeqToKmerPromise, ClearRowPromise, EntriesPromise, MagnitudePromise, RowOverPromise}
 use Rattle.params.specs.declared.Settings.{Settings}
 use Rattle.params.specs.Promises.{SearchModePromise, QueueRoomPromise, CallFaultPromise, CountFaultPromise}
 use Rattle.kplib.specs.Answer.{searches}

@@ -189,6 +189,7 @@ module _ (s : Settings) (floor : Float) (full best : Scored) (c : ℤ) (chainRow
 
   -- one that may win has the verdict by its seqsim
   pub won : mayWin s c chainLen l listLen partial floor (best .score) ≡ true
-      → listScore s (total c chainRow chainLen) (total l listRow listLen) partial ≡ verdictOf s (termsOf s c chainLen l listLen partial floor (best .score)) (seqsimOfRows (s .minkfreq) chainRow listRow)
+      → listScore s (total c chainRow chainLen) (total l listRow listLen) partial
+      ≡ verdictOf s (termsOf s c chainLen l listLen partial floor (best .score)) (seqsimOfRows (s .minkfreq) chainRow listRow)
   unfolding mayWin listScore
   won h = won-with (s .squish && eqb chainLen 0) (eqb (sign c) (sign l)) (lt (terms .size) (s .sizesim)) (mayScore s terms (whole 1)) h (verdictOf s terms seq)

@@ -8,7 +8,8 @@ ghost use lib.ListN.{length};
 ghost use Rattle.metrics.specs.Similarity.{sizesimValue, seqsimValue, magnitudeSum};
 ghost use Rattle.kplib.specs.Sums.{featuresOf};
 ghost use Rattle.kplib.specs.Score.{sign, seqsimOfRows, gapOf, scoreValue, listScore, start, targetOf, greaterOf};
-ghost use Rattle.kplib.specs.Scoring.{Summable, Ready, Testable, Comparable, StandsFor, termsOf, mayScore, mayWin, verdictOf, Judgeable, Judged, total, chainTotal, codedScore, Attempt, Attempted, noneTried, Scorable};
+ghost use Rattle.kplib.specs.Scoring.{Summable, Ready, Testable, Comparable, StandsFor, termsOf, mayScore, mayWin, verdictOf, Judgeable, Judged};
+ghost use Rattle.kplib.specs.Scoring.{total, chainTotal, codedScore, Attempt, Attempted, noneTried, Scorable};
 use crate::haplotype::positions;
 use crate::plan::Plan;
 use crate::sums::Sums;
@@ -377,7 +378,8 @@ fn none_tried() -> Best
     }
 }
 
-// The score of a chain of this size, for a search whose best is at `floor`: a list that cannot reach it is passed over. The scratch is lent, so that nothing is cleared for a chain that no list passes the tests with.
+// The score of a chain of this size, for a search whose best is at `floor`: a list that cannot reach it is passed over. The scratch is lent, so that
+// nothing is cleared for a chain that no list passes the tests with.
 pub(crate) fn score_chain(
     plan: Plan,
     features: &[i32],

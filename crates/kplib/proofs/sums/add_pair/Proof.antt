@@ -56,7 +56,8 @@ kept-requires c κs =
 add-d : tie.Need-add-d
 add-d c =
     let z = measured c in let s = begin z in
-    omega (arith, s .pre .low-d, kept-le (s .args .minkfreq) (both (z .before)) (both (z .before)) (c .before .kept .ensures), first (z .before .before), second (z .before), s .pre .first, s .pre .second)
+    let k = kept-le (s .args .minkfreq) (both (z .before)) (both (z .before)) (c .before .kept .ensures) in
+    omega (arith, s .pre .low-d, k, first (z .before .before), second (z .before), s .pre .first, s .pre .second)
 
 kept-requires-2 : tie.Need-kept-requires-2
 kept-requires-2 c κs =
@@ -66,12 +67,13 @@ kept-requires-2 c κs =
 add-n : tie.Need-add-n
 add-n c =
     let z = measured (c .before .before) in let s = begin z in
-    omega (arith, s .pre .low-n, kept-le (s .args .minkfreq) (both (z .before)) (z .magnitude3 .result) (c .before .kept2 .ensures), apart z, apart-le (s .args .x) (s .args .y), s .pre .first, s .pre .second)
+    let k = kept-le (s .args .minkfreq) (both (z .before)) (z .magnitude3 .result) (c .before .kept2 .ensures) in
+    omega (arith, s .pre .low-n, k, apart z, apart-le (s .args .x) (s .args .y), s .pre .first, s .pre .second)
 
 returns : tie.Need-returns
 returns c =
-    let z = measured (c .before .before) in
-    pair-is (begin z .args .minkfreq) (begin z .args .x) (begin z .args .y) (begin z .args .s) (first (z .before .before)) (second (z .before)) (apart z) (c .before .before .before .kept .ensures) (c .before .kept2 .ensures)
+    let z = measured (c .before .before) in let a = begin z .args in
+    pair-is (a .minkfreq) (a .x) (a .y) (a .s) (first (z .before .before)) (second (z .before)) (apart z) (c .before .before .before .kept .ensures) (c .before .kept2 .ensures)
 
 pub add-pair-spec : {M : Type 1} → statement M
 add-pair-spec =
