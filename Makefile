@@ -1,5 +1,5 @@
 # `make run` and `make test` do all set-up themselves; README.md says what each target is for.
-.PHONY: run test changed program ndigo proofs packages texts wrong runs must-fail oracle faults fuzz bindings bench install uninstall
+.PHONY: run test changed program ndigo proofs packages texts wrong runs must-fail oracle faults fuzz bed bindings bench install uninstall
 
 # where `make install` puts things
 PREFIX ?= /usr/local
@@ -57,7 +57,7 @@ wrong:
 # What is run, one after the other, since two rt in one folder mix their logs. One archive serves all that link it.
 runs:
 	tools/run-examples
-	set -e; ARCHIVE_MADE=$$(tools/library); export ARCHIVE_MADE; NDIGO_NEEDS_PROGRAM=1 SHEET_WRITER=target/bin/copy_job ndigo/test; oracle/run --short; bindings/test; ndigo/build; bindings/test-install
+	set -e; ARCHIVE_MADE=$$(tools/library); export ARCHIVE_MADE; NDIGO_NEEDS_PROGRAM=1 SHEET_WRITER=target/bin/copy_job ndigo/test; oracle/run --short; bindings/test; oracle/bed/check; ndigo/build; bindings/test-install
 
 # What stands on one line runs at the same time. rt ci stands last: its last line, 'N passed, 0 failed', is the gate's. It proves all from nothing, so what runs before it builds for itself.
 test:
@@ -83,6 +83,10 @@ faults:
 
 fuzz: program
 	tools/fuzz --seed 1
+
+bed:
+	oracle/setup
+	oracle/bed/check --long
 
 bindings:
 	bindings/test

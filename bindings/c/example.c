@@ -106,6 +106,23 @@ static void program_text(void)
     expect("its text", memcmp(text, wanted, strlen(wanted)) == 0, 1);
 }
 
+static void bed(void)
+{
+    const char *line = "reef7\t10\t20\n";
+    const uint32_t row[1] = {0};
+    uint64_t starts[ND_BED_ROWS], ends[ND_BED_ROWS], written = MARK;
+    uint32_t counts[2];
+    uint8_t name[ND_BED_NAME_LEN], text[ND_BED_TEXT_LEN];
+    expect("BED", nd_read_bed((const uint8_t *)line, strlen(line), starts, ND_BED_ROWS, ends, ND_BED_ROWS, name, counts), ND_ACCEPTED);
+    expect("its rows", counts[0], 1);
+    expect("its name", counts[1] == 5 && memcmp(name, "reef7", 5) == 0, 1);
+    expect("its numbers", starts[0] == 10 && ends[0] == 20, 1);
+    expect("BED written", nd_write_bed(name, counts[1], starts, 1, ends, 1, row, 1, text, sizeof text, &written), ND_ACCEPTED);
+    expect("the bytes that were read", written == strlen(line) && memcmp(text, line, strlen(line)) == 0, 1);
+    expect("no newline", nd_read_bed(text, (size_t)written - 1, starts, ND_BED_ROWS, ends, ND_BED_ROWS, name, counts), ND_REFUSED_BAD_LINE);
+    expect("its counts", counts[0] == 0 && counts[1] == 0, 1);
+}
+
 static void similarities(void)
 {
     float value = 2;
@@ -128,6 +145,7 @@ int main(void)
     refused_records("room for one record", 31, 32, V - 1, ND_REFUSED_ANSWER_ROOM);
     refused_records("both", 31, 31, V - 1, ND_REFUSED_REPEATED_NUMBER);
     program_text();
+    bed();
     similarities();
     puts(failed ? "the " LANGUAGE " binding differs" : "the " LANGUAGE " binding agrees");
     return failed;

@@ -4,8 +4,8 @@
  * and that what is written overlaps nothing else that is lent. An empty slice still needs a pointer
  * that is not null.
  * Each but nd_answer, which returns a length, returns 0 or the number of a refusal. On a refusal
- * every lent buffer is as it was, but for *place, *count and the report of one search, which are
- * then 0.
+ * every lent buffer is as it was, but for *place, *count, the report of one search, the counts and
+ * *written, which are then 0.
  *
  * What a call promises is proved of the Rattle source; tools/prototypes holds this header to it.
  */
@@ -21,7 +21,8 @@ extern "C" {
 #endif
 
 /* The refusals, each with the table's words. 1 to 14 and 27 are returned, and some of them stand in
- * nd_answer's text too; 20 to 26 stand there alone; 30 is the Rattle reader's and writer's.
+ * nd_answer's text too; 20 to 26 stand there alone; 30 is the Rattle reader's and writer's; 40 to
+ * 44 are BED's.
  * Made from docs/refusals.tsv by tools/refusals --write. */
 enum nd_refusal {
     ND_ACCEPTED = 0,
@@ -48,6 +49,11 @@ enum nd_refusal {
     ND_REFUSED_TOO_LARGE = 26, /* over the program's own limits */
     ND_REFUSED_TOO_MANY_HAPLOTYPES = 27, /* not 1 to 16 haplotypes */
     ND_REFUSED_LITTLE_ROOM = 30, /* too little room */
+    ND_REFUSED_BAD_LINE = 40, /* a bad line of BED, or a bad name to write */
+    ND_REFUSED_SECOND_NAME = 41, /* a second name in BED */
+    ND_REFUSED_TOO_MANY_LINES = 42, /* a sixty-fifth line of BED */
+    ND_REFUSED_LITTLE_TEXT_ROOM = 43, /* too little room for BED text */
+    ND_REFUSED_MISSING_ROW = 44, /* a row that isn't there */
 };
 
 /* The table's words for a refusal's number, for a message. */
@@ -78,6 +84,11 @@ static inline const char *nd_refusal_text(uint32_t number)
     case ND_REFUSED_TOO_LARGE: return "over the program's own limits";
     case ND_REFUSED_TOO_MANY_HAPLOTYPES: return "not 1 to 16 haplotypes";
     case ND_REFUSED_LITTLE_ROOM: return "too little room";
+    case ND_REFUSED_BAD_LINE: return "a bad line of BED, or a bad name to write";
+    case ND_REFUSED_SECOND_NAME: return "a second name in BED";
+    case ND_REFUSED_TOO_MANY_LINES: return "a sixty-fifth line of BED";
+    case ND_REFUSED_LITTLE_TEXT_ROOM: return "too little room for BED text";
+    case ND_REFUSED_MISSING_ROW: return "a row that isn't there";
     default: return "not in the table of refusals";
     }
 }
@@ -191,6 +202,27 @@ enum { ND_TEXT_LEN = 8192 };
 /* The program's answer to a job's bytes: its lines at the front of text, whose rest stays as it was.
  * Returns how many bytes they are; no zero byte ends them. A refused job is answered by a line. */
 uint32_t nd_answer(const uint8_t *job, size_t job_len, uint8_t text[ND_TEXT_LEN]);
+
+/* What a table of BED may hold: so many rows, a name of so many bytes, a text of so many bytes. */
+enum { ND_BED_ROWS = 64, ND_BED_NAME_LEN = 32, ND_BED_TEXT_LEN = 4800 };
+
+/* Reads BED: up to 64 lines of exactly three columns parted by tabs, all with one name of 1 to 32
+ * bytes 0x21 to 0x7E, each ended by a newline; numbers in decimal to 64 bits, no leading zero. The
+ * rows stand at the front of starts and ends, the name at that of name, the rest stays as it was;
+ * counts are the rows and the name's length, both 0 for an empty text. Refuses by 6 (starts or ends
+ * under 64 numbers); then front to back, within a line, by 42 (a sixty-fifth line), 40 (a bad line),
+ * 41 (a second name); then by 7 and 8. */
+uint32_t nd_read_bed(const uint8_t *text, size_t text_len, uint64_t *starts, size_t starts_len,
+                     uint64_t *ends, size_t ends_len, uint8_t name[ND_BED_NAME_LEN],
+                     uint32_t counts[2]);
+
+/* Writes the chosen rows the same way, in the order of rows, to the front of text, whose rest stays
+ * as it was. *written is how many bytes. Refuses by 6 (starts and ends of unequal length), 40 (a bad
+ * name, where any row is written), 44 (a row that isn't there), 43 (too little room). */
+uint32_t nd_write_bed(const uint8_t *name, size_t name_len, const uint64_t *starts,
+                      size_t starts_len, const uint64_t *ends, size_t ends_len,
+                      const uint32_t *rows, size_t rows_len, uint8_t *text, size_t text_len,
+                      uint64_t *written);
 
 #ifdef __cplusplus
 }

@@ -5,13 +5,13 @@ use crate::commands::Form;
 use crate::draw;
 use crate::fault::Failure;
 use crate::job;
-use crate::model::{counted, Sheet};
+use crate::model::{counted, Sheet, Variant};
 use crate::refusals::{self, Refusal};
 use crate::search::{self, Own};
 use crate::sheet;
 use crate::warnings;
 use crate::work::{shown_name, Told};
-use ndigomarr::Target;
+use ndigomarr::{Bed, Target};
 
 /// The sheet and what was noted while it was read; all its faults where it has any.
 fn read(data: &[u8], sort: bool) -> Result<(Sheet, Vec<String>), Failure> {
@@ -120,6 +120,33 @@ pub fn show(data: &[u8]) -> Result<Told, Failure> {
             Err(Failure::Input(format!("refused {}: {}: {place}", fault.number, refusals::words(fault.number))))
         }
     }
+}
+
+/// The rows of the answer as BED; a sheet that the rules refuse has none.
+pub fn bed(data: &[u8], sort: bool, name: &str) -> Result<Told, Failure> {
+    let (sheet, notes) = read(data, sort)?;
+    let mut remarks = remarks(&notes, &warnings::of(&sheet));
+    match search::answer(&sheet) {
+        Err(reasons) => {
+            remarks.extend(reasons.iter().map(|reason| reason.to_string()));
+            Ok(Told { out: vec![], remarks, status: 1 })
+        }
+        Ok(answer) => {
+            let bounds = |of: fn(&Variant) -> u64| sheet.variants.iter().map(of).collect();
+            let bed = Bed { name: name.into(), starts: bounds(|variant| variant.start), ends: bounds(|variant| variant.end) };
+            let rows: Vec<u32> = answer.rows.iter().map(|&row| row as u32).collect();
+            let out = bed.write(&rows).map_err(|refusal| Failure::Input(refusal.to_string()))?;
+            Ok(Told { out, remarks, status: 0 })
+        }
+    }
+}
+
+/// The rows of BED as variants, each named by the name and its row.
+pub fn from_bed(data: &[u8]) -> Result<Told, Failure> {
+    let bed = Bed::read(data).map_err(|refusal| Failure::Input(refusal.to_string()))?;
+    let name = String::from_utf8_lossy(&bed.name);
+    let rows = bed.starts.iter().zip(&bed.ends).enumerate().map(|(row, (start, end))| format!("{name}-{row}\t{start}\t{end}\n"));
+    Ok(Told::text(0, format!("variant\tstart\tend\n{}", rows.collect::<String>())))
 }
 
 /// A refused sheet is drawn too, and the status says that it was refused.

@@ -54,6 +54,24 @@ pub enum Command {
         #[command(flatten)]
         into: Into,
     },
+    /// The answer's rows as BED, under one name
+    Bed {
+        #[command(flatten)]
+        sheets: Sheets,
+        /// What stands in the first column, 1 to 32 bytes without blanks
+        #[arg(long, value_name = "NAME")]
+        name: String,
+        #[command(flatten)]
+        into: Into,
+    },
+    /// BED (name, start and end) as the variants of a sheet, to which size and letters are added
+    FromBed {
+        /// BED files; - is standard input
+        #[arg(required = true, value_name = "BED")]
+        files: Vec<String>,
+        #[command(flatten)]
+        into: Into,
+    },
     /// What a shell needs to complete these commands
     Completions { shell: Shell },
 }

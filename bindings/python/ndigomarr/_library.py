@@ -2,6 +2,7 @@
 import ctypes
 import os
 import pathlib
+from dataclasses import dataclass
 from typing import List, Union
 
 from ._exports import declare
@@ -100,6 +101,41 @@ def count_chains(starts: Numbers, ends: Numbers, full: bool = True, cap: int = 4
     first, last, count = array(starts, ctypes.c_uint64), array(ends, ctypes.c_uint64), ctypes.c_uint32()
     accepted(LIBRARY.nd_count_chains(first, len(first), last, len(last), full, word(cap), ctypes.byref(count)))
     return count.value
+
+
+@dataclass(frozen=True)
+class Bed:
+    """A table of BED: one name of 1 to 32 printable bytes, and a start and an end for each row."""
+
+    name: bytes
+    starts: List[int]
+    ends: List[int]
+
+
+def read_bed(text: bytes) -> Bed:
+    """The table that a text of up to 64 lines of exactly three columns says.
+
+    >>> read_bed(b"reef7\\t10\\t20\\n")
+    Bed(name=b'reef7', starts=[10], ends=[20])
+    """
+    starts, ends = (ctypes.c_uint64 * 64)(), (ctypes.c_uint64 * 64)()
+    name, counts = (ctypes.c_uint8 * 32)(), (ctypes.c_uint32 * 2)()
+    accepted(LIBRARY.nd_read_bed(letters(text), len(text), starts, len(starts), ends, len(ends), name, counts))
+    rows, width = counts
+    return Bed(bytes(name[:width]), list(starts[:rows]), list(ends[:rows]))
+
+
+def write_bed(bed: Bed, rows: Numbers) -> bytes:
+    """The text of these rows of a table, in their order.
+
+    >>> write_bed(Bed(b"reef7", [10, 15], [20, 15]), [1])
+    b'reef7\\t15\\t15\\n'
+    """
+    starts, ends, chosen = array(bed.starts, ctypes.c_uint64), array(bed.ends, ctypes.c_uint64), array(rows, ctypes.c_uint32)
+    text, written = (ctypes.c_uint8 * (75 * len(chosen)))(), ctypes.c_uint64()
+    given = letters(bed.name), len(bed.name), starts, len(starts), ends, len(ends), chosen, len(chosen)
+    accepted(LIBRARY.nd_write_bed(*given, text, len(text), ctypes.byref(written)))
+    return bytes(text[:written.value])
 
 
 def answer(job: bytes) -> str:

@@ -25,4 +25,9 @@ TABLE: Dict[int, Tuple[str, str]] = {
     26: ("TOO_LARGE", "over the program's own limits"),
     27: ("TOO_MANY_HAPLOTYPES", "not 1 to 16 haplotypes"),
     30: ("LITTLE_ROOM", "too little room"),
+    40: ("BAD_LINE", "a bad line of BED, or a bad name to write"),
+    41: ("SECOND_NAME", "a second name in BED"),
+    42: ("TOO_MANY_LINES", "a sixty-fifth line of BED"),
+    43: ("LITTLE_TEXT_ROOM", "too little room for BED text"),
+    44: ("MISSING_ROW", "a row that isn't there"),
 }

@@ -159,6 +159,19 @@ def test_the_program_answers():
     assert ndigomarr.answer((ROOT / "examples/worked.job").read_bytes()).startswith("rows 0\nrecords 0\nscore 3f800000\n")
 
 
+def test_bed_there_and_back():
+    text = b"reef7\t10\t20\nreef7\t15\t15\n"
+    bed = ndigomarr.read_bed(text)
+    assert (bed.starts, bed.ends, ndigomarr.write_bed(bed, [0, 1])) == ([10, 15], [20, 15], text)
+    for number, wrong in [(40, b"reef7\t010\t20\n"), (41, b"a\t1\t2\nb\t1\t2\n"), (7, b"a\t2\t1\n"), (8, b"a\t2\t2\na\t1\t1\n")]:
+        with pytest.raises(Refused) as told:
+            ndigomarr.read_bed(wrong)
+        assert told.value.number == number
+    with pytest.raises(Refused) as told:
+        ndigomarr.write_bed(bed, [2])
+    assert told.value.number == 44
+
+
 def test_letters_outside_ascii_are_told():
     with pytest.raises(UnicodeEncodeError):
         ndigomarr.seq_to_kmer("AÄ", 1)

@@ -32,12 +32,14 @@
 #[doc = include_str!("../README.md")]
 struct Readme;
 
+mod bed;
 mod raw;
 mod refusal;
 mod refusals;
 mod settings;
 mod table;
 
+pub use bed::Bed;
 pub use refusals::Refusal;
 pub use settings::Settings;
 pub use table::{Haplotype, Table};

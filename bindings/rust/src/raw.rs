@@ -12,6 +12,29 @@ mod archive {
         pub fn nd_sizesim(a: u64, b: u64, place: *mut f32) -> u32;
         pub fn nd_count_chains(starts: *const u64, starts_len: usize, ends: *const u64, ends_len: usize, full: bool, cap: u32, count: *mut u32) -> u32;
         pub fn nd_answer(job: *const u8, job_len: usize, text: *mut [u8; 8192]) -> u32;
+        pub fn nd_read_bed(
+            text: *const u8,
+            text_len: usize,
+            starts: *mut u64,
+            starts_len: usize,
+            ends: *mut u64,
+            ends_len: usize,
+            name: *mut [u8; 32],
+            counts: *mut [u32; 2],
+        ) -> u32;
+        pub fn nd_write_bed(
+            name: *const u8,
+            name_len: usize,
+            starts: *const u64,
+            starts_len: usize,
+            ends: *const u64,
+            ends_len: usize,
+            rows: *const u32,
+            rows_len: usize,
+            text: *mut u8,
+            text_len: usize,
+            written: *mut u64,
+        ) -> u32;
         pub fn nd_apply_haplotype(
             settings: *const [u32; 13],
             starts: *const u64,
@@ -101,6 +124,28 @@ pub fn answer(job: &[u8]) -> Vec<u8> {
     let mut text = [0; 8192];
     let length = unsafe { archive::nd_answer(job.as_ptr(), job.len(), &mut text) };
     text[..length as usize].to_vec()
+}
+
+pub fn read_bed(text: &[u8], starts: &mut [u64], ends: &mut [u64], name: &mut [u8; 32], counts: &mut [u32; 2]) -> u32 {
+    unsafe { archive::nd_read_bed(text.as_ptr(), text.len(), starts.as_mut_ptr(), starts.len(), ends.as_mut_ptr(), ends.len(), name, counts) }
+}
+
+pub fn write_bed(name: &[u8], starts: &[u64], ends: &[u64], rows: &[u32], text: &mut [u8], written: &mut u64) -> u32 {
+    unsafe {
+        archive::nd_write_bed(
+            name.as_ptr(),
+            name.len(),
+            starts.as_ptr(),
+            starts.len(),
+            ends.as_ptr(),
+            ends.len(),
+            rows.as_ptr(),
+            rows.len(),
+            text.as_mut_ptr(),
+            text.len(),
+            written,
+        )
+    }
 }
 
 impl Room {

@@ -50,12 +50,22 @@ pub enum Refusal {
     TooManyHaplotypes,
     /// 30: too little room
     LittleRoom,
+    /// 40: a bad line of BED, or a bad name to write
+    BadLine,
+    /// 41: a second name in BED
+    SecondName,
+    /// 42: a sixty-fifth line of BED
+    TooManyLines,
+    /// 43: too little room for BED text
+    LittleTextRoom,
+    /// 44: a row that isn't there
+    MissingRow,
     /// A number that this table has not: the library that is linked is of another edition than this crate.
     Other(u32),
 }
 
 /// Number, case and words of each.
-pub(crate) const TABLE: [(u32, Refusal, &str); 23] = [
+pub(crate) const TABLE: [(u32, Refusal, &str); 28] = [
     (1, Refusal::BadK, "k not 1 to 6"),
     (2, Refusal::BadFloat, "a float setting is NaN or outside its range"),
     (3, Refusal::BadNumber, "a whole-number setting over its limit"),
@@ -79,4 +89,9 @@ pub(crate) const TABLE: [(u32, Refusal, &str); 23] = [
     (26, Refusal::TooLarge, "over the program's own limits"),
     (27, Refusal::TooManyHaplotypes, "not 1 to 16 haplotypes"),
     (30, Refusal::LittleRoom, "too little room"),
+    (40, Refusal::BadLine, "a bad line of BED, or a bad name to write"),
+    (41, Refusal::SecondName, "a second name in BED"),
+    (42, Refusal::TooManyLines, "a sixty-fifth line of BED"),
+    (43, Refusal::LittleTextRoom, "too little room for BED text"),
+    (44, Refusal::MissingRow, "a row that isn't there"),
 ];

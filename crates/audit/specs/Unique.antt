@@ -9,7 +9,8 @@ use lib.IntN.{ℤ}
 use lib.Ieee.{Float}
 use Rattle.metrics.specs.declared.Sim.{Sim}
 use Rattle.metrics.specs.declared.kmer.Counted.{Counted}
-use Rattle.metrics.specs.Promises.{SizesimPromise, SeqsimPromise, OverlapsPromise, SeqToKmerPromise, ClearRowPromise, EntriesPromise, MagnitudePromise, RowOverPromise, BitsOfPromise}
+use Rattle.metrics.specs.Promises.{SizesimPromise, SimilarityPromise, SeqsimPromise, OverlapsPromise, BitsOfPromise}
+use Rattle.metrics.specs.Promises.{SeqToKmerPromise, ClearRowPromise, EntriesPromise, MagnitudePromise, RowOverPromise}
 use Rattle.params.specs.declared.Settings.{Settings}
 use Rattle.params.specs.Promises.{SearchModePromise, QueueRoomPromise, CallFaultPromise, PartsFaultPromise, CountFaultPromise, SeveralFaultPromise, EarlierPromise}
 use Rattle.kplib.specs.Answer.{searches}
@@ -30,10 +31,14 @@ use Rattle.fields.specs.Promises.{U8AtPromise, U32AtPromise, U64AtPromise, I32O
 use Rattle.form.specs.Promises.{ScanPromise, KindOfPromise, BodyLenPromise, RecordAtPromise, ReadSettingsPromise, WriteSettingsPromise}
 use Rattle.reader.specs.Promises.{ReadJobPromise}
 use Rattle.writer.specs.Promises.{WriteJobPromise}
-use Rattle.text.specs.Promises.{PutRefusedPromise, PutHapPromise, PutAnswerPromise}
+use Rattle.text.specs.Promises.{PutBytesPromise, PutDigitsPromise, PutRefusedPromise, PutHapPromise, PutAnswerPromise}
+use Rattle.bed.specs.declared.BedRead.{BedRead}
+use Rattle.bed.specs.declared.BedWritten.{BedWritten}
+use Rattle.bed.specs.Promises.{ReadBedPromise, WriteBedPromise}
 use Rattle.desk.specs.Promises.{AnswerPromise}
 use Rattle.capi.specs.Words.{settingsOfWords}
 use Rattle.capi.specs.Promises.{NdSeqToKmerPromise, NdSeqsimPromise, NdSizesimPromise, NdCountChainsPromise, NdAnswerPromise, NdApplyHaplotypePromise, NdApplyHaplotypesPromise}
+use Rattle.capi.specs.Promises.{NdReadBedPromise, NdWriteBedPromise}
 
 -- at most one result meets a promise of a value, and at most one pair a promise of what a slice holds at exit and a value
 abbrev pub One : (A : Type 0) → (A → Type 0) → Type 0
@@ -61,8 +66,15 @@ Agree A searching promise = (x y : Left A) → promise x → promise y → (x .r
     × ((x .says ≡ y .says)
     × ((searching ≡ false) → (x .links ≡ y .links) × (x .keys ≡ y .keys)))
 
+-- what a BED text is read into
+pub record Filled : Type 0 where
+  pub starts : List ℕ
+  pub ends : List ℕ
+  pub name : List ℕ
+
 pub record Unique : Type 0 where
   pub sizesim : (a b : ℕ) → One Sim (SizesimPromise a b)
+  pub similarity : (d n : ℕ) → One Float (SimilarityPromise d n)
   pub seqsim : (a b : List ℤ) (minkfreq : ℕ) → One Sim (SeqsimPromise a b minkfreq)
   pub bits-of : (x : Float) → One ℕ (BitsOfPromise x)
   pub overlaps : (s1 e1 s2 e2 : ℕ) → One Bool (OverlapsPromise s1 e1 s2 e2)
@@ -118,9 +130,13 @@ pub record Unique : Type 0 where
   pub read-job : (bytes : List ℕ) (t : Lent) → Two Lent Reading (ReadsInto bytes t)
   pub write-job : (s : Settings) (t : Lent) (out : List ℕ)
       → Two (List ℕ) Writing (WriteJobPromise s (t .starts) (t .ends) (t .sizes) (t .negatives) (t .counts) (t .partSizes) (t .partNegatives) (t .partCounts) (t .breaks) (t .letters) out)
+  pub put-bytes : (out : List ℕ) (at : ℕ) (src : List ℕ) → Two (List ℕ) ℕ (PutBytesPromise out at src)
+  pub put-digits : (out : List ℕ) (at n left : ℕ) → Two (List ℕ) ℕ (PutDigitsPromise out at n left)
   pub put-refused : (out : List ℕ) (at n : ℕ) → Two (List ℕ) ℕ (PutRefusedPromise out at n)
   pub put-hap : (out : List ℕ) (at i : ℕ) → Two (List ℕ) ℕ (PutHapPromise out at i)
   pub put-answer : (out : List ℕ) (at : ℕ) (rows records : List ℕ) (a : Answer) → Two (List ℕ) ℕ (PutAnswerPromise out at rows records a)
+  pub read-bed : (text starts ends name : List ℕ) → Two Filled BedRead (λ x. ReadBedPromise text starts ends name (x .starts) (x .ends) (x .name))
+  pub write-bed : (name starts ends rows text : List ℕ) → Two (List ℕ) BedWritten (WriteBedPromise name starts ends rows text)
   pub answer : (input out : List ℕ) → Two (List ℕ) ℕ (AnswerPromise input out)
   pub nd-seq-to-kmer : (letters : List ℕ) (k : ℕ) (negative : Bool) (row : List ℤ) → Two (List ℤ) ℕ (NdSeqToKmerPromise letters k negative row)
   pub nd-seqsim : (a b : List ℤ) (minkfreq : ℕ) (place : Float) → Two Float ℕ (NdSeqsimPromise a b minkfreq place)
@@ -137,3 +153,7 @@ pub record Unique : Type 0 where
       (numberedSeveralLent (settingsOfWords settings) starts ends sizes features numbers partEnds featureEnds partSizes partFeatures links keys rows records reports))
       (λ x. NdApplyHaplotypesPromise settings starts ends sizes features numbers partEnds featureEnds partSizes partFeatures links keys rows records reports
       (x .links) (x .keys) (x .rows) (x .says .0) (x .says .1 .0) (x .says .1 .1))
+  pub nd-read-bed : (text starts ends name counts : List ℕ) → Two Filled (List ℕ × ℕ)
+      (λ x u. NdReadBedPromise text starts ends name counts (x .starts) (x .ends) (x .name) (u .0) (u .1))
+  pub nd-write-bed : (name starts ends rows text : List ℕ) (written : ℕ) → Two (List ℕ) (ℕ × ℕ)
+      (λ x u. NdWriteBedPromise name starts ends rows text written x (u .0) (u .1))

@@ -8,10 +8,14 @@ pub mod WordLaws
 pub mod SimilarityLaws
 pub mod RoundingLaws
 pub mod RowSumLaws
+mod PartSumLaws
+mod BoundLaws
+mod BlockLaws
 pub mod SizeSumLaws
 pub mod PartLaws
 pub mod CodeLaws
 mod CodedLaws
+mod StandLaws
 pub mod VerdictLaws
 pub mod OneToOneLaws
 pub mod LayLaws

@@ -4,6 +4,7 @@ pub mod Parts
 pub mod Sums
 pub mod Score
 pub mod Scoring
+pub mod Blocks
 pub mod OneToOne
 pub mod Search
 pub mod Answer

@@ -8,5 +8,6 @@ mod plan;
 mod queue;
 pub mod report;
 mod steps;
+mod sums;
 pub mod traverse;
 pub mod vargraph;

@@ -20,7 +20,7 @@ pub text-accepted : (a : Answer) (rows records : List ℕ) → a .refusal ≡ 0 
 unfolding answerText
 text-accepted a rows records h = simp (eq-eqb (a .refusal) 0 h)
 
-digits-short : (left n : ℕ) → length (digitsWithin left n) ≤ left
+pub digits-short : (left n : ℕ) → length (digitsWithin left n) ≤ left
 unfolding digitsWithin
 digits-short zero n = omega arith
 digits-short (suc left) n = go (ltb n 10) (digits-short left (n / 10))

@@ -4,8 +4,14 @@ use Prim.Native.Nat.{ℕ}
 use mathlib.Core.List.{List}
 use lib.ListN.{take}
 use Rattle.kplib.specs.declared.traverse.Answer.{Answer}
-use Rattle.text.specs.Text.{refusedText, hapText, answerText}
+use Rattle.text.specs.Text.{digitsWithin, refusedText, hapText, answerText}
 use Rattle.text.specs.Written.{Written}
+
+abbrev pub PutBytesPromise : List ℕ → ℕ → List ℕ → List ℕ → ℕ → Type 0
+PutBytesPromise out at src out' r = Written out at src out' r
+
+abbrev pub PutDigitsPromise : List ℕ → ℕ → ℕ → ℕ → List ℕ → ℕ → Type 0
+PutDigitsPromise out at n left out' r = Written out at (digitsWithin left n) out' r
 
 abbrev pub PutRefusedPromise : List ℕ → ℕ → ℕ → List ℕ → ℕ → Type 0
 PutRefusedPromise out at n out' r = Written out at (refusedText n) out' r

@@ -16,7 +16,7 @@ unfoldable pub bytesOf : String → List ℕ
 bytesOf no-more = []
 bytesOf (c then s) = code c ∷ bytesOf s
 
--- a number in decimal; ten digits are enough for a u32
+-- a number in decimal, at most so many digits; ten are enough for a u32, twenty for a u64
 unfoldable pub digitsWithin : ℕ → ℕ → List ℕ
 digitsWithin zero n = []
 digitsWithin (suc left) n = cond (ltb n 10) ((48 + n) ∷ []) (digitsWithin left (n / 10) ++ ((48 + n % 10) ∷ []))

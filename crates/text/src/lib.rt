@@ -1,6 +1,6 @@
 // The text that the program prints, stored in a lent slice from a place on. What does not fit is not written. Each returns the place behind.
 mod lines;
-mod pieces;
+pub mod pieces;
 
 use crate::lines::put_eight;
 use crate::lines::put_number_line;
