@@ -125,8 +125,11 @@ pub fn show(data: &[u8]) -> Result<Told, Failure> {
 /// The rows of the answer as BED; a sheet that the rules refuse has none.
 pub fn bed(data: &[u8], sort: bool, name: &str) -> Result<Told, Failure> {
     let (sheet, notes) = read(data, sort)?;
+    if sheet.part_lists().len() > 1 {
+        return Err(Failure::Input("the sheet names several haplotypes, and BED has no column that could tell them apart; leave the parts of one".into()));
+    }
     let mut remarks = remarks(&notes, &warnings::of(&sheet));
-    match search::answer(&sheet) {
+    match search::answers(&sheet).and_then(|mut answers| answers.remove(0)) {
         Err(reasons) => {
             remarks.extend(reasons.iter().map(|reason| reason.to_string()));
             Ok(Told { out: vec![], remarks, status: 1 })

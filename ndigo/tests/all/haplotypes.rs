@@ -92,3 +92,10 @@ fn the_seventeenth_of_a_job_is_a_27() {
     assert_eq!(outcome.status, 2);
     assert!(outcome.err.contains(&format!("refused 27: {}: the record at byte {}", refusal_words(27), whole.len() - 1 + 15)), "{}", outcome.err);
 }
+
+#[test]
+fn bed_cannot_tell_them_apart() {
+    let outcome = ask("bed", sheet("P\tx\t5\tCCCCC\nQ\ty\t-4\tAGCT\n"), &["--name", "reef7"]);
+    assert_eq!(outcome.status, 2);
+    assert!(outcome.err.contains("several haplotypes, and BED has no column"), "{}", outcome.err);
+}
