@@ -110,14 +110,14 @@ static uint32_t search_two(int32_t first_size, size_t n, struct answers *answers
     const uint32_t record_numbers[V] = {50, 40};
     uint64_t starts[V] = {10, 20}, ends[V] = {10, 20}, keys[ROOM], part_ends[HAPLOTYPES] = {1, 2}, feature_ends[HAPLOTYPES] = {ENTRIES, 2 * ENTRIES};
     int32_t sizes[V] = {2, 2}, features[V * ENTRIES], part_sizes[HAPLOTYPES] = {first_size, 2}, part_features[HAPLOTYPES * ENTRIES];
-    uint32_t settings[ND_SETTINGS_LEN], links[ROOM];
-    set(settings);
+    struct nd_settings settings = worked_settings();
+    uint32_t links[ROOM];
     count("AG", features);
     count("CT", features + ENTRIES);
     count("CT", part_features);
     count("AG", part_features + ENTRIES);
     memset(answers, MARK, sizeof *answers);
-    return nd_apply_haplotypes(settings, starts, V, ends, V, sizes, V, features, V * ENTRIES, record_numbers, V, part_ends, n, feature_ends, n, part_sizes, n,
+    return nd_apply_haplotypes(&settings, starts, V, ends, V, sizes, V, features, V * ENTRIES, record_numbers, V, part_ends, n, feature_ends, n, part_sizes, n,
                                part_features, n * ENTRIES, links, ROOM, keys, ROOM, answers->rows, HAPLOTYPES * V, answers->records, HAPLOTYPES * V,
                                answers->reports, HAPLOTYPES * ND_HAPLOTYPE_REPORT_LEN);
 }
