@@ -33,9 +33,11 @@ class Answer:
 
 
 def words_of(settings: Settings) -> Words:
-    """The settings as the library takes them. A k that no byte holds is refused as any other wrong one."""
+    """The settings as the library takes them: each by its field's kind, so that a float of any library stays one. A k that no byte holds is
+    refused as any other wrong one."""
     given = asdict(settings)
-    return Words(**{name: value if isinstance(value, float) else word(int(value)) for name, value in given.items()})
+    kinds = {name: kind for name, kind in Words._fields_}
+    return Words(**{name: float(value) if kinds[name] is ctypes.c_float else word(value) for name, value in given.items()})
 
 
 def queue_room(settings: Settings, variants: int) -> int:
@@ -57,11 +59,12 @@ def _given(numbers: Any, kind: Any) -> Any:
 def apply_haplotype(settings: Settings, table: Table, haplotype: Haplotype) -> Answer:
     """The path of the table that best explains the haplotype. A call that the rules refuse raises :class:`Refused`."""
     u32, u64, i32 = ctypes.c_uint32, ctypes.c_uint64, ctypes.c_int32
+    words = words_of(settings)
     room = queue_room(settings, len(table))
     links, keys = (u32 * room)(), (u64 * room)()
     rows, records, report = (u32 * len(table))(), (u32 * len(table))(), (u32 * 7)()
     number = LIBRARY.nd_apply_haplotype(
-        ctypes.byref(words_of(settings)),
+        ctypes.byref(words),
         *_given(table.starts, u64), *_given(table.ends, u64), *_given(table.sizes, i32), *_given(table.features, i32), *_given(table.records, u32),
         *_given(haplotype.sizes, i32), *_given(haplotype.features, i32),
         links, room, keys, room, rows, len(rows), records, len(records), report)
