@@ -137,21 +137,54 @@ fn chain(random: &mut Random, shape: &Shape) -> Vec<usize> {
     rows.iter().enumerate().map(|(before, row)| row + before * over).collect()
 }
 
+/// A haplotype's parts: each from its own stretch of the table, or the rows of a chain.
+fn parts_of(random: &mut Random, shape: &Shape, variants: &[Change]) -> Vec<Change> {
+    match shape.parts {
+        Parts::Rows(count) => {
+            let stretch = shape.variants / count;
+            (0..count)
+                .map(|part| {
+                    let row = part * stretch + random.below(stretch);
+                    variants[row].noisy(random)
+                })
+                .collect()
+        }
+        Parts::Chain => chain(random, shape).into_iter().map(|row| variants[row].noisy(random)).collect(),
+    }
+}
+
+/// Several haplotypes over one table.
+pub struct Shared {
+    pub settings: Settings,
+    pub table: Table,
+    pub haplotypes: Vec<Haplotype>,
+}
+
+impl Shared {
+    pub fn new(random: &mut Random, shape: &Shape, count: usize) -> Self {
+        let variants: Vec<Change> = (0..shape.variants).map(|_| Change::random(random)).collect();
+        let mut table = Table::new(shape.k);
+        for (row, change) in variants.iter().enumerate() {
+            let start = 100 * row as u64;
+            table.add_counted(start, start + width(shape), change.size(), &change.features(shape.k));
+        }
+        let haplotypes = (0..count)
+            .map(|_| {
+                let mut haplotype = Haplotype::new(shape.k);
+                for change in parts_of(random, shape, &variants) {
+                    haplotype.add_counted(change.size(), &change.features(shape.k));
+                }
+                haplotype
+            })
+            .collect();
+        Shared { settings: shape.settings(), table, haplotypes }
+    }
+}
+
 impl Case {
     pub fn new(random: &mut Random, shape: &Shape) -> Self {
         let variants: Vec<Change> = (0..shape.variants).map(|_| Change::random(random)).collect();
-        let parts: Vec<Change> = match shape.parts {
-            Parts::Rows(count) => {
-                let stretch = shape.variants / count;
-                (0..count)
-                    .map(|part| {
-                        let row = part * stretch + random.below(stretch);
-                        variants[row].noisy(random)
-                    })
-                    .collect()
-            }
-            Parts::Chain => chain(random, shape).into_iter().map(|row| variants[row].noisy(random)).collect(),
-        };
+        let parts = parts_of(random, shape, &variants);
         let settings = shape.settings();
         let judged = judges(&settings);
         let starts: Vec<u64> = (0..shape.variants as u64).map(|row| 100 * row).collect();

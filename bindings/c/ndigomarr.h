@@ -4,8 +4,8 @@
  * and that what is written overlaps nothing else that is lent. An empty slice still needs a pointer
  * that is not null.
  * Each but nd_answer, which returns a length, returns 0 or the number of a refusal. On a refusal
- * every lent buffer is as it was, but for *place, *count, the report, the counts and *written, which
- * are then 0.
+ * every lent buffer is as it was, but for *place, *count, the report of one search, the counts and
+ * *written, which are then 0.
  *
  * What a call promises is proved of the Rattle source; tools/prototypes holds this header to it.
  */
@@ -20,7 +20,7 @@
 extern "C" {
 #endif
 
-/* The refusals, each with the table's words. 1 to 14 are returned, and some of 1 to 13 stand in
+/* The refusals, each with the table's words. 1 to 14 and 27 are returned, and some of them stand in
  * nd_answer's text too; 20 to 26 stand there alone; 30 is the Rattle reader's and writer's; 40 to
  * 44 are BED's.
  * Made from docs/refusals.tsv by tools/refusals --write. */
@@ -47,6 +47,7 @@ enum nd_refusal {
     ND_REFUSED_BAD_FLAG = 24, /* a flag not 0 or 1 */
     ND_REFUSED_BYTES_AFTER_END = 25, /* bytes after 0x00 */
     ND_REFUSED_TOO_LARGE = 26, /* over the program's own limits */
+    ND_REFUSED_TOO_MANY_HAPLOTYPES = 27, /* not 1 to 16 haplotypes */
     ND_REFUSED_LITTLE_ROOM = 30, /* too little room */
     ND_REFUSED_BAD_LINE = 40, /* a bad line of BED, or a bad name to write */
     ND_REFUSED_SECOND_NAME = 41, /* a second name in BED */
@@ -81,6 +82,7 @@ static inline const char *nd_refusal_text(uint32_t number)
     case ND_REFUSED_BAD_FLAG: return "a flag not 0 or 1";
     case ND_REFUSED_BYTES_AFTER_END: return "bytes after 0x00";
     case ND_REFUSED_TOO_LARGE: return "over the program's own limits";
+    case ND_REFUSED_TOO_MANY_HAPLOTYPES: return "not 1 to 16 haplotypes";
     case ND_REFUSED_LITTLE_ROOM: return "too little room";
     case ND_REFUSED_BAD_LINE: return "a bad line of BED, or a bad name to write";
     case ND_REFUSED_SECOND_NAME: return "a second name in BED";
@@ -164,6 +166,35 @@ uint32_t nd_apply_haplotype(const struct nd_settings *settings, const uint64_t *
                             size_t part_features_len, uint32_t *links, size_t links_len,
                             uint64_t *keys, size_t keys_len, uint32_t *rows, size_t rows_len,
                             uint32_t *records, size_t records_len, uint32_t report[ND_REPORT_LEN]);
+
+/* How many words of a report a haplotype has, where there are several: its refusal, and then what
+ * enum nd_report names. */
+enum { ND_HAPLOTYPE_REPORT_LEN = 8 };
+
+/* The same for 1 to 16 haplotypes over one table, which is checked once; n is part_ends_len. The
+ * parts of all haplotypes lie one behind the other, and so do their features: stretch i of
+ * part_sizes ends at part_ends[i] and begins at the end before it, the first at 0, and so that of
+ * part_features by feature_ends. Haplotype i has its rows from rows[i * V] on, their records from
+ * records[i * V] on, and its report from reports[ND_HAPLOTYPE_REPORT_LEN * i] on; what lies behind
+ * them stays as it was. The queue's room is used again for each haplotype.
+ * What is returned refuses the whole call, and every buffer is then as it was, the reports too. Its
+ * order is that of nd_apply_haplotype with 27 (n not 1 to 16) after 4; 6 is also for other than n
+ * feature_ends, ends that fall, or a last end that is not its slice's length, and 12 for fewer than
+ * V * n entries in rows or in records, or 8 * n in reports. With n 1 the parts are asked among these.
+ * With more, a haplotype whose parts are refused (5, 6, 9, 10) has that number in its report and
+ * seven zeros behind it, its rows and records stay as they were, and what is returned is 0. */
+uint32_t nd_apply_haplotypes(const struct nd_settings *settings, const uint64_t *starts,
+                             size_t starts_len, const uint64_t *ends, size_t ends_len,
+                             const int32_t *sizes, size_t sizes_len, const int32_t *features,
+                             size_t features_len, const uint32_t *record_numbers,
+                             size_t record_numbers_len, const uint64_t *part_ends,
+                             size_t part_ends_len, const uint64_t *feature_ends,
+                             size_t feature_ends_len, const int32_t *part_sizes,
+                             size_t part_sizes_len, const int32_t *part_features,
+                             size_t part_features_len, uint32_t *links, size_t links_len,
+                             uint64_t *keys, size_t keys_len, uint32_t *rows, size_t rows_len,
+                             uint32_t *records, size_t records_len, uint32_t *reports,
+                             size_t reports_len);
 
 /* How long a text the program may print. */
 enum { ND_TEXT_LEN = 8192 };

@@ -23,6 +23,7 @@ TABLE: Dict[int, Tuple[str, str]] = {
     24: ("BAD_FLAG", "a flag not 0 or 1"),
     25: ("BYTES_AFTER_END", "bytes after 0x00"),
     26: ("TOO_LARGE", "over the program's own limits"),
+    27: ("TOO_MANY_HAPLOTYPES", "not 1 to 16 haplotypes"),
     30: ("LITTLE_ROOM", "too little room"),
     40: ("BAD_LINE", "a bad line of BED, or a bad name to write"),
     41: ("SECOND_NAME", "a second name in BED"),

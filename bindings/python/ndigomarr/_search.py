@@ -2,10 +2,11 @@
 import ctypes
 import struct
 from dataclasses import asdict, dataclass
-from typing import Any, List, Optional
+from itertools import accumulate
+from typing import Any, List, Optional, Sequence, Union
 
 from ._lent import array, word
-from ._library import LIBRARY, accepted
+from ._library import LIBRARY, Refused, accepted
 from ._settings import Settings, Words
 from ._table import Haplotype, Table
 
@@ -56,6 +57,18 @@ def _given(numbers: Any, kind: Any) -> Any:
     return lent, len(lent)
 
 
+def _answer(report: Any, rows: Any, records: Any) -> Answer:
+    """The answer that the seven words of a report tell, with as many rows and records as it counts."""
+    count, target, score, sizesim, seqsim, scored, complete = report
+    left_out = target - 1 if target else None
+    return Answer(list(rows[:count]), list(records[:count]), left_out, float_of(score), float_of(sizesim), float_of(seqsim), scored, complete == 1)
+
+
+def _table(table: Table) -> Any:
+    u32, u64, i32 = ctypes.c_uint32, ctypes.c_uint64, ctypes.c_int32
+    return (*_given(table.starts, u64), *_given(table.ends, u64), *_given(table.sizes, i32), *_given(table.features, i32), *_given(table.records, u32))
+
+
 def apply_haplotype(settings: Settings, table: Table, haplotype: Haplotype) -> Answer:
     """The path of the table that best explains the haplotype. A call that the rules refuse raises :class:`Refused`."""
     u32, u64, i32 = ctypes.c_uint32, ctypes.c_uint64, ctypes.c_int32
@@ -63,12 +76,29 @@ def apply_haplotype(settings: Settings, table: Table, haplotype: Haplotype) -> A
     room = queue_room(settings, len(table))
     links, keys = (u32 * room)(), (u64 * room)()
     rows, records, report = (u32 * len(table))(), (u32 * len(table))(), (u32 * 7)()
-    number = LIBRARY.nd_apply_haplotype(
-        ctypes.byref(words),
-        *_given(table.starts, u64), *_given(table.ends, u64), *_given(table.sizes, i32), *_given(table.features, i32), *_given(table.records, u32),
-        *_given(haplotype.sizes, i32), *_given(haplotype.features, i32),
-        links, room, keys, room, rows, len(rows), records, len(records), report)
-    accepted(number)
-    count, target, score, sizesim, seqsim, scored, complete = report
-    left_out = target - 1 if target else None
-    return Answer(list(rows[:count]), list(records[:count]), left_out, float_of(score), float_of(sizesim), float_of(seqsim), scored, complete == 1)
+    accepted(LIBRARY.nd_apply_haplotype(
+        ctypes.byref(words), *_table(table), *_given(haplotype.sizes, i32), *_given(haplotype.features, i32),
+        links, room, keys, room, rows, len(rows), records, len(records), report))
+    return _answer(report, rows, records)
+
+
+def apply_haplotypes(settings: Settings, table: Table, haplotypes: Sequence[Haplotype]) -> List[Union[Answer, Refused]]:
+    """The answer of each of 1 to 16 haplotypes over one table, which is checked once.
+
+    A call that is refused as a whole raises :class:`Refused`, and so does every refusal with one haplotype; with several, one whose own parts
+    are refused has that refusal in its place.
+    """
+    u32, u64, i32 = ctypes.c_uint32, ctypes.c_uint64, ctypes.c_int32
+    words = words_of(settings)
+    sizes = [size for haplotype in haplotypes for size in haplotype.sizes]
+    features = [entry for haplotype in haplotypes for entry in haplotype.features]
+    part_ends = list(accumulate(len(haplotype.sizes) for haplotype in haplotypes))
+    feature_ends = list(accumulate(len(haplotype.features) for haplotype in haplotypes))
+    room, v, count = queue_room(settings, len(table)), len(table), len(haplotypes)
+    links, keys = (u32 * room)(), (u64 * room)()
+    rows, records, reports = (u32 * (v * count))(), (u32 * (v * count))(), (u32 * (8 * count))()
+    accepted(LIBRARY.nd_apply_haplotypes(
+        ctypes.byref(words), *_table(table), *_given(part_ends, u64), *_given(feature_ends, u64), *_given(sizes, i32), *_given(features, i32),
+        links, room, keys, room, rows, len(rows), records, len(records), reports, len(reports)))
+    own = [(reports[8 * at], _answer(reports[8 * at + 1:8 * at + 8], rows[v * at:v * at + v], records[v * at:v * at + v])) for at in range(count)]
+    return [Refused(number) if number else answer for number, answer in own]

@@ -29,6 +29,23 @@ def test_the_worked_example():
     assert (answer.scored, answer.complete) == (4, True)
 
 
+def test_several_haplotypes_each_as_by_itself():
+    table, first = worked()
+    refused, none, second = Haplotype(1), Haplotype(1), Haplotype(1)
+    refused.add(131073, "AG")
+    second.insertion("CT")
+    answers = ndigomarr.apply_haplotypes(SETTINGS, table, [first, refused, none, second])
+    assert answers[0] == ndigomarr.apply_haplotype(SETTINGS, table, first)
+    assert isinstance(answers[1], Refused) and answers[1].number == 9
+    assert answers[2] == ndigomarr.apply_haplotype(SETTINGS, table, none)
+    assert answers[3] == ndigomarr.apply_haplotype(SETTINGS, table, second)
+    assert answers[3].records == [268]
+    for number, haplotypes in [(9, [refused]), (27, []), (27, [first] * 17)]:
+        with pytest.raises(Refused) as told:
+            ndigomarr.apply_haplotypes(SETTINGS, table, haplotypes)
+        assert told.value.number == number
+
+
 def test_nothing_found_leaves_out_nothing():
     table, _ = worked()
     haplotype = Haplotype(1)

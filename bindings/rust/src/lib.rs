@@ -242,6 +242,46 @@ pub fn apply_haplotype_in(settings: &Settings, table: &Table, haplotype: &Haplot
     raw::apply_haplotype(settings, table, haplotype, room)
 }
 
+/// The paths that best explain each of 1 to 16 haplotypes over one table, which is checked once. A refusal of the settings or the table
+/// answers the whole call, and so does any with one haplotype; with several, one of a haplotype's own parts answers that haplotype alone.
+///
+/// ```
+/// use ndigomarr::{apply_haplotypes, Refusal, Settings};
+///
+/// let settings = Settings { k: 1, minkfreq: 1, ..Settings::default() };
+/// let mut table = settings.table();
+/// table.insertion(10, b"AG")?;
+/// table.insertion(20, b"CT")?;
+/// let mut haplotypes = vec![settings.haplotype(); 3];
+/// haplotypes[0].insertion(b"CT")?;
+/// haplotypes[1].add(131_073, b"AG", false)?;
+/// haplotypes[2].insertion(b"AG")?;
+/// let answers = apply_haplotypes(&settings, &table, &haplotypes)?;
+/// assert_eq!(answers[0].as_ref().unwrap().rows, [1]);
+/// assert_eq!(answers[1], Err(Refusal::BadSize));
+/// assert_eq!(answers[2].as_ref().unwrap().rows, [0]);
+/// # Ok::<(), ndigomarr::Refusal>(())
+/// ```
+pub fn apply_haplotypes(settings: &Settings, table: &Table, haplotypes: &[Haplotype]) -> Result<Vec<Result<Answer, Refusal>>, Refusal> {
+    apply_haplotypes_in(settings, table, haplotypes, &mut Room::new())
+}
+
+/// The same in a room that the caller keeps: for many calls one after the other.
+///
+/// ```
+/// use ndigomarr::{apply_haplotypes_in, Room, Settings};
+///
+/// let settings = Settings { k: 1, minkfreq: 1, ..Settings::default() };
+/// let mut table = settings.table();
+/// table.insertion(10, b"AG")?;
+/// let mut room = Room::new();
+/// assert_eq!(apply_haplotypes_in(&settings, &table, &[settings.haplotype()], &mut room)?.len(), 1);
+/// # Ok::<(), ndigomarr::Refusal>(())
+/// ```
+pub fn apply_haplotypes_in(settings: &Settings, table: &Table, haplotypes: &[Haplotype], room: &mut Room) -> Result<Vec<Result<Answer, Refusal>>, Refusal> {
+    raw::apply_haplotypes(settings, table, haplotypes, room)
+}
+
 /// The program's answer to a job's bytes: its lines of text. A job that the program refuses is answered by a line that says so.
 ///
 /// ```

@@ -46,6 +46,8 @@ pub enum Refusal {
     BytesAfterEnd,
     /// 26: over the program's own limits
     TooLarge,
+    /// 27: not 1 to 16 haplotypes
+    TooManyHaplotypes,
     /// 30: too little room
     LittleRoom,
     /// 40: a bad line of BED, or a bad name to write
@@ -63,7 +65,7 @@ pub enum Refusal {
 }
 
 /// Number, case and words of each.
-pub(crate) const TABLE: [(u32, Refusal, &str); 27] = [
+pub(crate) const TABLE: [(u32, Refusal, &str); 28] = [
     (1, Refusal::BadK, "k not 1 to 6"),
     (2, Refusal::BadFloat, "a float setting is NaN or outside its range"),
     (3, Refusal::BadNumber, "a whole-number setting over its limit"),
@@ -85,6 +87,7 @@ pub(crate) const TABLE: [(u32, Refusal, &str); 27] = [
     (24, Refusal::BadFlag, "a flag not 0 or 1"),
     (25, Refusal::BytesAfterEnd, "bytes after 0x00"),
     (26, Refusal::TooLarge, "over the program's own limits"),
+    (27, Refusal::TooManyHaplotypes, "not 1 to 16 haplotypes"),
     (30, Refusal::LittleRoom, "too little room"),
     (40, Refusal::BadLine, "a bad line of BED, or a bad name to write"),
     (41, Refusal::SecondName, "a second name in BED"),

@@ -1,16 +1,16 @@
 // What Rust and C link: the library's calls on numbers and slices. Each gives back the refusal's number, 0 for an accepted call.
-ghost use Rattle.capi.specs.Promises.{NdSeqToKmerPromise, NdSeqsimPromise, NdSizesimPromise, NdCountChainsPromise, NdAnswerPromise, NdApplyHaplotypePromise, NdReadBedPromise, NdWriteBedPromise};
-use crate::report::put_report;
+ghost use Rattle.capi.specs.Promises.{NdSeqToKmerPromise, NdSeqsimPromise, NdSizesimPromise, NdCountChainsPromise, NdAnswerPromise};
+ghost use Rattle.capi.specs.Promises.{NdApplyHaplotypePromise, NdApplyHaplotypesPromise, NdReadBedPromise, NdWriteBedPromise};
 use crate::words::length_word;
 use crate::words::settings_of_words;
 use bed::BedRead;
 use bed::BedWritten;
+use kplib::report::put_report;
 use kplib::vargraph::ChainCount;
 use metrics::Sim;
 use metrics::kmer::Counted;
 use metrics::refusals::ACCEPTED;
 
-mod report;
 mod words;
 
 #[no_mangle]
@@ -128,6 +128,50 @@ pub extern "C" fn nd_apply_haplotype(
     );
     put_report(answer, report);
     answer.refusal
+}
+
+// Several haplotypes over one table; each has its refusal and its answer in its own eight words of the reports.
+#[no_mangle]
+pub extern "C" fn nd_apply_haplotypes(
+    settings: &[u32; 13],
+    starts: &[u64],
+    ends: &[u64],
+    sizes: &[i32],
+    features: &[i32],
+    record_numbers: &[u32],
+    part_ends: &[u64],
+    feature_ends: &[u64],
+    part_sizes: &[i32],
+    part_features: &[i32],
+    links: &mut [u32],
+    keys: &mut [u64],
+    rows: &mut [u32],
+    records: &mut [u32],
+    reports: &mut [u32],
+) -> u32
+    ensures { λ r. ⌜ NdApplyHaplotypesPromise (now (settings .entry)) (now (starts .entry)) (now (ends .entry)) (now (sizes .entry)) (now (features .entry))
+        (now («record_numbers» .entry)) (now («part_ends» .entry)) (now («feature_ends» .entry)) (now («part_sizes» .entry)) (now («part_features» .entry))
+        (now (links .entry)) (now (keys .entry)) (now (rows .entry)) (now (records .entry)) (now (reports .entry))
+        (now (links .exit)) (now (keys .exit)) (now (rows .exit)) (now (records .exit)) (now (reports .exit)) r ⌝ }
+{
+    let s = settings_of_words(settings);
+    dive::apply_numbered_haplotypes(
+        s,
+        starts,
+        ends,
+        sizes,
+        features,
+        record_numbers,
+        part_ends,
+        feature_ends,
+        part_sizes,
+        part_features,
+        links,
+        keys,
+        rows,
+        records,
+        reports,
+    )
 }
 
 // The counts are how many rows there are and how long the name is; both 0 on a refusal.

@@ -31,3 +31,5 @@ mod SearchedLaws
 pub mod PlaceLaws
 pub mod FoundLaws
 mod CountedLaws
+pub mod StretchLaws
+mod HaplotypesLaws

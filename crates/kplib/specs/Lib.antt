@@ -9,4 +9,6 @@ pub mod OneToOne
 pub mod Search
 pub mod Answer
 pub mod SearchSteps
+pub mod Report
+pub mod Haplotypes
 pub mod Promises

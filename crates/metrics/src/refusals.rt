@@ -42,6 +42,8 @@ pub const BAD_FLAG: u32 = 24;
 pub const BYTES_AFTER_END: u32 = 25;
 // over the program's own limits
 pub const TOO_LARGE: u32 = 26;
+// not 1 to 16 haplotypes
+pub const TOO_MANY_HAPLOTYPES: u32 = 27;
 // too little room
 pub const LITTLE_ROOM: u32 = 30;
 // a bad line of BED, or a bad name to write

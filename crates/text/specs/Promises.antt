@@ -4,7 +4,7 @@ use Prim.Native.Nat.{ℕ}
 use mathlib.Core.List.{List}
 use lib.ListN.{take}
 use Rattle.kplib.specs.declared.traverse.Answer.{Answer}
-use Rattle.text.specs.Text.{digitsWithin, refusedText, answerText}
+use Rattle.text.specs.Text.{digitsWithin, refusedText, hapText, answerText}
 use Rattle.text.specs.Written.{Written}
 
 abbrev pub PutBytesPromise : List ℕ → ℕ → List ℕ → List ℕ → ℕ → Type 0
@@ -15,6 +15,9 @@ PutDigitsPromise out at n left out' r = Written out at (digitsWithin left n) out
 
 abbrev pub PutRefusedPromise : List ℕ → ℕ → ℕ → List ℕ → ℕ → Type 0
 PutRefusedPromise out at n out' r = Written out at (refusedText n) out' r
+
+abbrev pub PutHapPromise : List ℕ → ℕ → ℕ → List ℕ → ℕ → Type 0
+PutHapPromise out at i out' r = Written out at (hapText i) out' r
 
 -- the rows, and their records, are the first of those lent, as many as the answer counts, or all where fewer are lent
 abbrev pub PutAnswerPromise : List ℕ → ℕ → List ℕ → List ℕ → Answer → List ℕ → ℕ → Type 0

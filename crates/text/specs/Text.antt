@@ -87,6 +87,10 @@ eightLines rows records a = listLine (bytesOf "rows") rows ++ listLine (bytesOf 
 unfoldable pub refusedText : ℕ → List ℕ
 refusedText n = numberLine (bytesOf "refused ") n
 
+-- document 02, P1: the line before the lines of haplotype i, where a job has several
+unfoldable pub hapText : ℕ → List ℕ
+hapText i = numberLine (bytesOf "hap ") i
+
 -- `refused N`, or the eight lines
 unfoldable pub answerText : Answer → List ℕ → List ℕ → List ℕ
 answerText a rows records = cond (eqb (a .refusal) 0) (eightLines rows records a) (refusedText (a .refusal))

@@ -3,6 +3,7 @@ mod answers;
 mod bed;
 mod common;
 mod examples;
+mod haplotypes;
 mod jobs;
 mod library;
 mod messages;
