@@ -1,4 +1,4 @@
--- Booleans: both parts of a true `&&` are true, and none is true and false. Assumes nothing.
+-- Booleans: both parts of a true `&&` are true, one false part makes it false, and none is true and false. Assumes nothing.
 use Prim.Native.Nat.{ℕ}
 use native.Mathlib.Omega.{arith}
 use mathlib.Core.Path.{_≡_, refl}
@@ -10,3 +10,7 @@ clash t p q = let z : _≡_ {A = ℕ} 0 1 = cc in omega arith
 pub and-both : (a b : Bool) → (a && b) ≡ true → (a ≡ true) × (b ≡ true)
 and-both true b h = (refl, h)
 and-both false b h = absurd (clash false refl h)
+
+pub and-false : (a : Bool) → (a && false) ≡ false
+and-false true = refl
+and-false false = refl
