@@ -85,8 +85,8 @@ module _ {plan : Plan} {together : List Bool} {sizes : List ℤ} {links keys : L
   chained : isChain follows (length sizes) chain ≡ true
   chained = h .tree .chains entry (h .entry-in)
 
-  pub end-in : end ≤ 64
-  end-in = omega (arith, h .end-is, chain-end follows (length sizes) chain chained, h .sized .few)
+  pub end-in : (end ≤ 64) × (end ≤ length sizes)
+  end-in = let e = chain-end follows (length sizes) chain chained in (omega (arith, h .end-is, e, h .sized .few), omega (arith, h .end-is, e))
 
   -- the flag of a row behind the chain's last one tells whether it extends the chain
   pub found : {may : List Bool} → Flagged (followsBy plan together (chainOf links entry)) may → (r : ℕ) → end ≤ r → r < 64 → extends (followsBy plan together) (chainOf links entry) r ≡ getD may r false
@@ -95,7 +95,7 @@ module _ {plan : Plan} {together : List Bool} {sizes : List ℤ} {links keys : L
 
   size-small : natAbs size ≤ 8388608
   size-small =
-      let few : length (reverse chain) ≤ 64 = omega (arith, reverse-length chain, chain-length follows (length sizes) chain chained, end-in, h .end-is) in
+      let few : length (reverse chain) ≤ 64 = omega (arith, reverse-length chain, chain-length follows (length sizes) chain chained, end-in .0, h .end-is) in
       omega (arith, ap natAbs (h .size-is), size-le sizes (reverse chain) (h .sized) few)
 
   sum : (r : ℕ) → size +ℤ getD sizes r (pos 0) ≡ sizeOf sizes (reverse (r ∷ chain))
