@@ -86,7 +86,7 @@ enum nd_settings {
     ND_SETTING_K,          /* letters of a k-mer, 1 to 6 */
     ND_SETTING_SQUISH,     /* flag: the gap penalty counts rows beyond the first */
     ND_SETTING_ONE_TO_ONE, /* flag: each row alone, no search */
-    ND_SETTING_FULL,       /* flag: rows that do not overlap may follow each other */
+    ND_SETTING_FULL,       /* flag: rows of which no two overlap may stand in one path */
     ND_SETTING_MAXPATHS,   /* at most this many paths and one more are scored */
     ND_SETTING_MAXNODES,   /* tables of more rows are matched one to one */
     ND_SETTING_FNMAX,      /* how many parts a part list may leave out */
