@@ -1,10 +1,9 @@
 -- Nothing is less than 0: no larger start is less than the smaller end, and neither interval lies inside the other.
 use native.Mathlib.Omega.{arith}
 use mathlib.Core.Path.{_≡_, _∙_}
-use mathlib.Core.Bool.{false, _&&_}
+use mathlib.Core.Bool.{false}
 use Prim.Native.Nat.{ℕ}
 use borrow.Author.Tests.{le-ltb}
-use lib.Dec.{ltb}
 use Rattle.metrics.specs.Similarity.{overlapsOf}
 use Rattle.metrics.proofs.OverlapLaws.{overlap-rule}
 use Rattle.audit.specs.Anchors.{Anchors}

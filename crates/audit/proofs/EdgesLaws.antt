@@ -10,20 +10,12 @@ use lib.Dec.{leb, ltb, eqb}
 use lib.ListN.{length, getD}
 use Rattle.paths.specs.Chains.{firstAfter, extends, isChain}
 use Rattle.paths.specs.Count.{standsWithAll}
-use Rattle.paths.proofs.BooleanLaws.{clash, and-both, and-false}
+use Rattle.paths.proofs.BooleanLaws.{clash, and-both, and-false, and-true, and-assoc}
 use Rattle.paths.proofs.CountLaws.{chain-rule}
 use Rattle.paths.proofs.QueueLaws.{chain-parts}
 use Rattle.kplib.specs.Graph.{nodeOf, rowOf, edge, mayFollowIn, extendsIn, isChainIn}
 use Rattle.audit.specs.Edges.{source, sink, boundAt, nodesOverlap, graphEdge, joinsEach, allJoined, EdgesHold}
 use Rattle.audit.proofs.AnchorsLaws.{anchors}
-
-and-true : (b : Bool) → (b && true) ≡ b
-and-true true = refl
-and-true false = refl
-
-and-assoc : (a b c : Bool) → ((a && b) && c) ≡ (a && (b && c))
-and-assoc true b c = refl
-and-assoc false b c = refl
 
 regroup : (source row chain rest each : Bool) → ((source && (row && chain)) && (rest && each)) ≡ (((source && chain) && rest) && (row && each))
 regroup false row chain rest each = refl

@@ -2,11 +2,11 @@
 -- others; what one part of the count leaves of the cap is asked of the next. Assumes nothing.
 use mathlib.Core.Path.{_≡_, refl, sym, ap, _∙_}
 use mathlib.Core.Logic.{_≢_}
-use Prim.Native.Nat.{ℕ, zero, suc, _+_, _-_, _*_, _≤_, _<_, min}
+use Prim.Native.Nat.{ℕ, zero, suc, _+_, _-_, _≤_, _<_, min}
 use native.Mathlib.Omega.{arith}
 use native.Mathlib.Nat.{le-refl}
 use native.Mathlib.Numerals.{add-one}
-use mathlib.Core.Bool.{Bool, true, false, cond}
+use mathlib.Core.Bool.{Bool, true, false}
 use mathlib.Core.List.{List, [], _∷_, _++_, append-nil, append-assoc}
 use lib.Dec.{eqb}
 use lib.ListN.{length, getD, set, replicate, length-set, length-replicate}
@@ -134,9 +134,6 @@ module _ {p : ℕ → Bool} {from to : ℕ} {old new : List ℕ} {i end : ℕ} (
     }
 
 -- ---- the walk
-pub lt-of-ne : {a b : ℕ} → a ≤ b → (a ≡ b → ⊥) → a < b
-lt-of-ne l n = omega arith
-
 module _ {rows : List ℕ} {from to : ℕ} (h : Counting rows from to) where
   -- the rows without the first
   pub next-counting : from < to → {new : List ℕ} → Kept to rows new → Counting new (from + 1) to

@@ -15,10 +15,11 @@ use Rattle.paths.specs.Chains.{firstAfter, extends, isChain}
 use Rattle.paths.specs.Count.{standsWithAll, mayFollow}
 use Rattle.paths.specs.Heap.{Heap}
 use Rattle.paths.specs.Queue.{chainAt, keyOf, Links}
+use Rattle.paths.proofs.BooleanLaws.{and-true, and-assoc}
 use Rattle.paths.proofs.TableLaws.{chain-root, chain-link}
 use Rattle.paths.proofs.QueueLaws.{chain-end, chain-length, chain-longer, Queueing, queueing-more}
 use Rattle.kplib.specs.Sums.{sizeOf}
-use Rattle.kplib.specs.GraphWalk.{flagOf, Flagged}
+use Rattle.kplib.specs.GraphWalk.{Flagged}
 use Rattle.kplib.specs.Search.{distanceTo}
 use Rattle.kplib.specs.SearchSteps.{Extending, endAt, parentsOf, lastsOf, chainOf, followsBy}
 use Rattle.kplib.specs.declared.plan.Plan.{Plan}
@@ -44,10 +45,6 @@ pub record Asking (joins : ℕ → ℕ → Bool) (full : Bool) (links : List ℕ
 pub asking-begin : (joins : ℕ → ℕ → Bool) (full : Bool) (links : List ℕ) (entry : ℕ) → Asking joins full links entry (replicate 64 full) entry
 asking-begin joins full links entry = record { low = omega arith; long = length-replicate 64 full; asked = λ s l. rw (getD-replicate 64 s full false l) }
 
-and-assoc : (a b c : Bool) → (a && (b && c)) ≡ ((a && b) && c)
-and-assoc true b c = refl
-and-assoc false b c = refl
-
 module _ {joins : ℕ → ℕ → Bool} {full : Bool} {links : List ℕ} {entry : ℕ} {may : List Bool} {i : ℕ} (h : Asking joins full links entry may i) where
   -- one row more is asked
   pub asking-on : Links (parentsOf links) (suc entry) → 0 < i → {new : List Bool} → Flagged (λ s. getD may s false && joins (getD links i 0 % 64) s) new
@@ -60,7 +57,7 @@ module _ {joins : ℕ → ℕ → Bool} {full : Bool} {links : List ℕ} {entry 
         low = omega (arith, h .low, parent-at links i, k);
         long = f .long;
         asked = λ s q. rw (f .flag s q)
-            (sym (and-assoc (getD may s false) (joins (getD links i 0 % 64) s) (standsWithAll joins (chainOf links (getD links i 0 / 64)) s)) ∙ (rw chain at (h .asked s q)));
+            (and-assoc (getD may s false) (joins (getD links i 0 % 64) s) (standsWithAll joins (chainOf links (getD links i 0 / 64)) s) ∙ (rw chain at (h .asked s q)));
       }
 
   pub asking-done : i ≡ 0 → Flagged (mayFollow joins full (chainOf links entry)) may
@@ -68,10 +65,6 @@ module _ {joins : ℕ → ℕ → Bool} {full : Bool} {links : List ℕ} {entry 
     long = h .long;
     flag = λ s q. let e = h .asked s q in sym (and-true (getD may s false)) ∙ (rw (z, chain-root (parentsOf links) (lastsOf links)) at e);
   }
-    where
-      and-true : (b : Bool) → (b && true) ≡ b
-      and-true true = refl
-      and-true false = refl
 
 module _ {plan : Plan} {together : List Bool} {sizes : List ℤ} {links keys : List ℕ} {used queued entry end : ℕ} {size : ℤ}
     (h : Extending plan together sizes links keys used queued entry end size) where

@@ -1,4 +1,4 @@
--- Booleans: both parts of a true `&&` are true, one false part makes it false, and none is true and false. Assumes nothing.
+-- Booleans: both parts of a true `&&` are true, a part that is false makes it false and one that is true leaves it as it is, the parts may be taken in any grouping, and none is true and false. Assumes nothing.
 use Prim.Native.Nat.{ℕ}
 use native.Mathlib.Omega.{arith}
 use mathlib.Core.Path.{_≡_, refl}
@@ -14,3 +14,11 @@ and-both false b h = absurd (clash false refl h)
 pub and-false : (a : Bool) → (a && false) ≡ false
 and-false true = refl
 and-false false = refl
+
+pub and-true : (a : Bool) → (a && true) ≡ a
+and-true true = refl
+and-true false = refl
+
+pub and-assoc : (a b c : Bool) → ((a && b) && c) ≡ (a && (b && c))
+and-assoc true b c = refl
+and-assoc false b c = refl

@@ -6,13 +6,13 @@ use native.Mathlib.Omega.{arith}
 use native.Mathlib.Nat.{add-zero}
 use borrow.Author.Tests.{le-leb, lt-leb, lt-ltb, le-ltb, ltb-true, ltb-false, eqb-true, eqb-false}
 use mathlib.Core.Bool.{Bool, true, false, cond, _&&_}
-use mathlib.Core.List.{List, [], _∷_, _++_, map}
+use mathlib.Core.List.{List, [], _∷_, map}
 use lib.Dec.{leb, ltb, eqb, leb·zero}
 use Rattle.paths.specs.Sums.{sumBy, bit, sameRows, timesIn, keep}
 use Rattle.paths.specs.Chains.{firstAfter, extends, extensions, isChain, chainsFrom}
 use Rattle.paths.specs.Search.{none}
 use Rattle.paths.specs.Count.{standsWithAll, mayFollow, noPairOverlaps, ascends, ascendingLists, ChainRule, onward, rowsFrom}
-use Rattle.paths.proofs.BooleanLaws.{and-false, and-both}
+use Rattle.paths.proofs.BooleanLaws.{and-false, and-true}
 use Rattle.paths.proofs.SumLaws.{sum-append, bit-and, sameRows-eq}
 use Rattle.paths.proofs.ChainLaws.{chainsFrom-step}
 
@@ -24,10 +24,6 @@ ascends-below n s (r ∷ c) h = go (ltb r s) refl
   where
     go : (t : Bool) → ltb r s ≡ t → ((ltb r n && ascends r c) && ltb r s) ≡ (ltb r s && ascends r c)
     go true e = rw (e, lt-ltb r n (omega (arith, ltb-true r s e))) (and-true (ascends r c))
-      where
-        and-true : (b : Bool) → (b && true) ≡ b
-        and-true true = refl
-        and-true false = refl
     go false e = rw e (and-false (ltb r n && ascends r c))
 
 shuffle : (a p l s : Bool) → ((a && p) && (l && s)) ≡ ((a && l) && (s && p))

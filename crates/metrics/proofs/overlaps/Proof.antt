@@ -1,7 +1,6 @@
 -- Each part of the rule is a test of its own. Assumes nothing.
 use mathlib.Core.Path.{sym, _∙_}
 use native.Mathlib.Omega.{arith}
-use borrow.Author.Tests.{not-true}
 use borrow.Author.Needs.{needs}
 use Rattle.metrics.proofs.OverlapLaws.{overlap-common, overlap-first, overlap-second}
 use Rattle.metrics.proofs.overlaps.Statement.{statement}

@@ -2,7 +2,6 @@
 use Prim.Native.Nat.{_/_, _<_}
 use native.Mathlib.Omega.{arith}
 use lib.ListN.{length, getD}
-use borrow.Author.Needs.{needs}
 use Rattle.kplib.specs.GraphWalk.{flagOf}
 use Rattle.kplib.proofs.LinkLaws.{parents-length, parent-at}
 use Rattle.kplib.proofs.ExtensionLaws.{Asking, asking-begin, asking-on, asking-done}

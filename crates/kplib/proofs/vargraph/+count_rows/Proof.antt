@@ -4,7 +4,8 @@ use Prim.Native.Nat.{ℕ, _-_, _<_}
 use native.Mathlib.Omega.{arith}
 use borrow.Fn.Kinds.{In}
 use borrow.Fn.PlainCycle.{Measures, is, falls, and}
-use Rattle.kplib.proofs.CappedLaws.{kept-all, kept-on, lt-of-ne, next-counting, longer-counting, none-left, row-taken, kept-both}
+use Rattle.kplib.proofs.CappedLaws.{kept-all, kept-on, next-counting, longer-counting, none-left, row-taken, kept-both}
+use Rattle.kplib.proofs.StepLaws.{lt-of-ne}
 use Rattle.kplib.proofs.vargraph.count_rows.Reads as count-rows
 use Rattle.kplib.proofs.vargraph.count_rows.Kinds as count-rows-kinds
 use Rattle.kplib.proofs.vargraph.+count_rows.Lts-count_rows as count-rows-lts
