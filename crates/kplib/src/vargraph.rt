@@ -94,7 +94,13 @@ fn narrow(together: &[bool; 4096], row: Row, rows: &mut [u8; 4160], from: usize,
 
 // What is left of the cap once the chains are counted that are some of the rows from place `from` to place `to`. A row that is taken
 // leaves those behind it that may stand with it: they are put behind the others, so that each of them is asked of one row only.
-fn count_rows(together: &[bool; 4096], rows: &mut [u8; 4160], from: usize, to: usize, cap: u32) -> u32
+fn count_rows(
+    together: &[bool; 4096],
+    rows: &mut [u8; 4160],
+    from: usize,
+    to: usize,
+    cap: u32,
+) -> u32
     requires { ⌜ Counting (now rows) from to ⌝ }
     ensures { λ left.
         let joins = flagOf (now (together .entry)) in
