@@ -1,5 +1,6 @@
--- Which rows may follow an entry's chain, asked of its rows from the last to the first; the node at which the chain ends, by its last row; and what the loop that queues a chain's extensions knows of a row that extends it: the longer
--- chain's size is small, its distance is what the key holds, its link stands behind the others, and its key is put to the others. Assumes nothing.
+-- Which rows may follow an entry's chain, asked of its rows from the last to the first; the node at which the chain ends, by its last row; and what the
+-- loop that queues a chain's extensions knows of a row that extends it: the longer chain's size is small, its distance is what the key holds, its link stands
+-- behind the others, and its key is put to the others. Assumes nothing.
 use mathlib.Core.Path.{_≡_, refl, sym, ap, _∙_}
 use Prim.Native.Nat.{ℕ, zero, suc, _+_, _-_, _*_, _/_, _%_, _≤_, _<_}
 use native.Mathlib.Omega.{arith}

@@ -1,4 +1,5 @@
--- Booleans: both parts of a true `&&` are true, a part that is false makes it false and one that is true leaves it as it is, the parts may be taken in any grouping, and none is true and false. Assumes nothing.
+-- Booleans: both parts of a true `&&` are true, a false part makes it false and a true one leaves it as it is, its parts may be taken in any grouping,
+-- and none is true and false. Assumes nothing.
 use Prim.Native.Nat.{ℕ}
 use native.Mathlib.Omega.{arith}
 use mathlib.Core.Path.{_≡_, refl}
