@@ -1,5 +1,8 @@
 # `make run` and `make test` do all set-up themselves; README.md says what each target is for.
-.PHONY: run test changed program ndigo proofs packages texts wrong runs must-fail oracle faults fuzz bindings bench
+.PHONY: run test changed program ndigo proofs packages texts wrong runs must-fail oracle faults fuzz bed bindings bench install uninstall
+
+# where `make install` puts things
+PREFIX ?= /usr/local
 
 # rt waits for all crates of a batch before it starts the next: a batch of four keeps two cores busy where a long crate stands beside a short one.
 # Each takes about 1 GB. Who sets RT_JOBS decides.
@@ -26,6 +29,7 @@ proofs:
 packages:
 	oracle/setup
 	ndigo/setup
+	bindings/setup
 
 # What is read off the files alone, and the tests of the tools.
 texts:
@@ -35,6 +39,8 @@ texts:
 	tools/test_uses
 	tools/refusals
 	tools/test_refusals
+	tools/settings
+	tools/test_settings
 	tools/prototypes
 	tools/test_prototypes
 	tools/wrong --table
@@ -51,7 +57,7 @@ wrong:
 # What is run, one after the other, since two rt in one folder mix their logs. One archive serves all that link it.
 runs:
 	tools/run-examples
-	set -e; ARCHIVE_MADE=$$(tools/library); export ARCHIVE_MADE; NDIGO_NEEDS_PROGRAM=1 SHEET_WRITER=target/bin/copy_job ndigo/test; oracle/run --short; bindings/test
+	set -e; ARCHIVE_MADE=$$(tools/library); export ARCHIVE_MADE; NDIGO_NEEDS_PROGRAM=1 SHEET_WRITER=target/bin/copy_job ndigo/test; oracle/run --short; bindings/test; oracle/bed/check; ndigo/build; bindings/test-install
 
 # What stands on one line runs at the same time. rt ci stands last: its last line, 'N passed, 0 failed', is the gate's. It proves all from nothing, so what runs before it builds for itself.
 test:
@@ -78,8 +84,19 @@ faults:
 fuzz: program
 	tools/fuzz --seed 1
 
+bed:
+	oracle/setup
+	oracle/bed/check --long
+
 bindings:
 	bindings/test
+
+# The programs, the library for C, C++, Rust and Python, and the man pages, below PREFIX.
+install: program ndigo
+	tools/install $(PREFIX)
+
+uninstall:
+	tools/install --uninstall $(PREFIX)
 
 bench:
 	bench/run

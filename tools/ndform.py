@@ -11,7 +11,7 @@ from typing import NamedTuple
 
 # --- records ----------------------------------------------------------------
 
-END, SETTINGS, VARIANT, PART, LETTERS = range(5)
+END, SETTINGS, VARIANT, PART, LETTERS, NEXT = range(6)
 
 # the fields of the settings record, in its order
 FIELDS = {
@@ -21,6 +21,7 @@ FIELDS = {
 }
 FLAGS = [name for name, holds in FIELDS.items() if holds == "flag"]
 LETTERS_LIMIT = 131072
+HAPLOTYPES_LIMIT = 16
 
 # what follows the byte of kind
 BODIES = {
@@ -29,6 +30,7 @@ BODIES = {
     VARIANT: struct.Struct("<QQiBI"),  # start, end, size, negative, letter count
     PART: struct.Struct("<iBI"),       # size, negative, letter count
     LETTERS: struct.Struct("<16s"),    # zero-padded
+    NEXT: struct.Struct("<"),          # begins the next haplotype
 }
 LENGTHS = {kind: 1 + body.size for kind, body in BODIES.items()}
 
@@ -48,10 +50,10 @@ class Part(NamedTuple):
 
 
 class Job(NamedTuple):
-    """The settings are a value for each name of FIELDS, a float as its bits."""
+    """The settings are a value for each name of FIELDS, a float as its bits. Each haplotype is a list of its parts; there is at least one."""
     settings: dict
     variants: list
-    parts: list
+    haplotypes: list
 
 
 def float_of_bits(bits):
@@ -87,6 +89,11 @@ def part(size, letters, negative=0):
     return record(PART, size, negative, len(letters)) + letters_records(letters)
 
 
+def haplotypes(*lists):
+    """The records of several haplotypes, each given as a list of its parts' records."""
+    return record(NEXT).join(b"".join(parts) for parts in lists)
+
+
 def job(head, *records):
     return head + b"".join(records) + record(END)
 
@@ -109,7 +116,7 @@ class FormFault(Exception):
 
 
 class Reader:
-    """Takes records off the front. Within a record the faults come in document 01's order."""
+    """Takes records off the front. Within a record the faults come in document 01's order, 27 after 22 (document 02, P1)."""
 
     def __init__(self, data):
         self.data, self.place, self.record = data, 0, 0
@@ -151,19 +158,25 @@ class Reader:
 def read(data):
     """The job that the bytes hold; FormFault where they hold none."""
     reader = Reader(data)
-    found = Job(dict(zip(FIELDS, reader.take(SETTINGS)[1])), [], [])
+    found = Job(dict(zip(FIELDS, reader.take(SETTINGS)[1])), [], [[]])
     reader.flags(found.settings[name] for name in FLAGS)
-    allowed = (VARIANT, PART, END)
+    allowed = (VARIANT, PART, NEXT, END)
     kind, values = reader.take(*allowed)
     while kind != END:
-        *front, negative, count = values
-        reader.flags([negative])
-        letters = reader.letters(count)
-        if kind == VARIANT:
-            found.variants.append(Variant(*front, letters, negative))
+        if kind == NEXT:
+            if len(found.haplotypes) == HAPLOTYPES_LIMIT:
+                raise reader.fault(27)
+            found.haplotypes.append([])
         else:
-            found.parts.append(Part(*front, letters, negative))
-            allowed = (PART, END)
+            *front, negative, count = values
+            reader.flags([negative])
+            letters = reader.letters(count)
+            if kind == VARIANT:
+                found.variants.append(Variant(*front, letters, negative))
+            else:
+                found.haplotypes[-1].append(Part(*front, letters, negative))
+        if kind != VARIANT:
+            allowed = (PART, NEXT, END)
         kind, values = reader.take(*allowed)
     if reader.place < len(data):
         raise FormFault(25, reader.place)
@@ -217,21 +230,36 @@ def line_value(place, line, name):
     return text == " yes" if kind == "flag" else int(text, 16 if kind == "bits" else 10)
 
 
-def read_answer(text):
-    """The answer that the program's text holds; AnswerFault where it holds none."""
-    refusal = re.fullmatch("refused ([1-9][0-9]{0,9})\n", text)
+def block_answer(lines, first):
+    """The answer in these lines, the first of which is the text's line of that number."""
+    refusal = re.fullmatch("refused ([1-9][0-9]{0,9})", lines[0]) if len(lines) == 1 else None
     if refusal:
         return Answer(int(refusal[1]))
-    lines, names = text.split("\n"), list(ANSWER_LINES)
-    if lines.pop():
-        raise AnswerFault(f"line {len(lines) + 1} is the last, and a newline should stand at its end")
-    values = [line_value(place, line, name) for place, (line, name) in enumerate(zip(lines, names), 1)]
+    names = list(ANSWER_LINES)
+    values = [line_value(place, line, name) for place, (line, name) in enumerate(zip(lines, names), first)]
     if len(lines) < len(names):
-        raise AnswerFault(f'line {len(lines) + 1} is missing, and "{names[len(lines)]}" should stand there')
+        raise AnswerFault(f'line {first + len(lines)} is missing, and "{names[len(lines)]}" should stand there')
     if len(lines) > len(names):
-        raise AnswerFault(f'line {len(names) + 1} is "{lines[len(names)][:60]}", and the answer should end before it')
+        raise AnswerFault(f'line {first + len(names)} is "{lines[len(names)][:60]}", and the answer should end before it')
     answer = Answer(0, *values)
     if len(answer.records) != len(answer.rows):
-        raise AnswerFault(f"line 1 lists {len(answer.rows)} and line 2 lists {len(answer.records)}, "
+        raise AnswerFault(f"line {first} lists {len(answer.rows)} and line {first + 1} lists {len(answer.records)}, "
                           "and there should be one record for each row")
     return answer
+
+
+def read_answers(text):
+    """The answers that the program's text holds: one for the whole job, or one for each of several haplotypes, each after
+    a line `hap` with its number; AnswerFault where it holds none."""
+    lines = text.split("\n")
+    if lines.pop():
+        raise AnswerFault(f"line {len(lines) + 1} is the last, and a newline should stand at its end")
+    haps = [at for at, line in enumerate(lines) if line.split(" ")[0] == "hap"]
+    if haps[:1] != [0]:
+        return [block_answer(lines, 1)]
+    for number, at in enumerate(haps):
+        if lines[at] != f"hap {number}":
+            raise AnswerFault(f'line {at + 1} is "{lines[at][:60]}", and "hap {number}" should stand there')
+    if len(haps) == 1:
+        raise AnswerFault('line 1 is "hap 0", and the answer for one haplotype should have no such line')
+    return [block_answer(lines[at + 1:until], at + 2) for at, until in zip(haps, haps[1:] + [len(lines)])]

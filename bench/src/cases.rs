@@ -3,24 +3,45 @@ use crate::random::Random;
 use judge::call::{queue_need, Call};
 use ndigomarr::{seq_to_kmer, Haplotype, Settings, Table};
 
+/// Whose noisy copies a haplotype's parts are.
+#[derive(Clone, Copy)]
+pub enum Parts {
+    /// So many rows, each of its own stretch of the table, whether or not they are a chain.
+    Rows(usize),
+    /// A chain of 2 to 6 rows, which is what a good haplotype is.
+    Chain,
+}
+
 /// One row of the bench's table.
 #[derive(Clone, Copy)]
 pub struct Shape {
     pub k: u8,
     pub variants: usize,
     pub maxpaths: u32,
-    pub parts: usize,
+    pub parts: Parts,
     pub threshold: f32,
     pub crowded: bool,
 }
 
 impl Shape {
     pub fn name(&self) -> String {
+        let Shape { k, variants, maxpaths, threshold, .. } = self;
         let table = if self.crowded { "crowded" } else { "loose" };
-        format!(
-            "search, thresholds {}, k {}, V {}, maxpaths {}, m {}, {table}",
-            self.threshold, self.k, self.variants, self.maxpaths, self.parts
-        )
+        match self.parts {
+            Parts::Rows(m) => format!("search, thresholds {threshold}, k {k}, V {variants}, maxpaths {maxpaths}, m {m}, {table}"),
+            Parts::Chain => format!("search, copied chain, k {k}, V {variants}, maxpaths {maxpaths}, {table}"),
+        }
+    }
+
+    /// How many inputs it is timed on: fewer where one call of the Rust takes seconds.
+    pub fn inputs(&self) -> usize {
+        match (self.maxpaths, self.k, self.parts) {
+            (63, _, _) => 16,
+            (_, _, Parts::Chain) => 8,
+            (_, 6, Parts::Rows(8)) => 1,
+            (_, 6, _) => 2,
+            _ => 4,
+        }
     }
 
     fn settings(&self) -> Settings {
@@ -94,25 +115,76 @@ impl Change {
 }
 
 /// In a loose table no row overlaps another; in a crowded one each overlaps the next eighth of the rows.
-fn width(shape: &Shape) -> u64 {
+fn overlapped(shape: &Shape) -> usize {
     if shape.crowded {
-        100 * (shape.variants as u64 / 8) + 50
+        shape.variants / 8
     } else {
-        50
+        0
+    }
+}
+
+fn width(shape: &Shape) -> u64 {
+    100 * overlapped(shape) as u64 + 50
+}
+
+/// The rows of a chain: the rows that a chosen one overlaps are left out, and as many distinct ones chosen of the rest.
+fn chain(random: &mut Random, shape: &Shape) -> Vec<usize> {
+    let count = 2 + random.below(5);
+    let over = overlapped(shape);
+    let mut left: Vec<usize> = (0..shape.variants - (count - 1) * over).collect();
+    let mut rows: Vec<usize> = (0..count).map(|_| left.swap_remove(random.below(left.len()))).collect();
+    rows.sort_unstable();
+    rows.iter().enumerate().map(|(before, row)| row + before * over).collect()
+}
+
+/// A haplotype's parts: each from its own stretch of the table, or the rows of a chain.
+fn parts_of(random: &mut Random, shape: &Shape, variants: &[Change]) -> Vec<Change> {
+    match shape.parts {
+        Parts::Rows(count) => {
+            let stretch = shape.variants / count;
+            (0..count)
+                .map(|part| {
+                    let row = part * stretch + random.below(stretch);
+                    variants[row].noisy(random)
+                })
+                .collect()
+        }
+        Parts::Chain => chain(random, shape).into_iter().map(|row| variants[row].noisy(random)).collect(),
+    }
+}
+
+/// Several haplotypes over one table.
+pub struct Shared {
+    pub settings: Settings,
+    pub table: Table,
+    pub haplotypes: Vec<Haplotype>,
+}
+
+impl Shared {
+    pub fn new(random: &mut Random, shape: &Shape, count: usize) -> Self {
+        let variants: Vec<Change> = (0..shape.variants).map(|_| Change::random(random)).collect();
+        let mut table = Table::new(shape.k);
+        for (row, change) in variants.iter().enumerate() {
+            let start = 100 * row as u64;
+            table.add_counted(start, start + width(shape), change.size(), &change.features(shape.k));
+        }
+        let haplotypes = (0..count)
+            .map(|_| {
+                let mut haplotype = Haplotype::new(shape.k);
+                for change in parts_of(random, shape, &variants) {
+                    haplotype.add_counted(change.size(), &change.features(shape.k));
+                }
+                haplotype
+            })
+            .collect();
+        Shared { settings: shape.settings(), table, haplotypes }
     }
 }
 
 impl Case {
     pub fn new(random: &mut Random, shape: &Shape) -> Self {
         let variants: Vec<Change> = (0..shape.variants).map(|_| Change::random(random)).collect();
-        // every part from its own stretch of the table
-        let stretch = shape.variants / shape.parts;
-        let parts: Vec<Change> = (0..shape.parts)
-            .map(|part| {
-                let row = part * stretch + random.below(stretch);
-                variants[row].noisy(random)
-            })
-            .collect();
+        let parts = parts_of(random, shape, &variants);
         let settings = shape.settings();
         let judged = judges(&settings);
         let starts: Vec<u64> = (0..shape.variants as u64).map(|row| 100 * row).collect();
@@ -167,9 +239,24 @@ pub fn shapes() -> Vec<Shape> {
                 for maxpaths in [63, 4_095] {
                     for parts in [3, 8] {
                         for crowded in [true, false] {
-                            all.push(Shape { k, variants, maxpaths, parts, threshold, crowded });
+                            all.push(Shape { k, variants, maxpaths, parts: Parts::Rows(parts), threshold, crowded });
                         }
                     }
+                }
+            }
+        }
+    }
+    all
+}
+
+/// What a bench sees most: a haplotype that some chain of the table explains, at the default thresholds.
+pub fn copied_chains() -> Vec<Shape> {
+    let mut all = Vec::new();
+    for k in [4, 6] {
+        for variants in [16, 64] {
+            for maxpaths in [63, 4_095] {
+                for crowded in [true, false] {
+                    all.push(Shape { k, variants, maxpaths, parts: Parts::Chain, threshold: 0.9, crowded });
                 }
             }
         }

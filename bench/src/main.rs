@@ -1,7 +1,7 @@
 //! Times the proved code beside kanpig's Rust, both in this process, on the same inputs. Each line gives the median time of
 //! one call, ours and the Rust's, and their ratio. Before a row is timed our answers are compared with the judge's, bit for bit.
 //! `--chart FILE` writes the chart too; `--only WORDS` times the rows whose name holds these words.
-use bench::cases::{shapes, Case, Shape};
+use bench::cases::{copied_chains, shapes, Case, Parts, Shape};
 use bench::chart;
 use bench::random::Random;
 use bench::rust_side::{self, floats, Search};
@@ -84,7 +84,7 @@ fn sizesim(random: &mut Random) -> Times {
 }
 
 fn capped_count(random: &mut Random, name: &str, variants: usize, crowded: bool) -> Times {
-    let shape = Shape { k: 4, variants, maxpaths: 63, parts: 3, threshold: 0.0, crowded };
+    let shape = Shape { k: 4, variants, maxpaths: 63, parts: Parts::Rows(3), threshold: 0.0, crowded };
     let case = Case::new(random, &shape);
     let (table, apart) = (case.table(), rust_side::Apart::new(&case.call));
     let ours = count_chains(&table, true, CAP).expect("within the limits");
@@ -146,18 +146,8 @@ impl Agreeing {
     }
 }
 
-/// Fewer inputs where one call of the Rust takes seconds.
-fn inputs_of(shape: &Shape) -> usize {
-    match (shape.maxpaths, shape.k, shape.parts) {
-        (63, _, _) => 16,
-        (_, 6, 8) => 1,
-        (_, 6, _) => 2,
-        _ => 4,
-    }
-}
-
 fn search(random: &mut Random, shape: &Shape, left_out: &mut usize) -> Times {
-    let inputs = inputs_of(shape);
+    let inputs = shape.inputs();
     let Agreeing { cases, left_out: more } = Agreeing::new(random, shape, inputs);
     *left_out += more;
     let ours: Vec<(Settings, Table, Haplotype)> = cases.iter().map(|case| (case.settings, case.table(), case.haplotype())).collect();
@@ -243,7 +233,7 @@ fn main() {
         }
     }
     let mut left_out = 0;
-    for shape in shapes() {
+    for shape in shapes().into_iter().chain(copied_chains()) {
         rows.tell(&shape.name(), |random| search(random, &shape, &mut left_out));
     }
     println!("inputs left out, where equally near chains made the unchanged Rust answer otherwise: {left_out}");

@@ -27,25 +27,15 @@ static void count(const char *letters, int32_t *row)
     expect(letters, nd_seq_to_kmer((const uint8_t *)letters, strlen(letters), K, false, row, ENTRIES), ND_ACCEPTED);
 }
 
-static uint32_t bits(float x)
+static struct nd_settings worked_settings(void)
 {
-    uint32_t word;
-    memcpy(&word, &x, sizeof word);
-    return word;
-}
-
-static void set(uint32_t *settings)
-{
-    memset(settings, 0, ND_SETTINGS_LEN * sizeof *settings);
-    settings[ND_SETTING_K] = K;
-    settings[ND_SETTING_FULL] = 2; /* yes, as any word but 0 */
-    settings[ND_SETTING_MAXPATHS] = MAXPATHS;
-    settings[ND_SETTING_MAXNODES] = 10;
-    settings[ND_SETTING_FNMAX] = 1;
-    settings[ND_SETTING_PILEUPMAX] = 5;
-    settings[ND_SETTING_MINKFREQ] = 1;
-    settings[ND_SETTING_SIZESIM] = bits(0.5f);
-    settings[ND_SETTING_SEQSIM] = bits(0.5f);
+    struct nd_settings settings = ND_SETTINGS_DEFAULT;
+    settings.k = K;
+    settings.full = 2; /* yes, as any number but 0 */
+    settings.maxpaths = MAXPATHS;
+    settings.minkfreq = 1;
+    settings.sizesim = settings.seqsim = 0.5f;
+    return settings;
 }
 
 /* What a search is lent to write its answer to. */
@@ -59,7 +49,7 @@ static struct answer unwritten(void)
     return answer;
 }
 
-static uint32_t search(const uint32_t *settings, const uint32_t *record_numbers, size_t records_len, struct answer *answer)
+static uint32_t search(const struct nd_settings *settings, const uint32_t *record_numbers, size_t records_len, struct answer *answer)
 {
     uint64_t starts[V] = {10, 20}, ends[V] = {10, 20}, keys[ROOM];
     int32_t sizes[V] = {2, 2}, features[V * ENTRIES], part_sizes[1] = {2}, part_features[ENTRIES];
@@ -77,10 +67,9 @@ static uint32_t search(const uint32_t *settings, const uint32_t *record_numbers,
 static void worked_example(void)
 {
     const uint32_t record_numbers[V] = {4071300268u, 31};
-    uint32_t settings[ND_SETTINGS_LEN];
+    struct nd_settings settings = worked_settings();
     struct answer answer = unwritten();
-    set(settings);
-    expect("refusal", search(settings, record_numbers, V, &answer), ND_ACCEPTED);
+    expect("refusal", search(&settings, record_numbers, V, &answer), ND_ACCEPTED);
     expect("rows", answer.report[ND_ROWS], 1);
     expect("row", answer.rows[0], 0);
     expect("the rows' rest", answer.rows[1], MARK);
@@ -90,8 +79,9 @@ static void worked_example(void)
     expect("score", answer.report[ND_SCORE], 0x3f800000);
     expect("scored", answer.report[ND_SCORED], 4);
     expect("complete", answer.report[ND_COMPLETE], 1);
-    settings[ND_SETTING_K] = 256 + K;
-    expect("k 257", search(settings, record_numbers, V, &answer), ND_REFUSED_BAD_K);
+    settings.k = 256 + K;
+    expect("k 257", search(&settings, record_numbers, V, &answer), ND_REFUSED_BAD_K);
+    expect("its words", strcmp(nd_refusal_text(ND_REFUSED_BAD_K), "k not 1 to 6") == 0, 1);
     expect("its report", answer.report[ND_SCORE], 0);
 }
 
@@ -99,10 +89,9 @@ static void worked_example(void)
 static void refused_records(const char *what, uint32_t first, uint32_t second, size_t records_len, uint32_t wanted)
 {
     const uint32_t record_numbers[V] = {first, second};
-    uint32_t settings[ND_SETTINGS_LEN];
+    struct nd_settings settings = worked_settings();
     struct answer answer = unwritten();
-    set(settings);
-    expect(what, search(settings, record_numbers, records_len, &answer), wanted);
+    expect(what, search(&settings, record_numbers, records_len, &answer), wanted);
     expect("its report", answer.report[ND_ROWS], 0);
     expect("its rows", answer.rows[0] == MARK && answer.rows[1] == MARK, 1);
     expect("its records", answer.records[0] == MARK && answer.records[1] == MARK, 1);
@@ -117,10 +106,31 @@ static void program_text(void)
     expect("its text", memcmp(text, wanted, strlen(wanted)) == 0, 1);
 }
 
-static void refusals(void)
+static void bed(void)
+{
+    const char *line = "reef7\t10\t20\n";
+    const uint32_t row[1] = {0};
+    uint64_t starts[ND_BED_ROWS], ends[ND_BED_ROWS], written = MARK;
+    uint32_t counts[2];
+    uint8_t name[ND_BED_NAME_LEN], text[ND_BED_TEXT_LEN];
+    expect("BED", nd_read_bed((const uint8_t *)line, strlen(line), starts, ND_BED_ROWS, ends, ND_BED_ROWS, name, counts), ND_ACCEPTED);
+    expect("its rows", counts[0], 1);
+    expect("its name", counts[1] == 5 && memcmp(name, "reef7", 5) == 0, 1);
+    expect("its numbers", starts[0] == 10 && ends[0] == 20, 1);
+    expect("BED written", nd_write_bed(name, counts[1], starts, 1, ends, 1, row, 1, text, sizeof text, &written), ND_ACCEPTED);
+    expect("the bytes that were read", written == strlen(line) && memcmp(text, line, strlen(line)) == 0, 1);
+    expect("no newline", nd_read_bed(text, (size_t)written - 1, starts, ND_BED_ROWS, ends, ND_BED_ROWS, name, counts), ND_REFUSED_BAD_LINE);
+    expect("its counts", counts[0] == 0 && counts[1] == 0, 1);
+}
+
+static void similarities(void)
 {
     float value = 2;
     int32_t one[1] = {1}, two[2] = {1, 1};
+    expect("sizesim", nd_sizesim(0, 4, &value), ND_ACCEPTED);
+    expect("its value", value == 0.25f, 1);
+    expect("seqsim", nd_seqsim(two, 2, two, 2, 1, &value), ND_ACCEPTED);
+    expect("its value", value == 1.0f, 1);
     expect("a size of 8,388,609", nd_sizesim(0, 8388609, &value), ND_REFUSED_BAD_SIZE);
     expect("its value", value == 0, 1);
     expect("unequal lengths", nd_seqsim(one, 1, two, 2, 1, &value), ND_REFUSED_BAD_LENGTHS);
@@ -135,7 +145,8 @@ int main(void)
     refused_records("room for one record", 31, 32, V - 1, ND_REFUSED_ANSWER_ROOM);
     refused_records("both", 31, 31, V - 1, ND_REFUSED_REPEATED_NUMBER);
     program_text();
-    refusals();
+    bed();
+    similarities();
     puts(failed ? "the " LANGUAGE " binding differs" : "the " LANGUAGE " binding agrees");
     return failed;
 }

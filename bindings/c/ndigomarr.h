@@ -4,7 +4,8 @@
  * and that what is written overlaps nothing else that is lent. An empty slice still needs a pointer
  * that is not null.
  * Each but nd_answer, which returns a length, returns 0 or the number of a refusal. On a refusal
- * every lent buffer is as it was, but for *place, *count and the report, which are then 0.
+ * every lent buffer is as it was, but for *place, *count, the report of one search, the counts and
+ * *written, which are then 0.
  *
  * What a call promises is proved of the Rattle source; tools/prototypes holds this header to it.
  */
@@ -19,8 +20,9 @@
 extern "C" {
 #endif
 
-/* The refusals, each with the table's words. 1 to 14 are returned, and some of 1 to 13 stand in
- * nd_answer's text too; 20 to 26 stand there alone; 30 is the Rattle reader's and writer's.
+/* The refusals, each with the table's words. 1 to 14 and 27 are returned, and some of them stand in
+ * nd_answer's text too; 20 to 26 stand there alone; 30 is the Rattle reader's and writer's; 40 to
+ * 44 are BED's.
  * Made from docs/refusals.tsv by tools/refusals --write. */
 enum nd_refusal {
     ND_ACCEPTED = 0,
@@ -45,8 +47,51 @@ enum nd_refusal {
     ND_REFUSED_BAD_FLAG = 24, /* a flag not 0 or 1 */
     ND_REFUSED_BYTES_AFTER_END = 25, /* bytes after 0x00 */
     ND_REFUSED_TOO_LARGE = 26, /* over the program's own limits */
+    ND_REFUSED_TOO_MANY_HAPLOTYPES = 27, /* not 1 to 16 haplotypes */
     ND_REFUSED_LITTLE_ROOM = 30, /* too little room */
+    ND_REFUSED_BAD_LINE = 40, /* a bad line of BED, or a bad name to write */
+    ND_REFUSED_SECOND_NAME = 41, /* a second name in BED */
+    ND_REFUSED_TOO_MANY_LINES = 42, /* a sixty-fifth line of BED */
+    ND_REFUSED_LITTLE_TEXT_ROOM = 43, /* too little room for BED text */
+    ND_REFUSED_MISSING_ROW = 44, /* a row that isn't there */
 };
+
+/* The table's words for a refusal's number, for a message. */
+static inline const char *nd_refusal_text(uint32_t number)
+{
+    switch (number) {
+    case ND_ACCEPTED: return "accepted";
+    case ND_REFUSED_BAD_K: return "k not 1 to 6";
+    case ND_REFUSED_BAD_FLOAT: return "a float setting is NaN or outside its range";
+    case ND_REFUSED_BAD_NUMBER: return "a whole-number setting over its limit";
+    case ND_REFUSED_NO_VARIANTS: return "no variants";
+    case ND_REFUSED_TOO_MANY: return "over 64 variants or over 64 parts";
+    case ND_REFUSED_BAD_LENGTHS: return "lent lengths disagree with V, m or 4^k";
+    case ND_REFUSED_START_AFTER_END: return "a start is greater than its end";
+    case ND_REFUSED_FALLING_START: return "a start is less than the row before's";
+    case ND_REFUSED_BAD_SIZE: return "a size over its limit";
+    case ND_REFUSED_BAD_ROW: return "a feature row over its limit";
+    case ND_REFUSED_QUEUE_ROOM: return "search mode, and queue room under 1 + (maxpaths + 1) × V entries";
+    case ND_REFUSED_ANSWER_ROOM: return "answer room under V rows";
+    case ND_REFUSED_TOO_MANY_LETTERS: return "a sequence over its letter limit";
+    case ND_REFUSED_REPEATED_NUMBER: return "a repeated record number";
+    case ND_REFUSED_UNKNOWN_KIND: return "unknown kind";
+    case ND_REFUSED_CUT_SHORT: return "input ends inside a record or without 0x00";
+    case ND_REFUSED_OUT_OF_PLACE: return "out of place";
+    case ND_REFUSED_BAD_PADDING: return "padding not zero";
+    case ND_REFUSED_BAD_FLAG: return "a flag not 0 or 1";
+    case ND_REFUSED_BYTES_AFTER_END: return "bytes after 0x00";
+    case ND_REFUSED_TOO_LARGE: return "over the program's own limits";
+    case ND_REFUSED_TOO_MANY_HAPLOTYPES: return "not 1 to 16 haplotypes";
+    case ND_REFUSED_LITTLE_ROOM: return "too little room";
+    case ND_REFUSED_BAD_LINE: return "a bad line of BED, or a bad name to write";
+    case ND_REFUSED_SECOND_NAME: return "a second name in BED";
+    case ND_REFUSED_TOO_MANY_LINES: return "a sixty-fifth line of BED";
+    case ND_REFUSED_LITTLE_TEXT_ROOM: return "too little room for BED text";
+    case ND_REFUSED_MISSING_ROW: return "a row that isn't there";
+    default: return "not in the table of refusals";
+    }
+}
 
 /* Counts the windows of k letters in a row of 4^k entries, each +1, or -1 for a negative sequence.
  * Refuses by 1, 6 (row_len not 4^k), 13 (over 131,072 letters), in this order. */
@@ -80,24 +125,27 @@ enum nd_report {
     ND_REPORT_LEN
 };
 
-/* The words of a search's settings, in their order. A flag is no at 0 and yes at any other word; a
- * float's word is its bits. */
-enum nd_settings {
-    ND_SETTING_K,          /* letters of a k-mer, 1 to 6 */
-    ND_SETTING_SQUISH,     /* flag: the gap penalty counts rows beyond the first */
-    ND_SETTING_ONE_TO_ONE, /* flag: each row alone, no search */
-    ND_SETTING_FULL,       /* flag: rows of which no two overlap may stand in one path */
-    ND_SETTING_MAXPATHS,   /* at most this many paths and one more are scored */
-    ND_SETTING_MAXNODES,   /* tables of more rows are matched one to one */
-    ND_SETTING_FNMAX,      /* how many parts a part list may leave out */
-    ND_SETTING_PILEUPMAX,  /* from this many parts on only the whole haplotype is tried */
-    ND_SETTING_MINKFREQ,   /* k-mers seen fewer times in both rows together are passed over */
-    ND_SETTING_SIZESIM,    /* float: the least similarity of sizes */
-    ND_SETTING_SEQSIM,     /* float: the least similarity of sequences */
-    ND_SETTING_FPENALTY,   /* float: taken off for each part left out */
-    ND_SETTING_GPENALTY,   /* float: taken off for each row too many or too few */
-    ND_SETTINGS_LEN
+/* The settings of a search. A flag is no at 0 and yes at any other number. Made from
+ * docs/settings.tsv by tools/settings --write, as the defaults below are. */
+struct nd_settings {
+    uint32_t k; /* Letters of a k-mer, 1 to 6. */
+    uint32_t squish; /* Prefer paths of few rows: the gap penalty counts rows beyond the first. */
+    uint32_t one_to_one; /* Match each row alone instead of searching paths. */
+    uint32_t full; /* Rows of which no two overlap may stand in one path, an insertion inside a deletion overlapping it; without it only the empty path stands. */
+    uint32_t maxpaths; /* The search scores at most this many paths and one more; at most 4,095. */
+    uint32_t maxnodes; /* Tables of more rows are matched one to one. */
+    uint32_t fnmax; /* How many parts a part list may leave out. */
+    uint32_t pileupmax; /* From this many parts on only the whole haplotype is tried; at most 12. */
+    uint32_t minkfreq; /* K-mers seen fewer times in both rows together are passed over. */
+    float sizesim; /* The least similarity of sizes, 0 to 1. */
+    float seqsim; /* The least similarity of sequences, 0 to 1. */
+    float fpenalty; /* Taken off the score for each part left out, 0 to 1,000. */
+    float gpenalty; /* Taken off the score for each row too many or too few, 0 to 1,000. */
 };
+
+/* kanpig's defaults where they lie in the limits here:
+ * struct nd_settings settings = ND_SETTINGS_DEFAULT; settings.k = 5; */
+#define ND_SETTINGS_DEFAULT {4, 0, 0, 1, 4095, 5000, 3, 12, 2, 0.9f, 0.9f, 0.1f, 0.02f}
 
 /* The path of a table that best explains a haplotype. Rows are row numbers of the table handed
  * over, from 0, ascending, at the front of rows. Of equally good paths the later one wins.
@@ -109,7 +157,7 @@ enum nd_settings {
  * afterwards is open. Refuses by 1 to 12 and by 14 (a repeated record number), which comes after 8
  * and before 9; 6 is also for other than V record numbers, and 12 for fewer than V entries in rows
  * or in records. The report is then all zeros. */
-uint32_t nd_apply_haplotype(const uint32_t settings[ND_SETTINGS_LEN], const uint64_t *starts,
+uint32_t nd_apply_haplotype(const struct nd_settings *settings, const uint64_t *starts,
                             size_t starts_len, const uint64_t *ends, size_t ends_len,
                             const int32_t *sizes, size_t sizes_len, const int32_t *features,
                             size_t features_len, const uint32_t *record_numbers,
@@ -119,12 +167,62 @@ uint32_t nd_apply_haplotype(const uint32_t settings[ND_SETTINGS_LEN], const uint
                             uint64_t *keys, size_t keys_len, uint32_t *rows, size_t rows_len,
                             uint32_t *records, size_t records_len, uint32_t report[ND_REPORT_LEN]);
 
+/* How many words of a report a haplotype has, where there are several: its refusal, and then what
+ * enum nd_report names. */
+enum { ND_HAPLOTYPE_REPORT_LEN = 8 };
+
+/* The same for 1 to 16 haplotypes over one table, which is checked once; n is part_ends_len. The
+ * parts of all haplotypes lie one behind the other, and so do their features: stretch i of
+ * part_sizes ends at part_ends[i] and begins at the end before it, the first at 0, and so that of
+ * part_features by feature_ends. Haplotype i has its rows from rows[i * V] on, their records from
+ * records[i * V] on, and its report from reports[ND_HAPLOTYPE_REPORT_LEN * i] on; what lies behind
+ * them stays as it was. The queue's room is used again for each haplotype.
+ * What is returned refuses the whole call, and every buffer is then as it was, the reports too. Its
+ * order is that of nd_apply_haplotype with 27 (n not 1 to 16) after 4; 6 is also for other than n
+ * feature_ends, ends that fall, or a last end that is not its slice's length, and 12 for fewer than
+ * V * n entries in rows or in records, or 8 * n in reports. With n 1 the parts are asked among these.
+ * With more, a haplotype whose parts are refused (5, 6, 9, 10) has that number in its report and
+ * seven zeros behind it, its rows and records stay as they were, and what is returned is 0. */
+uint32_t nd_apply_haplotypes(const struct nd_settings *settings, const uint64_t *starts,
+                             size_t starts_len, const uint64_t *ends, size_t ends_len,
+                             const int32_t *sizes, size_t sizes_len, const int32_t *features,
+                             size_t features_len, const uint32_t *record_numbers,
+                             size_t record_numbers_len, const uint64_t *part_ends,
+                             size_t part_ends_len, const uint64_t *feature_ends,
+                             size_t feature_ends_len, const int32_t *part_sizes,
+                             size_t part_sizes_len, const int32_t *part_features,
+                             size_t part_features_len, uint32_t *links, size_t links_len,
+                             uint64_t *keys, size_t keys_len, uint32_t *rows, size_t rows_len,
+                             uint32_t *records, size_t records_len, uint32_t *reports,
+                             size_t reports_len);
+
 /* How long a text the program may print. */
 enum { ND_TEXT_LEN = 8192 };
 
 /* The program's answer to a job's bytes: its lines at the front of text, whose rest stays as it was.
  * Returns how many bytes they are; no zero byte ends them. A refused job is answered by a line. */
 uint32_t nd_answer(const uint8_t *job, size_t job_len, uint8_t text[ND_TEXT_LEN]);
+
+/* What a table of BED may hold: so many rows, a name of so many bytes, a text of so many bytes. */
+enum { ND_BED_ROWS = 64, ND_BED_NAME_LEN = 32, ND_BED_TEXT_LEN = 4800 };
+
+/* Reads BED: up to 64 lines of exactly three columns parted by tabs, all with one name of 1 to 32
+ * bytes 0x21 to 0x7E, each ended by a newline; numbers in decimal to 64 bits, no leading zero. The
+ * rows stand at the front of starts and ends, the name at that of name, the rest stays as it was;
+ * counts are the rows and the name's length, both 0 for an empty text. Refuses by 6 (starts or ends
+ * under 64 numbers); then front to back, within a line, by 42 (a sixty-fifth line), 40 (a bad line),
+ * 41 (a second name); then by 7 and 8. */
+uint32_t nd_read_bed(const uint8_t *text, size_t text_len, uint64_t *starts, size_t starts_len,
+                     uint64_t *ends, size_t ends_len, uint8_t name[ND_BED_NAME_LEN],
+                     uint32_t counts[2]);
+
+/* Writes the chosen rows the same way, in the order of rows, to the front of text, whose rest stays
+ * as it was. *written is how many bytes. Refuses by 6 (starts and ends of unequal length), 40 (a bad
+ * name, where any row is written), 44 (a row that isn't there), 43 (too little room). */
+uint32_t nd_write_bed(const uint8_t *name, size_t name_len, const uint64_t *starts,
+                      size_t starts_len, const uint64_t *ends, size_t ends_len,
+                      const uint32_t *rows, size_t rows_len, uint8_t *text, size_t text_len,
+                      uint64_t *written);
 
 #ifdef __cplusplus
 }

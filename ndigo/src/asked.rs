@@ -5,13 +5,13 @@ use crate::commands::Form;
 use crate::draw;
 use crate::fault::Failure;
 use crate::job;
-use crate::model::{counted, Sheet};
-use crate::refusals;
-use crate::search;
+use crate::model::{counted, Sheet, Variant};
+use crate::refusals::{self, Refusal};
+use crate::search::{self, Own};
 use crate::sheet;
 use crate::warnings;
 use crate::work::{shown_name, Told};
-use ndigomarr::Target;
+use ndigomarr::{Bed, Target};
 
 /// The sheet and what was noted while it was read; all its faults where it has any.
 fn read(data: &[u8], sort: bool) -> Result<(Sheet, Vec<String>), Failure> {
@@ -45,24 +45,43 @@ fn remarks(notes: &[String], warnings: &[warnings::Warning]) -> Vec<String> {
 
 pub fn answer(file: &str, data: &[u8], sort: bool, form: Form) -> Result<Told, Failure> {
     let (sheet, notes) = read(data, sort)?;
-    let answer = search::answer(&sheet);
-    let status = u8::from(answer.is_err());
+    let answers = search::answers(&sheet);
+    let status = status_of(&answers);
     if !form.tsv && !form.json {
-        let text = match &answer {
-            Ok(answer) => answer::text(&sheet, answer, &notes),
+        let text = match &answers {
+            Ok(answers) => answer::text(&sheet, answers, &notes),
             Err(reasons) => answer::refused(&sheet, reasons, &notes),
         };
         return Ok(Told::text(status, text));
     }
     let mut remarks = remarks(&notes, &warnings::of(&sheet));
-    match &answer {
-        Err(reasons) => remarks.extend(reasons.iter().map(|reason| reason.to_string())),
-        Ok(answer) if answer.target == Target::Nothing => remarks.extend(answer::why(&sheet, answer).iter().map(|words| format!("nothing found: {}", words.trim()))),
-        Ok(_) => {}
+    let (each, answers) = match answers {
+        Ok(answers) => (sheet.each(), answers),
+        // one row for a sheet that is refused as a whole, under no haplotype's name
+        Err(reasons) => (vec![sheet.without_parts()], vec![Err(reasons)]),
+    };
+    let mut out = Vec::new();
+    for (own, answer) in each.iter().zip(&answers) {
+        remarks.extend(own_remarks(own, answer));
+        let file = shown_name(file);
+        out.extend(if form.json { answer::document(file, own, answer).into_bytes() } else { table_line(&answer::table_row(file, own, answer)) });
     }
-    let file = shown_name(file);
-    let out = if form.json { answer::document(file, &sheet, &answer).into_bytes() } else { table_line(&answer::table_row(file, &sheet, &answer)) };
     Ok(Told { out, remarks, status })
+}
+
+/// 1 where the sheet or any of its haplotypes is refused.
+fn status_of(answers: &Result<Vec<Own>, Vec<Refusal>>) -> u8 {
+    u8::from(answers.as_ref().map_or(true, |each| each.iter().any(Result::is_err)))
+}
+
+/// Why a haplotype is refused, or why nothing was found for it.
+fn own_remarks(own: &Sheet, answer: &Own) -> Vec<String> {
+    let named = own.haplotype().map_or(String::new(), |name| format!("haplotype \"{name}\": "));
+    match answer {
+        Err(reasons) => reasons.iter().map(|reason| reason.to_string()).collect(),
+        Ok(answer) if answer.target == Target::Nothing => answer::why(own, answer).iter().map(|words| format!("{named}nothing found: {}", words.trim())).collect(),
+        Ok(_) => vec![],
+    }
 }
 
 pub fn check(file: &str, data: &[u8], sort: bool, form: Form) -> Result<Told, Failure> {
@@ -103,6 +122,36 @@ pub fn show(data: &[u8]) -> Result<Told, Failure> {
     }
 }
 
+/// The rows of the answer as BED; a sheet that the rules refuse has none.
+pub fn bed(data: &[u8], sort: bool, name: &str) -> Result<Told, Failure> {
+    let (sheet, notes) = read(data, sort)?;
+    if sheet.part_lists().len() > 1 {
+        return Err(Failure::Input("the sheet names several haplotypes, and BED has no column that could tell them apart; leave the parts of one".into()));
+    }
+    let mut remarks = remarks(&notes, &warnings::of(&sheet));
+    match search::answers(&sheet).and_then(|mut answers| answers.remove(0)) {
+        Err(reasons) => {
+            remarks.extend(reasons.iter().map(|reason| reason.to_string()));
+            Ok(Told { out: vec![], remarks, status: 1 })
+        }
+        Ok(answer) => {
+            let bounds = |of: fn(&Variant) -> u64| sheet.variants.iter().map(of).collect();
+            let bed = Bed { name: name.into(), starts: bounds(|variant| variant.start), ends: bounds(|variant| variant.end) };
+            let rows: Vec<u32> = answer.rows.iter().map(|&row| row as u32).collect();
+            let out = bed.write(&rows).map_err(|refusal| Failure::Input(refusal.to_string()))?;
+            Ok(Told { out, remarks, status: 0 })
+        }
+    }
+}
+
+/// The rows of BED as variants, each named by the name and its row.
+pub fn from_bed(data: &[u8]) -> Result<Told, Failure> {
+    let bed = Bed::read(data).map_err(|refusal| Failure::Input(refusal.to_string()))?;
+    let name = String::from_utf8_lossy(&bed.name);
+    let rows = bed.starts.iter().zip(&bed.ends).enumerate().map(|(row, (start, end))| format!("{name}-{row}\t{start}\t{end}\n"));
+    Ok(Told::text(0, format!("variant\tstart\tend\n{}", rows.collect::<String>())))
+}
+
 /// A refused sheet is drawn too, and the status says that it was refused.
 pub fn draw(file: &str, data: &[u8], sort: bool, rows: Option<&str>) -> Result<Told, Failure> {
     let (sheet, notes) = read(data, sort)?;
@@ -112,9 +161,14 @@ pub fn draw(file: &str, data: &[u8], sort: bool, rows: Option<&str>) -> Result<T
         let told = Told::text(0, draw::by_hand(&sheet, &title, &rows));
         return Ok(Told { remarks: remarks(&notes, &[]), ..told });
     }
-    let answer = search::answer(&sheet);
-    let status = u8::from(answer.is_err());
+    let answers = search::answers(&sheet);
+    let status = status_of(&answers);
     let mut remarks = remarks(&notes, &warnings::of(&sheet));
-    remarks.extend(answer.as_ref().err().into_iter().flatten().map(|reason| reason.to_string()));
-    Ok(Told { out: draw::answered(&sheet, &title, &answer).into_bytes(), remarks, status })
+    let each = sheet.each();
+    let answers = answers.unwrap_or_else(|reasons| vec![Err(reasons); each.len()]);
+    let mut told: Vec<String> = answers.iter().flat_map(|answer| answer.as_ref().err()).flatten().map(|reason| reason.to_string()).collect();
+    // a refusal of the whole sheet is told once
+    told.dedup();
+    remarks.extend(told);
+    Ok(Told { out: draw::answered(&each, &title, &answers).into_bytes(), remarks, status })
 }

@@ -42,10 +42,12 @@ impl<'a> Checked<'a> {
     fn last_line(&self) -> String {
         let sheet = &self.read.sheet;
         match self.refusals.first() {
-            None => format!(
-                "nothing to refuse: {}, {}, a job of {} bytes",
-                counted(sheet.variants.len(), "variant"), counted(sheet.parts.len(), "part"), job::length(sheet)
-            ),
+            None => {
+                let named = if sheet.haplotypes.is_empty() { String::new() } else { format!("{}, ", counted(sheet.haplotypes.len(), "haplotype")) };
+                let (variants, parts) = (counted(sheet.variants.len(), "variant"), counted(sheet.parts.len(), "part"));
+                format!("nothing to refuse: {variants}, {named}{parts}, a job of {} bytes", job::length(sheet))
+            }
+            Some(first) if first.haplotype.is_some() => format!("{} to refuse some of the haplotypes; the library gives each its first", counted(self.refusals.len(), "reason")),
             Some(first) => format!("{} to refuse; the library gives the first: refused {}", counted(self.refusals.len(), "reason"), first.number),
         }
     }
@@ -60,7 +62,7 @@ impl<'a> Checked<'a> {
         rows.extend(self.read.notes.iter().map(|note| row("note", None, None, None, note.clone())));
         rows.extend(self.read.faults.iter().map(|f| row("fault", Some(f.line), Some(f.column), None, format!("{}; {}", f.what, f.instead))));
         rows.extend(self.warnings.iter().map(|w| row("warning", w.line, None, None, w.words.clone())));
-        rows.extend(self.refusals.iter().map(|r| row("refusal", r.line, None, Some(r.number), r.reason.clone())));
+        rows.extend(self.refusals.iter().map(|r| row("refusal", r.line, None, Some(r.number), r.haplotype.as_ref().map_or(String::new(), |name| format!("haplotype \"{name}\": ")) + &r.reason)));
         rows
     }
 
@@ -71,6 +73,7 @@ impl<'a> Checked<'a> {
             status: self.status(),
             variants: sheet.variants.len(),
             parts: sheet.parts.len(),
+            haplotypes: sheet.haplotypes.iter().map(|haplotype| haplotype.name.as_str()).collect(),
             job_bytes: self.read.faults.is_empty().then(|| job::length(sheet)),
             faults: self.read.faults.iter().map(FaultFields::of).collect(),
             refusals: self.refusals.iter().map(RefusalFields::of).collect(),
@@ -100,13 +103,14 @@ impl<'a> FaultFields<'a> {
 struct RefusalFields<'a> {
     number: u32,
     line: Option<usize>,
+    haplotype: Option<&'a str>,
     words: &'static str,
     reason: &'a str,
 }
 
 impl<'a> RefusalFields<'a> {
     fn of(refusal: &'a Refusal) -> Self {
-        Self { number: refusal.number, line: refusal.line, words: refusals::words(refusal.number), reason: &refusal.reason }
+        Self { number: refusal.number, line: refusal.line, haplotype: refusal.haplotype.as_deref(), words: refusals::words(refusal.number), reason: &refusal.reason }
     }
 }
 
@@ -116,6 +120,7 @@ struct Document<'a> {
     status: u8,
     variants: usize,
     parts: usize,
+    haplotypes: Vec<&'a str>,
     job_bytes: Option<usize>,
     faults: Vec<FaultFields<'a>>,
     refusals: Vec<RefusalFields<'a>>,

@@ -54,6 +54,24 @@ pub enum Command {
         #[command(flatten)]
         into: Into,
     },
+    /// The answer's rows as BED, under one name
+    Bed {
+        #[command(flatten)]
+        sheets: Sheets,
+        /// What stands in the first column, 1 to 32 bytes without blanks
+        #[arg(long, value_name = "NAME")]
+        name: String,
+        #[command(flatten)]
+        into: Into,
+    },
+    /// BED (name, start and end) as the variants of a sheet, to which size and letters are added
+    FromBed {
+        /// BED files; - is standard input
+        #[arg(required = true, value_name = "BED")]
+        files: Vec<String>,
+        #[command(flatten)]
+        into: Into,
+    },
     /// What a shell needs to complete these commands
     Completions { shell: Shell },
 }
@@ -97,7 +115,9 @@ any order:
 The first column holds the name. Starts count from 0 and ends are not counted in. Variants and parts may have a
 column 'negative' (yes or no): whether the letters count negative. Left empty or left out, they do exactly when
 the size is below 0, so a deletion needs no more than its size. Variants may have a column 'record': the number of
-each one's record at the station, 0 to 4294967295, all different. Every section may have a column 'remark'; other
+each one's record at the station, 0 to 4294967295, all different. Parts may have a column 'haplotype': the name of
+the one that each belongs to, of up to 16; each is answered by itself, and a row that fills this column alone names
+one without parts. Every section may have a column 'remark'; other
 columns are passed over with a note. A line whose one filled cell begins with # is a remark too. Letters are A to
 Z in either case; other bytes are written hex:4e2e. A float is written in decimal, or as its 32 bits: bits:7fc00000.
 

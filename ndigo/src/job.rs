@@ -1,11 +1,15 @@
 //! The job form of document 01, byte for byte: written from a sheet and read back. Its limits are the form's, not the program's.
-use crate::model::{Sequence, Settings, Sheet, Variant};
+use crate::model::{Haplotype, Sequence, Settings, Sheet, Variant};
 
 const END: u8 = 0;
 const SETTINGS: u8 = 1;
 const VARIANT: u8 = 2;
 const PART: u8 = 3;
 const LETTERS: u8 = 4;
+/// Begins the next haplotype (document 02, P1).
+const NEXT: u8 = 5;
+/// How many haplotypes a job may carry.
+pub const HAPLOTYPES_LIMIT: usize = 16;
 
 /// How many letters a sequence may have, and how many one record holds.
 pub const LETTERS_LIMIT: usize = 131_072;
@@ -13,13 +17,14 @@ const HELD: usize = 16;
 
 /// The length of a record of this kind with its byte of kind; none for a kind that there is not.
 fn length_of(kind: u8) -> Option<usize> {
-    [1, 41, 26, 10, 17].get(usize::from(kind)).copied()
+    [1, 41, 26, 10, 17, 1].get(usize::from(kind)).copied()
 }
 
 /// How many bytes the job has. Counted and not made, since a sequence over its limit has no job.
 pub fn length(sheet: &Sheet) -> usize {
     let letters: usize = sheet.sequences().map(|sequence| 17 * ((sequence.letters.len() + HELD - 1) / HELD)).sum();
-    41 + 26 * sheet.variants.len() + 10 * sheet.parts.len() + letters + 1
+    let further = sheet.part_lists().len() - 1;
+    41 + 26 * sheet.variants.len() + 10 * sheet.parts.len() + further + letters + 1
 }
 
 fn put_sequence(job: &mut Vec<u8>, sequence: &Sequence) {
@@ -46,9 +51,14 @@ pub fn written(sheet: &Sheet) -> Vec<u8> {
         job.extend(variant.end.to_le_bytes());
         put_sequence(&mut job, &variant.sequence);
     }
-    for part in &sheet.parts {
-        job.push(PART);
-        put_sequence(&mut job, part);
+    for (place, parts) in sheet.part_lists().into_iter().enumerate() {
+        if place > 0 {
+            job.push(NEXT);
+        }
+        for part in parts {
+            job.push(PART);
+            put_sequence(&mut job, part);
+        }
     }
     job.push(END);
     job
@@ -132,12 +142,15 @@ fn long(bytes: &[u8]) -> u64 {
     bytes.iter().rev().fold(0, |number, &byte| number << 8 | u64::from(byte))
 }
 
-/// The job that the bytes hold. It has no names and no record numbers: its rows and parts are named by their places.
+/// The job that the bytes hold. It has no names and no record numbers: its rows, parts and, where there are several, haplotypes are
+/// named by their places.
 pub fn read(data: &[u8]) -> Result<Sheet, FormFault> {
     let mut reader = Reader { data, place: 0, record: 0 };
     let mut sheet = Sheet { settings: reader.settings()?, ..Sheet::default() };
+    // where each haplotype but the last ends
+    let mut ends: Vec<usize> = Vec::new();
     loop {
-        let allowed: &[u8] = if sheet.parts.is_empty() { &[VARIANT, PART, END] } else { &[PART, END] };
+        let allowed: &[u8] = if sheet.parts.is_empty() && ends.is_empty() { &[VARIANT, PART, NEXT, END] } else { &[PART, NEXT, END] };
         match reader.take(allowed)? {
             (VARIANT, body) => {
                 let sequence = reader.sequence(&body[16..], format!("row-{}", sheet.variants.len()))?;
@@ -147,8 +160,16 @@ pub fn read(data: &[u8]) -> Result<Sheet, FormFault> {
                 let part = reader.sequence(body, format!("part-{}", sheet.parts.len()))?;
                 sheet.parts.push(part);
             }
+            (NEXT, _) if ends.len() + 1 == HAPLOTYPES_LIMIT => return reader.fault(27),
+            (NEXT, _) => ends.push(sheet.parts.len()),
             _ if reader.place < data.len() => return Err(FormFault { number: 25, place: reader.place }),
-            _ => return Ok(sheet),
+            _ => {
+                if !ends.is_empty() {
+                    ends.push(sheet.parts.len());
+                }
+                sheet.haplotypes = ends.into_iter().enumerate().map(|(place, end)| Haplotype { name: format!("hap-{place}"), end }).collect();
+                return Ok(sheet);
+            }
         }
     }
 }

@@ -30,6 +30,14 @@ fn status(cli: Cli) -> u8 {
             let sink = Sink::Files { folder: into.into, ending: "tsv" };
             run(&files, &sink, |_, data| asked::show(data).unwrap_or_else(Told::from))
         }
+        Command::Bed { sheets, name, into } => {
+            let sink = Sink::Files { folder: into.into, ending: "bed" };
+            run(&sheets.files, &sink, |_, data| asked::bed(data, sheets.sort, &name).unwrap_or_else(Told::from))
+        }
+        Command::FromBed { files, into } => {
+            let sink = Sink::Files { folder: into.into, ending: "tsv" };
+            run(&files, &sink, |_, data| asked::from_bed(data).unwrap_or_else(Told::from))
+        }
         Command::Completions { shell } => {
             let mut script = Vec::new();
             clap_complete::generate(shell, &mut grammar(), "ndigo", &mut script);

@@ -137,14 +137,52 @@ impl Variant {
     }
 }
 
+/// A haplotype that the sheet names: its parts end before this place of all parts, and begin where those of the one before it end.
+#[derive(Clone, Debug, PartialEq, Eq)]
+pub struct Haplotype {
+    pub name: String,
+    pub end: usize,
+}
+
 #[derive(Clone, Debug, Default, PartialEq, Eq)]
 pub struct Sheet {
     pub settings: Settings,
     pub variants: Vec<Variant>,
+    /// The parts of all haplotypes, one haplotype's behind the other's.
     pub parts: Vec<Sequence>,
+    /// None where the sheet names none: all parts are of one haplotype then.
+    pub haplotypes: Vec<Haplotype>,
 }
 
 impl Sheet {
+    /// The parts of each haplotype; there is always one.
+    pub fn part_lists(&self) -> Vec<&[Sequence]> {
+        if self.haplotypes.is_empty() {
+            return vec![&self.parts];
+        }
+        let begins = std::iter::once(0).chain(self.haplotypes.iter().map(|haplotype| haplotype.end));
+        begins.zip(&self.haplotypes).map(|(begin, haplotype)| &self.parts[begin..haplotype.end]).collect()
+    }
+
+    /// Each haplotype in a sheet of its own, under its name.
+    pub fn each(&self) -> Vec<Sheet> {
+        let lists = self.part_lists();
+        lists.iter().enumerate().map(|(place, parts)| {
+            let name = self.haplotypes.get(place).map(|haplotype| Haplotype { name: haplotype.name.clone(), end: parts.len() });
+            Sheet { settings: self.settings.clone(), variants: self.variants.clone(), parts: parts.to_vec(), haplotypes: name.into_iter().collect() }
+        }).collect()
+    }
+
+    /// The name of its one haplotype, where the sheet names it.
+    pub fn haplotype(&self) -> Option<&str> {
+        self.haplotypes.first().map(|haplotype| haplotype.name.as_str())
+    }
+
+    /// The table alone: what refuses it refuses every haplotype.
+    pub fn without_parts(&self) -> Sheet {
+        Sheet { settings: self.settings.clone(), variants: self.variants.clone(), ..Sheet::default() }
+    }
+
     /// Whether each row is tried alone: asked for, or more rows than maxnodes.
     pub fn one_to_one(&self) -> bool {
         let settings = self.settings.to_library();

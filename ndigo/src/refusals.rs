@@ -1,6 +1,6 @@
 //! Refusals that can be told before running, each with its line. The library decides; this says why in the sheet's own words.
-use crate::job::LETTERS_LIMIT;
-use crate::model::{counted, place_of, Sheet, SETTINGS};
+use crate::job::{HAPLOTYPES_LIMIT, LETTERS_LIMIT};
+use crate::model::{counted, place_of, Sequence, Sheet, SETTINGS};
 
 /// Document 01's table: number, name and words of each refusal, parted by tabs.
 const TABLE: &str = include_str!("../../docs/refusals.tsv");
@@ -23,13 +23,17 @@ pub struct Refusal {
     pub reason: String,
     /// None where no one line did it.
     pub line: Option<usize>,
+    /// The haplotype that alone is refused; none where all of the sheet is.
+    pub haplotype: Option<String>,
 }
 
 impl std::fmt::Display for Refusal {
     fn fmt(&self, out: &mut std::fmt::Formatter<'_>) -> std::fmt::Result {
-        match self.line {
-            Some(line) => write!(out, "line {line}")?,
-            None => write!(out, "the whole sheet")?,
+        match (self.line, &self.haplotype) {
+            (Some(line), None) => write!(out, "line {line}")?,
+            (None, None) => write!(out, "the whole sheet")?,
+            (Some(line), Some(name)) => write!(out, "haplotype \"{name}\": line {line}")?,
+            (None, Some(name)) => write!(out, "haplotype \"{name}\"")?,
         }
         write!(out, ": refused {}: {}", self.number, words(self.number))?;
         if self.reason.is_empty() { Ok(()) } else { write!(out, ": {}", self.reason) }
@@ -37,14 +41,19 @@ impl std::fmt::Display for Refusal {
 }
 
 impl Refusal {
+    /// The same of one haplotype alone.
+    pub fn of_haplotype(self, own: &Sheet) -> Self {
+        Self { haplotype: own.haplotype().map(str::to_string), ..self }
+    }
+
     /// A refusal of the library's that is not foretold here.
     pub fn of_number(number: u32) -> Self {
-        Self { number, reason: String::new(), line: None }
+        Self { number, reason: String::new(), line: None, haplotype: None }
     }
 }
 
 fn at(number: u32, line: usize, reason: String) -> Refusal {
-    Refusal { number, reason, line: (line > 0).then_some(line) }
+    Refusal { number, reason, line: (line > 0).then_some(line), haplotype: None }
 }
 
 /// Sequences that neither the form nor the counter takes.
@@ -55,7 +64,7 @@ pub fn long_sequences(sheet: &Sheet) -> Vec<Refusal> {
 
 fn of_setting(sheet: &Sheet, number: u32, place: usize, limit: &str) -> Refusal {
     let reason = format!("{} is {}, {limit}", SETTINGS[place].name, sheet.settings.text(place));
-    Refusal { number, reason, line: sheet.settings.lines[place] }
+    Refusal { number, reason, line: sheet.settings.lines[place], haplotype: None }
 }
 
 fn bad_k(sheet: &Sheet) -> Vec<Refusal> {
@@ -89,8 +98,11 @@ fn bad_table(sheet: &Sheet) -> Vec<Refusal> {
     if sheet.variants.is_empty() {
         found.push(at(4, 0, "the sheet has no row under the heading variant".into()));
     }
+    if sheet.haplotypes.len() > HAPLOTYPES_LIMIT {
+        found.push(at(27, 0, format!("{}, the limit is {HAPLOTYPES_LIMIT}", counted(sheet.haplotypes.len(), "haplotype"))));
+    }
     found.extend(over(sheet.variants.len(), "variant", sheet.variants.get(TABLE_LIMIT).map(|variant| variant.line())));
-    found.extend(over(sheet.parts.len(), "part", sheet.parts.get(TABLE_LIMIT).map(|part| part.line)));
+    found.extend(over_parts(&sheet.parts));
     for v in sheet.variants.iter().filter(|v| v.start > v.end) {
         found.push(at(7, v.line(), format!("\"{}\" starts at {} and ends at {}", v.name(), v.start, v.end)));
     }
@@ -102,9 +114,17 @@ fn bad_table(sheet: &Sheet) -> Vec<Refusal> {
         );
         found.push(at(8, v.line(), reason));
     }
-    let large = sheet.sequences().filter(|sequence| sequence.size.unsigned_abs() > SIZE_LIMIT);
-    found.extend(large.map(|s| at(9, s.line, format!("\"{}\" has size {}, the limit is {SIZE_LIMIT}", s.name, s.size))));
+    found.extend(large_sizes(sheet.sequences()));
     found
+}
+
+fn over_parts(parts: &[Sequence]) -> Option<Refusal> {
+    over(parts.len(), "part", parts.get(TABLE_LIMIT).map(|part| part.line))
+}
+
+fn large_sizes<'a>(sequences: impl Iterator<Item = &'a Sequence>) -> Vec<Refusal> {
+    let large = sequences.filter(|sequence| sequence.size.unsigned_abs() > SIZE_LIMIT);
+    large.map(|s| at(9, s.line, format!("\"{}\" has size {}, the limit is {SIZE_LIMIT}", s.name, s.size))).collect()
 }
 
 /// All that a sheet can bring on itself, in the order in which the library asks: letters are counted before a search begins, and
@@ -112,4 +132,16 @@ fn bad_table(sheet: &Sheet) -> Vec<Refusal> {
 /// repeated record number is a fault of the sheet).
 pub fn of(sheet: &Sheet) -> Vec<Refusal> {
     [bad_k(sheet), long_sequences(sheet), bad_settings(sheet), bad_table(sheet)].concat()
+}
+
+/// With several haplotypes: what refuses the whole sheet. The haplotypes' own sizes and numbers of parts are not asked.
+pub fn of_whole(sheet: &Sheet) -> Vec<Refusal> {
+    let table = Sheet { haplotypes: sheet.haplotypes.clone(), ..sheet.without_parts() };
+    [bad_k(sheet), long_sequences(sheet), bad_settings(sheet), bad_table(&table)].concat()
+}
+
+/// What refuses one of several haplotypes alone.
+pub fn of_parts(own: &Sheet) -> Vec<Refusal> {
+    let found = over_parts(&own.parts).into_iter().chain(large_sizes(own.parts.iter()));
+    found.map(|refusal| refusal.of_haplotype(own)).collect()
 }

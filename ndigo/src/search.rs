@@ -22,41 +22,62 @@ fn table(sheet: &Sheet, k: u8) -> Result<Table, ndigomarr::Refusal> {
     Ok(table.with_record_numbers(&numbers))
 }
 
-fn asked(sheet: &Sheet) -> Result<Answer, ndigomarr::Refusal> {
-    let settings = sheet.settings.to_library();
-    let table = table(sheet, settings.k)?;
-    let mut haplotype = Haplotype::new(settings.k);
-    for (_, part) in sheet.parts.iter().enumerate().filter(|(row, part)| seen(*row, part)) {
+fn haplotype(parts: &[Sequence], k: u8) -> Result<Haplotype, ndigomarr::Refusal> {
+    let mut haplotype = Haplotype::new(k);
+    for (_, part) in parts.iter().enumerate().filter(|(row, part)| seen(*row, part)) {
         haplotype.add(part.size, &part.letters, part.negative)?;
     }
-    ndigomarr::apply_haplotype(&settings, &table, &haplotype)
+    Ok(haplotype)
 }
 
-/// The library's answer, or every reason why it is refused, the library's own first.
-pub fn answer(sheet: &Sheet) -> Result<Answer, Vec<Refusal>> {
-    asked(sheet).map_err(|refusal| {
-        let mut reasons = refusals::of(sheet);
-        if reasons.first().map(|reason| reason.number) != Some(refusal.number()) {
-            reasons.insert(0, Refusal::of_number(refusal.number()));
-        }
-        reasons
-    })
+/// The answer of each haplotype, by one call of the library.
+fn asked(sheet: &Sheet) -> Result<Vec<Result<Answer, ndigomarr::Refusal>>, ndigomarr::Refusal> {
+    let settings = sheet.settings.to_library();
+    let table = table(sheet, settings.k)?;
+    let haplotypes: Result<Vec<Haplotype>, _> = sheet.part_lists().into_iter().map(|parts| haplotype(parts, settings.k)).collect();
+    ndigomarr::apply_haplotypes(&settings, &table, &haplotypes?)
 }
 
-/// Every reason why the library refuses, as `answer` gives them; the search itself is left at its first path, since it refuses nothing.
+/// The library's own refusal first, then what else is told of the sheet.
+fn with_first(refusal: ndigomarr::Refusal, mut reasons: Vec<Refusal>) -> Vec<Refusal> {
+    if reasons.first().map(|reason| reason.number) != Some(refusal.number()) {
+        reasons.insert(0, Refusal::of_number(refusal.number()));
+    }
+    reasons
+}
+
+/// A haplotype's answer, or every reason why it alone is refused.
+pub type Own = Result<Answer, Vec<Refusal>>;
+
+/// The library's answer for each haplotype, or every reason why the whole sheet is refused. With one haplotype every refusal is the sheet's.
+pub fn answers(sheet: &Sheet) -> Result<Vec<Own>, Vec<Refusal>> {
+    let several = sheet.part_lists().len() > 1;
+    let whole = |refusal| with_first(refusal, if several { refusals::of_whole(sheet) } else { refusals::of(sheet) });
+    let own = asked(sheet).map_err(whole)?;
+    let each = sheet.each();
+    let alone = |(answer, own): (Result<Answer, ndigomarr::Refusal>, &Sheet)| {
+        answer.map_err(|refusal| with_first(refusal, refusals::of_parts(own)).into_iter().map(|reason| reason.of_haplotype(own)).collect())
+    };
+    Ok(own.into_iter().zip(&each).map(alone).collect())
+}
+
+/// Every reason why the library refuses, as `answers` gives them; the search itself is left at its first path, since it refuses nothing.
 pub fn refused(sheet: &Sheet) -> Vec<Refusal> {
     let mut short = sheet.clone();
     let maxpaths = &mut short.settings.words[MAXPATHS];
     *maxpaths = if *maxpaths <= 4095 { 0 } else { *maxpaths };
-    answer(&short).err().unwrap_or_default()
+    match answers(&short) {
+        Err(reasons) => reasons,
+        Ok(each) => each.into_iter().filter_map(Result::err).flatten().collect(),
+    }
 }
 
-/// Where nothing was found: the best path with both thresholds at 0, if even that finds one.
-pub fn without_thresholds(sheet: &Sheet) -> Option<Answer> {
-    let mut free = sheet.clone();
+/// Where a haplotype, in a sheet of its own, found nothing: the best path with both thresholds at 0, if even that finds one.
+pub fn without_thresholds(own: &Sheet) -> Option<Answer> {
+    let mut free = own.clone();
     free.settings.words[SIZESIM] = 0;
     free.settings.words[SEQSIM] = 0;
-    asked(&free).ok().filter(|answer| answer.target != Target::Nothing)
+    asked(&free).ok()?.pop()?.ok().filter(|answer| answer.target != Target::Nothing)
 }
 
 /// Whether the search will stop before it has scored all paths.

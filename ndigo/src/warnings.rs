@@ -95,6 +95,9 @@ pub fn of_rows(sheet: &Sheet) -> Vec<Warning> {
     found.extend(counted_from_one(&sheet.variants));
     if sheet.parts.is_empty() {
         found.push(on_sheet("the sheet has no parts: there is nothing to explain"));
+    } else {
+        let without = sheet.each().into_iter().filter(|own| own.parts.is_empty());
+        found.extend(without.map(|own| on_sheet(format!("haplotype \"{}\" has no parts: there is nothing to explain", own.haplotype().unwrap_or_default()))));
     }
     // by line, and what is said of the whole sheet last
     found.sort_by_key(|warning| warning.line.unwrap_or(usize::MAX));

@@ -7,15 +7,15 @@
 //! whether those were all; of two equally good paths the later one wins.
 //!
 //! ```
-//! use ndigomarr::{apply_haplotype, Haplotype, Settings, Table, Target};
-//!
-//! let mut table = Table::new(1);
-//! table.add(10, 10, 2, b"AG", false)?;
-//! table.add(20, 20, 2, b"CT", false)?;
-//! let mut haplotype = Haplotype::new(1);
-//! haplotype.add(2, b"AG", false)?;
+//! use ndigomarr::{apply_haplotype, Settings, Target};
 //!
 //! let settings = Settings { k: 1, minkfreq: 1, ..Settings::default() };
+//! let mut table = settings.table();
+//! table.insertion(10, b"AG")?;
+//! table.insertion(20, b"CT")?;
+//! let mut haplotype = settings.haplotype();
+//! haplotype.insertion(b"AG")?;
+//!
 //! let answer = apply_haplotype(&settings, &table, &haplotype)?;
 //! assert_eq!(answer.rows, [0]);
 //! assert_eq!(answer.records, [0]);
@@ -25,63 +25,44 @@
 //! # Ok::<(), ndigomarr::Refusal>(())
 //! ```
 
+#![warn(missing_docs)]
+
+/// The page's own example is run as a test.
+#[cfg(doctest)]
+#[doc = include_str!("../README.md")]
+struct Readme;
+
+mod bed;
 mod raw;
 mod refusal;
+mod refusals;
+mod settings;
 mod table;
 
-pub use refusal::Refusal;
+pub use bed::Bed;
+pub use refusals::Refusal;
+pub use settings::Settings;
 pub use table::{Haplotype, Table};
 
-/// The settings of a search. The default values are kanpig's where they lie in the limits here;
-/// `maxpaths` (5,000 there, at most 4,095 here) and `pileupmax` (100 there, at most 12 here) are
-/// the largest that are accepted.
-#[derive(Clone, Copy, Debug, PartialEq)]
-pub struct Settings {
-    /// Letters of a k-mer, 1 to 6.
-    pub k: u8,
-    /// Prefer paths of few rows: the gap penalty counts rows beyond the first.
-    pub squish: bool,
-    /// Match each row alone instead of searching paths.
-    pub one_to_one: bool,
-    /// Rows of which no two overlap may stand in one path, an insertion inside a deletion overlapping it; without it only the empty path stands.
-    pub full: bool,
-    /// The search scores at most this many paths and one more.
-    pub maxpaths: u32,
-    /// Tables of more rows are matched one to one.
-    pub maxnodes: u32,
-    /// How many parts a part list may leave out.
-    pub fnmax: u32,
-    /// From this many parts on only the whole haplotype is tried.
-    pub pileupmax: u32,
-    /// K-mers seen fewer times in both rows together are passed over.
-    pub minkfreq: u32,
-    /// The least similarity of sizes.
-    pub sizesim: f32,
-    /// The least similarity of sequences.
-    pub seqsim: f32,
-    /// Taken off the score for each part left out.
-    pub fpenalty: f32,
-    /// Taken off the score for each row too many or too few.
-    pub gpenalty: f32,
-}
+impl Settings {
+    /// A table of no rows for these settings: its letters will be counted by windows of `k`.
+    ///
+    /// ```
+    /// let settings = ndigomarr::Settings { k: 2, ..Default::default() };
+    /// assert_eq!(settings.table(), ndigomarr::Table::new(2));
+    /// ```
+    pub fn table(&self) -> Table {
+        Table::new(self.k)
+    }
 
-impl Default for Settings {
-    fn default() -> Self {
-        Self {
-            k: 4,
-            squish: false,
-            one_to_one: false,
-            full: true,
-            maxpaths: 4095,
-            maxnodes: 5000,
-            fnmax: 3,
-            pileupmax: 12,
-            minkfreq: 2,
-            sizesim: 0.90,
-            seqsim: 0.90,
-            fpenalty: 0.10,
-            gpenalty: 0.02,
-        }
+    /// A haplotype of no parts for these settings: its letters will be counted by windows of `k`.
+    ///
+    /// ```
+    /// let settings = ndigomarr::Settings { k: 2, ..Default::default() };
+    /// assert_eq!(settings.haplotype(), ndigomarr::Haplotype::new(2));
+    /// ```
+    pub fn haplotype(&self) -> Haplotype {
+        Haplotype::new(self.k)
     }
 }
 
@@ -103,9 +84,13 @@ pub struct Answer {
     pub rows: Vec<usize>,
     /// The record number of each of these rows, in the rows' order.
     pub records: Vec<u32>,
+    /// What of the haplotype the path matched.
     pub target: Target,
+    /// The path's score: the mean of both similarities, less the penalties; 0 where nothing was found.
     pub score: f32,
+    /// The similarity of the sizes of path and haplotype.
     pub sizesim: f32,
+    /// The similarity of their letters.
     pub seqsim: f32,
     /// How many paths were scored; in a one-to-one match the rows and the two ends.
     pub scored: u32,
@@ -121,11 +106,28 @@ pub struct Room {
 }
 
 impl Room {
+    /// A room of no entries, which grows when it is lent.
+    ///
+    /// ```
+    /// assert_eq!(ndigomarr::Room::new().bytes(), 0);
+    /// ```
     pub fn new() -> Self {
         Self::default()
     }
 
     /// How much memory it holds: 12 bytes an entry.
+    ///
+    /// ```
+    /// use ndigomarr::{apply_haplotype_in, Room, Settings};
+    ///
+    /// let settings = Settings { k: 1, maxpaths: 9, ..Settings::default() };
+    /// let mut table = settings.table();
+    /// table.insertion(10, b"AG")?;
+    /// let mut room = Room::new();
+    /// apply_haplotype_in(&settings, &table, &settings.haplotype(), &mut room)?;
+    /// assert_eq!(room.bytes(), 12 * (1 + 10 * 1));
+    /// # Ok::<(), ndigomarr::Refusal>(())
+    /// ```
     pub fn bytes(&self) -> usize {
         12 * self.keys.len()
     }
@@ -139,6 +141,12 @@ fn checked<T>(number: u32, value: T) -> Result<T, Refusal> {
 }
 
 /// The k-mer counts of a sequence, a row of 4^k entries; negative ones for a `negative` sequence.
+///
+/// ```
+/// assert_eq!(ndigomarr::seq_to_kmer(b"AAG", 1, false)?, [2, 1, 0, 0]); // A, G, C, T
+/// assert_eq!(ndigomarr::seq_to_kmer(b"AAG", 1, true)?, [-2, -1, 0, 0]);
+/// # Ok::<(), ndigomarr::Refusal>(())
+/// ```
 pub fn seq_to_kmer(sequence: &[u8], k: u8, negative: bool) -> Result<Vec<i32>, Refusal> {
     let mut row = vec![0; raw::entries(k)];
     seq_to_kmer_into(sequence, k, negative, &mut row)?;
@@ -146,11 +154,23 @@ pub fn seq_to_kmer(sequence: &[u8], k: u8, negative: bool) -> Result<Vec<i32>, R
 }
 
 /// The same in a row that the caller keeps, of 4^k entries; a refusal leaves it as it was.
+///
+/// ```
+/// let mut row = [7; 4];
+/// ndigomarr::seq_to_kmer_into(b"CT", 1, false, &mut row)?;
+/// assert_eq!(row, [0, 0, 1, 1]);
+/// # Ok::<(), ndigomarr::Refusal>(())
+/// ```
 pub fn seq_to_kmer_into(sequence: &[u8], k: u8, negative: bool, row: &mut [i32]) -> Result<(), Refusal> {
     checked(raw::seq_to_kmer(sequence, k, negative, row), ())
 }
 
 /// The similarity of two feature rows.
+///
+/// ```
+/// assert_eq!(ndigomarr::seqsim(&[1, 1, 1, 1], &[1, 1, 0, 0], 2)?, 1.0);
+/// # Ok::<(), ndigomarr::Refusal>(())
+/// ```
 pub fn seqsim(a: &[i32], b: &[i32], minkfreq: u32) -> Result<f32, Refusal> {
     let mut value = 0.0;
     let number = raw::seqsim(a, b, minkfreq, &mut value);
@@ -158,6 +178,12 @@ pub fn seqsim(a: &[i32], b: &[i32], minkfreq: u32) -> Result<f32, Refusal> {
 }
 
 /// The similarity of two sizes.
+///
+/// ```
+/// assert_eq!(ndigomarr::sizesim(0, 4)?, 0.25);
+/// assert_eq!(ndigomarr::sizesim(0, 8_388_609), Err(ndigomarr::Refusal::BadSize));
+/// # Ok::<(), ndigomarr::Refusal>(())
+/// ```
 pub fn sizesim(a: u64, b: u64) -> Result<f32, Refusal> {
     let mut value = 0.0;
     let number = raw::sizesim(a, b, &mut value);
@@ -165,6 +191,14 @@ pub fn sizesim(a: u64, b: u64) -> Result<f32, Refusal> {
 }
 
 /// How many paths the table has, counted up to `cap`.
+///
+/// ```
+/// let mut table = ndigomarr::Table::new(1);
+/// table.insertion(10, b"AG")?;
+/// table.insertion(20, b"CT")?;
+/// assert_eq!(ndigomarr::count_chains(&table, true, 4096)?, 4); // none, the first, the second, both
+/// # Ok::<(), ndigomarr::Refusal>(())
+/// ```
 pub fn count_chains(table: &Table, full: bool, cap: u32) -> Result<u32, Refusal> {
     let mut count = 0;
     let number = raw::count_chains(table.starts(), table.ends(), full, cap, &mut count);
@@ -172,16 +206,87 @@ pub fn count_chains(table: &Table, full: bool, cap: u32) -> Result<u32, Refusal>
 }
 
 /// The path of the table that best explains the haplotype.
+///
+/// ```
+/// use ndigomarr::{apply_haplotype, Settings};
+///
+/// let settings = Settings { k: 1, minkfreq: 1, ..Settings::default() };
+/// let mut table = settings.table();
+/// table.deletion(100, b"ACCA")?;
+/// let mut haplotype = settings.haplotype();
+/// haplotype.deletion(b"ACCA")?;
+/// assert_eq!(apply_haplotype(&settings, &table, &haplotype)?.rows, [0]);
+/// # Ok::<(), ndigomarr::Refusal>(())
+/// ```
 pub fn apply_haplotype(settings: &Settings, table: &Table, haplotype: &Haplotype) -> Result<Answer, Refusal> {
     apply_haplotype_in(settings, table, haplotype, &mut Room::new())
 }
 
 /// The same in a room that the caller keeps: for many searches one after the other.
+///
+/// ```
+/// use ndigomarr::{apply_haplotype_in, Room, Settings};
+///
+/// let settings = Settings { k: 1, minkfreq: 1, ..Settings::default() };
+/// let mut table = settings.table();
+/// table.insertion(10, b"AG")?;
+/// let mut room = Room::new();
+/// for part in [b"AG", b"CT"] {
+///     let mut haplotype = settings.haplotype();
+///     haplotype.insertion(part)?;
+///     println!("{:?}", apply_haplotype_in(&settings, &table, &haplotype, &mut room)?);
+/// }
+/// # Ok::<(), ndigomarr::Refusal>(())
+/// ```
 pub fn apply_haplotype_in(settings: &Settings, table: &Table, haplotype: &Haplotype, room: &mut Room) -> Result<Answer, Refusal> {
     raw::apply_haplotype(settings, table, haplotype, room)
 }
 
+/// The paths that best explain each of 1 to 16 haplotypes over one table, which is checked once. A refusal of the settings or the table
+/// answers the whole call, and so does any with one haplotype; with several, one of a haplotype's own parts answers that haplotype alone.
+///
+/// ```
+/// use ndigomarr::{apply_haplotypes, Refusal, Settings};
+///
+/// let settings = Settings { k: 1, minkfreq: 1, ..Settings::default() };
+/// let mut table = settings.table();
+/// table.insertion(10, b"AG")?;
+/// table.insertion(20, b"CT")?;
+/// let mut haplotypes = vec![settings.haplotype(); 3];
+/// haplotypes[0].insertion(b"CT")?;
+/// haplotypes[1].add(131_073, b"AG", false)?;
+/// haplotypes[2].insertion(b"AG")?;
+/// let answers = apply_haplotypes(&settings, &table, &haplotypes)?;
+/// assert_eq!(answers[0].as_ref().unwrap().rows, [1]);
+/// assert_eq!(answers[1], Err(Refusal::BadSize));
+/// assert_eq!(answers[2].as_ref().unwrap().rows, [0]);
+/// # Ok::<(), ndigomarr::Refusal>(())
+/// ```
+pub fn apply_haplotypes(settings: &Settings, table: &Table, haplotypes: &[Haplotype]) -> Result<Vec<Result<Answer, Refusal>>, Refusal> {
+    apply_haplotypes_in(settings, table, haplotypes, &mut Room::new())
+}
+
+/// The same in a room that the caller keeps: for many calls one after the other.
+///
+/// ```
+/// use ndigomarr::{apply_haplotypes_in, Room, Settings};
+///
+/// let settings = Settings { k: 1, minkfreq: 1, ..Settings::default() };
+/// let mut table = settings.table();
+/// table.insertion(10, b"AG")?;
+/// let mut room = Room::new();
+/// assert_eq!(apply_haplotypes_in(&settings, &table, &[settings.haplotype()], &mut room)?.len(), 1);
+/// # Ok::<(), ndigomarr::Refusal>(())
+/// ```
+pub fn apply_haplotypes_in(settings: &Settings, table: &Table, haplotypes: &[Haplotype], room: &mut Room) -> Result<Vec<Result<Answer, Refusal>>, Refusal> {
+    raw::apply_haplotypes(settings, table, haplotypes, room)
+}
+
 /// The program's answer to a job's bytes: its lines of text. A job that the program refuses is answered by a line that says so.
+///
+/// ```
+/// assert_eq!(ndigomarr::answer(b""), "refused 21\n");
+/// ```
 pub fn answer(job: &[u8]) -> String {
     String::from_utf8_lossy(&raw::answer(job)).into_owned()
 }

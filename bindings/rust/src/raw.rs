@@ -12,6 +12,29 @@ mod archive {
         pub fn nd_sizesim(a: u64, b: u64, place: *mut f32) -> u32;
         pub fn nd_count_chains(starts: *const u64, starts_len: usize, ends: *const u64, ends_len: usize, full: bool, cap: u32, count: *mut u32) -> u32;
         pub fn nd_answer(job: *const u8, job_len: usize, text: *mut [u8; 8192]) -> u32;
+        pub fn nd_read_bed(
+            text: *const u8,
+            text_len: usize,
+            starts: *mut u64,
+            starts_len: usize,
+            ends: *mut u64,
+            ends_len: usize,
+            name: *mut [u8; 32],
+            counts: *mut [u32; 2],
+        ) -> u32;
+        pub fn nd_write_bed(
+            name: *const u8,
+            name_len: usize,
+            starts: *const u64,
+            starts_len: usize,
+            ends: *const u64,
+            ends_len: usize,
+            rows: *const u32,
+            rows_len: usize,
+            text: *mut u8,
+            text_len: usize,
+            written: *mut u64,
+        ) -> u32;
         pub fn nd_apply_haplotype(
             settings: *const [u32; 13],
             starts: *const u64,
@@ -37,6 +60,37 @@ mod archive {
             records: *mut u32,
             records_len: usize,
             report: *mut [u32; 7],
+        ) -> u32;
+        pub fn nd_apply_haplotypes(
+            settings: *const [u32; 13],
+            starts: *const u64,
+            starts_len: usize,
+            ends: *const u64,
+            ends_len: usize,
+            sizes: *const i32,
+            sizes_len: usize,
+            features: *const i32,
+            features_len: usize,
+            record_numbers: *const u32,
+            record_numbers_len: usize,
+            part_ends: *const u64,
+            part_ends_len: usize,
+            feature_ends: *const u64,
+            feature_ends_len: usize,
+            part_sizes: *const i32,
+            part_sizes_len: usize,
+            part_features: *const i32,
+            part_features_len: usize,
+            links: *mut u32,
+            links_len: usize,
+            keys: *mut u64,
+            keys_len: usize,
+            rows: *mut u32,
+            rows_len: usize,
+            records: *mut u32,
+            records_len: usize,
+            reports: *mut u32,
+            reports_len: usize,
         ) -> u32;
     }
 }
@@ -72,6 +126,28 @@ pub fn answer(job: &[u8]) -> Vec<u8> {
     text[..length as usize].to_vec()
 }
 
+pub fn read_bed(text: &[u8], starts: &mut [u64], ends: &mut [u64], name: &mut [u8; 32], counts: &mut [u32; 2]) -> u32 {
+    unsafe { archive::nd_read_bed(text.as_ptr(), text.len(), starts.as_mut_ptr(), starts.len(), ends.as_mut_ptr(), ends.len(), name, counts) }
+}
+
+pub fn write_bed(name: &[u8], starts: &[u64], ends: &[u64], rows: &[u32], text: &mut [u8], written: &mut u64) -> u32 {
+    unsafe {
+        archive::nd_write_bed(
+            name.as_ptr(),
+            name.len(),
+            starts.as_ptr(),
+            starts.len(),
+            ends.as_ptr(),
+            ends.len(),
+            rows.as_ptr(),
+            rows.len(),
+            text.as_mut_ptr(),
+            text.len(),
+            written,
+        )
+    }
+}
+
 impl Room {
     /// Grows to what a search is asked to be lent: 1 + (maxpaths + 1) × V entries. None for a one-to-one match, which
     /// has no queue, nor where the call will be refused anyway.
@@ -91,19 +167,78 @@ pub fn apply_haplotype(settings: &Settings, table: &Table, haplotype: &Haplotype
     let mut records = vec![0; table.len()];
     let mut report = [0; 7];
     let number = search(settings, table, haplotype, room, &mut rows, &mut records, &mut report);
+    checked(number, answer_of(report, &rows, &records))
+}
+
+/// How many words of the reports a haplotype has: its refusal, and the seven of its answer.
+const WORDS: usize = 8;
+
+/// Each haplotype's answer or refusal, or the refusal of the whole call.
+pub fn apply_haplotypes(settings: &Settings, table: &Table, haplotypes: &[Haplotype], room: &mut Room) -> Result<Vec<Result<Answer, Refusal>>, Refusal> {
+    room.grow(settings, table.len());
+    let mut left = Left::new(table.len(), haplotypes.len(), 0);
+    let number = search_all(settings, table, &Stretches::of(haplotypes), room, &mut left);
+    checked(number, ())?;
+    Ok((0..haplotypes.len()).map(|at| left.answer(table.len(), at)).collect())
+}
+
+/// The parts of several haplotypes one behind the other, and where those of each end.
+#[derive(Default)]
+struct Stretches {
+    sizes: Vec<i32>,
+    features: Vec<i32>,
+    part_ends: Vec<u64>,
+    feature_ends: Vec<u64>,
+}
+
+impl Stretches {
+    fn of(haplotypes: &[Haplotype]) -> Self {
+        let mut all = Self::default();
+        for haplotype in haplotypes {
+            all.sizes.extend_from_slice(haplotype.sizes());
+            all.features.extend_from_slice(haplotype.features());
+            all.part_ends.push(all.sizes.len() as u64);
+            all.feature_ends.push(all.features.len() as u64);
+        }
+        all
+    }
+}
+
+/// The buffers that several haplotypes have their stretches in.
+struct Left {
+    rows: Vec<u32>,
+    records: Vec<u32>,
+    reports: Vec<u32>,
+}
+
+impl Left {
+    fn new(variants: usize, haplotypes: usize, word: u32) -> Self {
+        let entries = vec![word; variants * haplotypes];
+        Self { rows: entries.clone(), records: entries, reports: vec![word; WORDS * haplotypes] }
+    }
+
+    fn answer(&self, variants: usize, at: usize) -> Result<Answer, Refusal> {
+        let words = &self.reports[WORDS * at..][..WORDS];
+        let report = words[1..].try_into().expect("seven behind the refusal");
+        let from = variants * at;
+        checked(words[0], answer_of(report, &self.rows[from..], &self.records[from..]))
+    }
+}
+
+/// What the seven words of a report and the fronts of two buffers say.
+fn answer_of(report: [u32; 7], rows: &[u32], records: &[u32]) -> Answer {
     let [count, target, score, sizesim, seqsim, scored, complete] = report;
-    records.truncate(count as usize);
-    let answer = Answer {
-        rows: rows.iter().take(count as usize).map(|&row| row as usize).collect(),
-        records,
+    let count = count as usize;
+    Answer {
+        rows: rows[..count].iter().map(|&row| row as usize).collect(),
+        records: records[..count].to_vec(),
         target: target_of(target),
         score: f32::from_bits(score),
         sizesim: f32::from_bits(sizesim),
         seqsim: f32::from_bits(seqsim),
         scored,
         complete: complete == 1,
-    };
-    checked(number, answer)
+    }
 }
 
 /// The archive writes 0 for no part list, 1 for the whole haplotype, and 1 more for each part left out.
@@ -173,10 +308,46 @@ fn search(
     }
 }
 
+fn search_all(settings: &Settings, table: &Table, parts: &Stretches, room: &mut Room, left: &mut Left) -> u32 {
+    unsafe {
+        archive::nd_apply_haplotypes(
+            &words(settings),
+            table.starts().as_ptr(),
+            table.starts().len(),
+            table.ends().as_ptr(),
+            table.ends().len(),
+            table.sizes().as_ptr(),
+            table.sizes().len(),
+            table.features().as_ptr(),
+            table.features().len(),
+            table.record_numbers().as_ptr(),
+            table.record_numbers().len(),
+            parts.part_ends.as_ptr(),
+            parts.part_ends.len(),
+            parts.feature_ends.as_ptr(),
+            parts.feature_ends.len(),
+            parts.sizes.as_ptr(),
+            parts.sizes.len(),
+            parts.features.as_ptr(),
+            parts.features.len(),
+            room.links.as_mut_ptr(),
+            room.links.len(),
+            room.keys.as_mut_ptr(),
+            room.keys.len(),
+            left.rows.as_mut_ptr(),
+            left.rows.len(),
+            left.records.as_mut_ptr(),
+            left.records.len(),
+            left.reports.as_mut_ptr(),
+            left.reports.len(),
+        )
+    }
+}
+
 /// What a safe caller cannot see: the lent buffers themselves.
 #[cfg(test)]
 mod tests {
-    use super::{search, Haplotype, Room, Settings, Table};
+    use super::{search, search_all, Haplotype, Left, Room, Settings, Stretches, Table};
 
     const MARK: u32 = 0xdead_0001;
 
@@ -218,5 +389,76 @@ mod tests {
             // both come before the second buffer's 12
             assert_eq!(searched(record_numbers, 3, 2), (wanted, vec![MARK; 3], vec![MARK; 2]));
         }
+    }
+
+    /// The number of a call of several haplotypes, the second refused for a size, over the same rows; and what the buffers hold then, cut to these lengths.
+    fn searched_all(count: usize, rows: usize, records: usize, reports: usize) -> (u32, Left) {
+        let settings = Settings { k: 1, minkfreq: 1, maxpaths: 10, ..Settings::default() };
+        let mut table = Table::new(1);
+        for (at, letters) in [b"AG", b"CT"].into_iter().enumerate() {
+            table.add(at as u64, at as u64, 2, letters, false).expect("few letters");
+        }
+        let haplotypes: Vec<_> = [2, 131_073, 2][..count]
+            .iter()
+            .map(|&size| {
+                let mut haplotype = Haplotype::new(1);
+                haplotype.add(size, b"CT", false).expect("few letters");
+                haplotype
+            })
+            .collect();
+        let mut room = Room::new();
+        room.grow(&settings, table.len());
+        let mut left = Left { rows: vec![MARK; rows], records: vec![MARK; records], reports: vec![MARK; reports] };
+        let number = search_all(&settings, &table, &Stretches::of(&haplotypes), &mut room, &mut left);
+        (number, left)
+    }
+
+    #[test]
+    fn each_haplotype_has_its_own_stretch() {
+        let (number, left) = searched_all(3, 7, 8, 25);
+        assert_eq!(number, 0);
+        assert_eq!(left.rows, [1, MARK, MARK, MARK, 1, MARK, MARK]);
+        assert_eq!(left.records, [1, MARK, MARK, MARK, 1, MARK, MARK, MARK]);
+        assert_eq!(left.reports[8..16], [9, 0, 0, 0, 0, 0, 0, 0]);
+        assert_eq!((left.reports[0..3].to_vec(), left.reports[16..19].to_vec(), left.reports[24]), (vec![0, 1, 1], vec![0, 1, 1], MARK));
+    }
+
+    #[test]
+    fn a_refusal_of_the_whole_call_leaves_every_buffer() {
+        for (rows, records, reports) in [(5, 6, 24), (6, 5, 24), (6, 6, 23)] {
+            let (number, left) = searched_all(3, rows, records, reports);
+            assert_eq!((number, left.rows, left.records, left.reports), (12, vec![MARK; rows], vec![MARK; records], vec![MARK; reports]));
+        }
+        // with one haplotype its own refusals too
+        let settings = Settings { k: 0, ..Settings::default() };
+        let mut left = Left { rows: vec![MARK; 2], records: vec![MARK; 2], reports: vec![MARK; 8] };
+        let number = search_all(&settings, &Table::new(1), &Stretches::of(&[Haplotype::new(1)]), &mut Room::new(), &mut left);
+        assert_eq!((number, left.rows, left.records, left.reports), (1, vec![MARK; 2], vec![MARK; 2], vec![MARK; 8]));
+    }
+
+    #[test]
+    fn ends_that_do_not_fit_are_a_6_of_the_whole_call() {
+        let settings = Settings { k: 1, minkfreq: 1, maxpaths: 10, ..Settings::default() };
+        let mut table = Table::new(1);
+        table.add(0, 0, 2, b"AG", false).expect("few letters");
+        let mut room = Room::new();
+        room.grow(&settings, 1);
+        let whole = || Stretches { sizes: vec![2, 2], features: vec![1, 1, 0, 0, 0, 0, 1, 1], part_ends: vec![1, 2], feature_ends: vec![4, 8] };
+        let mut number = |parts: Stretches| search_all(&settings, &table, &parts, &mut room, &mut Left::new(1, 2, MARK));
+        assert_eq!(number(whole()), 0);
+        for wrong in [
+            Stretches { part_ends: vec![2, 1], ..whole() },
+            Stretches { part_ends: vec![1, 1], ..whole() },
+            Stretches { part_ends: vec![1, 3], ..whole() },
+            Stretches { feature_ends: vec![8, 4], ..whole() },
+            Stretches { feature_ends: vec![4, 9], ..whole() },
+            Stretches { feature_ends: vec![8], ..whole() },
+        ] {
+            assert_eq!(number(wrong), 6);
+        }
+        // a stretch of features that is not its parts' is that haplotype's own 6
+        let mut left = Left::new(1, 2, MARK);
+        assert_eq!(search_all(&settings, &table, &Stretches { feature_ends: vec![3, 8], ..whole() }, &mut room, &mut left), 0);
+        assert_eq!((left.reports[0], left.reports[8]), (6, 6));
     }
 }

@@ -1,34 +1,40 @@
-//! Why a call was refused.
+//! What can be asked of a refusal.
 use std::fmt;
 
-/// Document 01's table: number, name and words of each refusal, parted by tabs.
-const TABLE: &str = include_str!("../../../docs/refusals.tsv");
-
-/// A refusal: its number, and the table's words for it as its text.
-#[derive(Clone, Copy, Debug, PartialEq, Eq, Hash)]
-pub struct Refusal(u32);
+use crate::refusals::{Refusal, TABLE};
 
 impl Refusal {
     /// The refusal of this number; 0 is an accepted call.
     pub(crate) fn new(number: u32) -> Option<Self> {
-        (number != 0).then_some(Self(number))
+        let row = TABLE.iter().find(|row| row.0 == number);
+        (number != 0).then(|| row.map_or(Self::Other(number), |row| row.1))
     }
 
     /// The number in the table of refusals.
+    ///
+    /// ```
+    /// assert_eq!(ndigomarr::Refusal::BadK.number(), 1);
+    /// ```
     pub fn number(self) -> u32 {
-        self.0
+        match self {
+            Self::Other(number) => number,
+            known => TABLE.iter().find(|row| row.1 == known).map_or(0, |row| row.0),
+        }
     }
 
-    fn words(self) -> &'static str {
-        let number = self.0.to_string();
-        let mut rows = TABLE.lines().map(|line| line.split('\t'));
-        rows.find_map(|mut cells| (cells.next()? == number).then(|| cells.nth(1))?).unwrap_or("not in the table of refusals")
+    /// The table's words for it.
+    ///
+    /// ```
+    /// assert_eq!(ndigomarr::Refusal::BadK.words(), "k not 1 to 6");
+    /// ```
+    pub fn words(self) -> &'static str {
+        TABLE.iter().find(|row| row.1 == self).map_or("not in the table of refusals", |row| row.2)
     }
 }
 
 impl fmt::Display for Refusal {
     fn fmt(&self, out: &mut fmt::Formatter<'_>) -> fmt::Result {
-        write!(out, "refused {}: {}", self.0, self.words())
+        write!(out, "refused {}: {}", self.number(), self.words())
     }
 }
 
@@ -36,7 +42,7 @@ impl std::error::Error for Refusal {}
 
 #[cfg(test)]
 mod tests {
-    use super::Refusal;
+    use super::{Refusal, TABLE};
 
     #[test]
     fn a_number_has_the_words_of_its_own_line() {
@@ -46,5 +52,13 @@ mod tests {
         assert_eq!(said(12).as_deref(), Some("refused 12: answer room under V rows"));
         assert_eq!(said(14).as_deref(), Some("refused 14: a repeated record number"));
         assert_eq!(said(2_000).as_deref(), Some("refused 2000: not in the table of refusals"));
+    }
+
+    #[test]
+    fn each_number_comes_back() {
+        for (number, refusal, words) in TABLE {
+            assert_eq!(Refusal::new(number), Some(refusal));
+            assert_eq!((refusal.number(), refusal.words()), (number, words));
+        }
     }
 }

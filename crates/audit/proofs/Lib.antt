@@ -2,6 +2,8 @@
 pub mod Bench
 pub mod Demand3Laws
 pub mod RecordNumbersLaws
+pub mod SeveralHaplotypesLaws
+pub mod TargetLaws
 pub mod Worked
 pub mod NoParts
 pub mod PartOrderLaws

@@ -130,7 +130,7 @@ module _ (n : Numbered) where
     none-repeated : fourteen ≡ false
     none-repeated = from-six .1 .1 .1 .0
 
-    accepted-as : numberedFault n ≡ firstFault (n .call)
+    pub accepted-as : numberedFault n ≡ firstFault (n .call)
     accepted-as = same-fault (from-six .0) none-repeated (from-six .1 .1 .1 .1 .1 .1 .1 .1 .1 .1 .0)
 
     v-numbers : length (n .numbers) ≡ length (n .call .table .starts)

@@ -7,7 +7,7 @@ use Rattle.metrics.specs.Letters.{countsOf, rowAfter}
 use Rattle.form.specs.Job.{jobBytes}
 use Rattle.writer.specs.Writing.{jobFrom, outAfter}
 use Rattle.text.specs.Written.{Written}
-use Rattle.audit.specs.Unique.{Agree, Unique}
+use Rattle.audit.specs.Unique.{Agree, Filled, Unique}
 
 one : {A : Type 0} {z : A} (x y : A) → x ≡ z → y ≡ z → x ≡ y
 one x y p q = p ∙ sym q
@@ -47,9 +47,26 @@ both x p = let d = p .1 .0 in let e = p .0 in ((λ i. (d i, e i)), p .1 .1)
 recorded : {A B P R : Type 0} {a : A} {b : B} (x : A × B) → (x .1 ≡ b) × (P × ((x .0 ≡ a) × R)) → (x ≡ (a, b)) × (P × R)
 recorded x p = let q = both x (p .0, p .1 .1) in (q .0, (p .1 .0, q .1))
 
+-- records, reports, rows and a number
+recorded-both : {A B N P R : Type 0} {a : A} {b : B} {n : N} (x : A × (B × N)) → (x .1 .1 ≡ n) × (P × ((x .0 ≡ a) × ((x .1 .0 ≡ b) × R))) → (x ≡ (a, (b, n))) × (P × R)
+recorded-both x p =
+    let q = both (x .1) (p .0, p .1 .1 .1) in
+    recorded x (q .0, (p .1 .0, (p .1 .1 .0, q .1)))
+
+-- three slices, each by an equation of its own
+filled : {B : Type 0} {starts ends name : List ℕ} {b : B} (x y : Filled) (u v : B)
+    → (u ≡ b) × ((x .starts ≡ starts) × ((x .ends ≡ ends) × (x .name ≡ name))) → (v ≡ b) × ((y .starts ≡ starts) × ((y .ends ≡ ends) × (y .name ≡ name)))
+    → (x ≡ y) × (u ≡ v)
+filled x y u v p q =
+    let s = p .1 .0 ∙ sym (q .1 .0) in
+    let e = p .1 .1 .0 ∙ sym (q .1 .1 .0) in
+    let n = p .1 .1 .1 ∙ sym (q .1 .1 .1) in
+    ((λ i. record { starts = s i; ends = e i; name = n i }), p .0 ∙ sym (q .0))
+
 pub unique : Unique
 unique = record {
   sizesim = λ a b. one;
+  similarity = λ d n. one;
   seqsim = λ a b minkfreq. one;
   bits-of = λ x. one;
   overlaps = λ s1 e1 s2 e2. one;
@@ -61,10 +78,19 @@ unique = record {
   search-mode = λ s v. one;
   queue-room = λ links keys. one;
   call-fault = λ s starts ends sizes features partSizes partFeatures queueRoom answerRoom. one;
+  parts-fault = λ k partSizes partFeatures. one;
+  several-fault = λ s starts ends sizes features partEnds featureEnds partSizes partFeatures queueRoom answerRoom reportRoom. one;
+  earlier = λ other own. one;
   count-fault = λ starts ends cap. one;
   count-chains = λ starts ends full cap. one;
   apply-haplotype = λ s starts ends sizes features partSizes partFeatures links keys rows. agree;
+  put-report = λ answer report. one;
+  apply-haplotypes = λ s starts ends sizes features partEnds featureEnds partSizes partFeatures links keys rows reports x y p q.
+      agree x y (recorded (x .says) p) (recorded (y .says) q);
+  numbered-fault = λ s starts ends sizes features numbers partSizes partFeatures queueRoom answerRoom recordRoom. one;
   apply-numbered = λ s starts ends sizes features numbers partSizes partFeatures links keys rows records x y p q. agree x y (recorded (x .says) p) (recorded (y .says) q);
+  apply-numbered-haplotypes = λ s starts ends sizes features numbers partEnds featureEnds partSizes partFeatures links keys rows records reports x y p q.
+      agree x y (recorded-both (x .says) p) (recorded-both (y .says) q);
   u8-at = λ s at. one;
   u32-at = λ s at. one;
   u64-at = λ s at. one;
@@ -82,8 +108,13 @@ unique = record {
   scan = λ bytes. one;
   read-job = λ bytes t. two;
   write-job = λ s t out. through (λ r. outAfter r (jobBytes (jobFrom s t)) out);
+  put-bytes = λ out at src. stored;
+  put-digits = λ out at n left. stored;
   put-refused = λ out at n. stored;
+  put-hap = λ out at i. stored;
   put-answer = λ out at rows records a. stored;
+  read-bed = λ text starts ends name. filled;
+  write-bed = λ name starts ends rows text. two;
   answer = λ input out. two;
   nd-seq-to-kmer = λ letters k negative row. two;
   nd-seqsim = λ a b minkfreq place. two;
@@ -92,4 +123,8 @@ unique = record {
   nd-answer = λ job text. two;
   nd-apply-haplotype = λ settings starts ends sizes features numbers partSizes partFeatures links keys rows records report x y p q.
       agree x y (recorded (x .says) (both (x .says .1) p)) (recorded (y .says) (both (y .says .1) q));
+  nd-apply-haplotypes = λ settings starts ends sizes features numbers partEnds featureEnds partSizes partFeatures links keys rows records reports x y p q.
+      agree x y (recorded-both (x .says) p) (recorded-both (y .says) q);
+  nd-read-bed = λ text starts ends name counts x y u v p q. filled x y u v (both u p) (both v q);
+  nd-write-bed = λ name starts ends rows text written x y u v p q. two x y u v (both u p) (both v q);
 }

@@ -17,20 +17,22 @@ use Rattle.kplib.specs.Answer.{searched, answerOf, rowsOf}
 use Rattle.dive.specs.Numbered.{repeatedNumber, numberedFault, numberedAnswer, numberedRows, recordsAt}
 use Rattle.fields.specs.Fields.{le2, le4, le8, signedOf, wordOf, bytes2, bytes4, bytes8}
 use Rattle.form.specs.Settings40.{settingsIn, numberBytes, floatBytes, settingsBytes}
-use Rattle.form.specs.Form.{kindOf, bodyLen, inPlace, flagsOk, countOf, padOk, faultOf, after as afterRecord, run}
-use Rattle.form.specs.Job.{lettersIn, lettersAfter, variantOf, partOf, variantHere, partHere, gather, jobOf, readJob}
-use Rattle.form.specs.Job.{padded, lettersRecords, sequenceBytes, partBody, variantBody, variantBytes, partBytes, variantsBytes, partsBytes, jobBytes}
+use Rattle.form.specs.Form.{kindOf, bodyLen, inPlace, flagsOk, countOf, padOk, tooMany, faultOf, after as afterRecord, run}
+use Rattle.form.specs.Job.{lettersIn, lettersAfter, variantOf, partOf, variantHere, partHere, gather, toFirst, haplotypesHere, haplotypesIn, jobOf, readJob}
+use Rattle.form.specs.Job.{padded, lettersRecords, sequenceBytes, partBody, variantBody, variantBytes, partBytes, variantsBytes, partsBytes, furtherBytes, haplotypesBytes, jobBytes}
 use Rattle.text.specs.Text.{bytesOf, digitsWithin, hexDigit, hex2, hex4, hex8, numberLine, floatLine, flagLine, entryText, entriesText, listLine}
-use Rattle.text.specs.Text.{isWhole, similarityLines, reachLines, eightLines, answerText}
-use Rattle.desk.specs.Desk.{variantFeatures, partFeatures, tableOfJob, partsOfJob, tooLarge, rowNumbers, jobText, readText, deskText}
+use Rattle.text.specs.Text.{isWhole, similarityLines, reachLines, eightLines, refusedText, hapText, answerText}
+use Rattle.desk.specs.Desk.{variantFeatures, partFeatures, tableOfJob, partsOfHaplotype, manyParts, tooLarge, rowNumbers, haplotypeText, wholeFault, blocksText, haplotypesText}
+use Rattle.desk.specs.Desk.{jobText, readText, deskText}
 use Rattle.audit.specs.Worked.{Worked}
 
 pub worked : Worked
-unfolding answerOf rowsOf searched firstFault badK badFloat badNumber anyBelow startAfterEnd fallingStart badSize badRow littleQueueRoom magnitudeSum best resultOf scored left after pick
-    extensions extends edge overlapsOf distanceTo sizeOf sizeFrom positionsFrom chainScore totalScore afterLists afterList listScore greaterOf partLists fallingLists choices featuresOf
-    featuresFrom rowPlus zeros sumBy codeOf numberOf windowsOf timesIn tableFrom countsOf le2 le4 le8 signedOf wordOf bytes2 bytes4 bytes8 settingsIn numberBytes floatBytes
-    settingsBytes kindOf bodyLen inPlace flagsOk countOf padOk faultOf afterRecord run lettersIn lettersAfter variantOf partOf variantHere partHere gather jobOf readJob padded lettersRecords
-    sequenceBytes partBody variantBody variantBytes partBytes variantsBytes partsBytes jobBytes bytesOf digitsWithin hexDigit hex2 hex4 hex8 numberLine floatLine flagLine entryText
-    entriesText listLine isWhole similarityLines reachLines eightLines variantFeatures partFeatures tableOfJob partsOfJob answerText tooLarge jobText readText deskText le lt eq ofBits
-    ofInt div add sub mul toBits repeatedNumber numberedFault numberedAnswer numberedRows recordsAt rowNumbers
-worked = record { accepted = refl; order = refl; exact = refl; answer = refl; rows = refl; records = refl; printed = refl }
+unfolding answerOf rowsOf searched firstFault badK badFloat badNumber anyBelow startAfterEnd fallingStart badSize badRow littleQueueRoom magnitudeSum best resultOf scored left after
+    pick extensions extends edge overlapsOf distanceTo sizeOf sizeFrom positionsFrom chainScore totalScore afterLists afterList listScore greaterOf partLists fallingLists choices
+    featuresOf featuresFrom rowPlus zeros sumBy codeOf numberOf windowsOf timesIn tableFrom countsOf le2 le4 le8 signedOf wordOf bytes2 bytes4 bytes8 settingsIn numberBytes floatBytes
+    settingsBytes kindOf bodyLen inPlace flagsOk countOf padOk tooMany faultOf afterRecord run lettersIn lettersAfter variantOf partOf variantHere partHere gather toFirst haplotypesHere
+    haplotypesIn jobOf readJob padded lettersRecords sequenceBytes partBody variantBody variantBytes partBytes variantsBytes partsBytes furtherBytes haplotypesBytes jobBytes bytesOf
+    digitsWithin hexDigit hex2 hex4 hex8 numberLine floatLine flagLine entryText entriesText listLine isWhole similarityLines reachLines eightLines refusedText hapText variantFeatures
+    partFeatures tableOfJob partsOfHaplotype answerText manyParts tooLarge haplotypeText wholeFault blocksText haplotypesText jobText readText deskText le lt eq ofBits ofInt div add sub
+    mul toBits repeatedNumber numberedFault numberedAnswer numberedRows recordsAt rowNumbers
+worked = record { accepted = refl; order = refl; exact = refl; answer = refl; rows = refl; records = refl; printed = refl; several = refl }

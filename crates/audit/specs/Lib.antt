@@ -1,6 +1,8 @@
 pub mod Bench
 pub mod Demand3
 pub mod RecordNumbers
+pub mod SeveralHaplotypes
+pub mod Targets
 pub mod Worked
 pub mod NoParts
 pub mod PartOrder

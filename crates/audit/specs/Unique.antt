@@ -9,15 +9,18 @@ use lib.IntN.{ℤ}
 use lib.Ieee.{Float}
 use Rattle.metrics.specs.declared.Sim.{Sim}
 use Rattle.metrics.specs.declared.kmer.Counted.{Counted}
-use Rattle.metrics.specs.Promises.{SizesimPromise, SeqsimPromise, OverlapsPromise, SeqToKmerPromise, ClearRowPromise, EntriesPromise, MagnitudePromise, RowOverPromise, BitsOfPromise}
+use Rattle.metrics.specs.Promises.{SizesimPromise, SimilarityPromise, SeqsimPromise, OverlapsPromise, BitsOfPromise}
+use Rattle.metrics.specs.Promises.{SeqToKmerPromise, ClearRowPromise, EntriesPromise, MagnitudePromise, RowOverPromise}
 use Rattle.params.specs.declared.Settings.{Settings}
-use Rattle.params.specs.Promises.{SearchModePromise, QueueRoomPromise, CallFaultPromise, CountFaultPromise}
+use Rattle.params.specs.Promises.{SearchModePromise, QueueRoomPromise, CallFaultPromise, PartsFaultPromise, CountFaultPromise, SeveralFaultPromise, EarlierPromise}
 use Rattle.kplib.specs.Answer.{searches}
 use Rattle.kplib.specs.declared.vargraph.ChainCount.{ChainCount}
 use Rattle.kplib.specs.declared.traverse.Answer.{Answer}
-use Rattle.kplib.specs.Promises.{callLent, CountChainsPromise, ApplyHaplotypePromise}
+use Rattle.kplib.specs.Haplotypes.{severalSearches}
+use Rattle.kplib.specs.Promises.{callLent, severalLent, CountChainsPromise, ApplyHaplotypePromise, PutReportPromise, ApplyHaplotypesPromise}
 use Rattle.dive.specs.Numbered.{numberedSearches}
-use Rattle.dive.specs.Promises.{numberedLent, ApplyNumberedPromise}
+use Rattle.dive.specs.NumberedSeveral.{numberedSeveralSearches}
+use Rattle.dive.specs.Promises.{numberedLent, numberedSeveralLent, NumberedFaultPromise, ApplyNumberedPromise, ApplyNumberedHaplotypesPromise}
 use Rattle.form.specs.declared.records.Kind.{Kind}
 use Rattle.form.specs.declared.records.Record.{Record}
 use Rattle.form.specs.declared.records.Scan.{Scan}
@@ -28,10 +31,14 @@ use Rattle.fields.specs.Promises.{U8AtPromise, U32AtPromise, U64AtPromise, I32O
 use Rattle.form.specs.Promises.{ScanPromise, KindOfPromise, BodyLenPromise, RecordAtPromise, ReadSettingsPromise, WriteSettingsPromise}
 use Rattle.reader.specs.Promises.{ReadJobPromise}
 use Rattle.writer.specs.Promises.{WriteJobPromise}
-use Rattle.text.specs.Promises.{PutRefusedPromise, PutAnswerPromise}
+use Rattle.text.specs.Promises.{PutBytesPromise, PutDigitsPromise, PutRefusedPromise, PutHapPromise, PutAnswerPromise}
+use Rattle.bed.specs.declared.BedRead.{BedRead}
+use Rattle.bed.specs.declared.BedWritten.{BedWritten}
+use Rattle.bed.specs.Promises.{ReadBedPromise, WriteBedPromise}
 use Rattle.desk.specs.Promises.{AnswerPromise}
 use Rattle.capi.specs.Words.{settingsOfWords}
-use Rattle.capi.specs.Promises.{NdSeqToKmerPromise, NdSeqsimPromise, NdSizesimPromise, NdCountChainsPromise, NdAnswerPromise, NdApplyHaplotypePromise}
+use Rattle.capi.specs.Promises.{NdSeqToKmerPromise, NdSeqsimPromise, NdSizesimPromise, NdCountChainsPromise, NdAnswerPromise, NdApplyHaplotypePromise, NdApplyHaplotypesPromise}
+use Rattle.capi.specs.Promises.{NdReadBedPromise, NdWriteBedPromise}
 
 -- at most one result meets a promise of a value, and at most one pair a promise of what a slice holds at exit and a value
 abbrev pub One : (A : Type 0) → (A → Type 0) → Type 0
@@ -40,11 +47,11 @@ One A promise = (x y : A) → promise x → promise y → x ≡ y
 abbrev pub Two : (A B : Type 0) → (A → B → Type 0) → Type 0
 Two A B promise = (x y : A) (u v : B) → promise x u → promise y v → (x ≡ y) × (u ≡ v)
 
--- the nine slices of a job, lent by what they hold
+-- the ten slices of a job, lent by what they hold
 abbrev pub ReadsInto : List ℕ → Lent → Lent → Reading → Type 0
 ReadsInto bytes t u r =
-    ReadJobPromise bytes (t .starts) (t .ends) (t .sizes) (t .negatives) (t .counts) (t .partSizes) (t .partNegatives) (t .partCounts) (t .letters)
-    (u .starts) (u .ends) (u .sizes) (u .negatives) (u .counts) (u .partSizes) (u .partNegatives) (u .partCounts) (u .letters) r
+    ReadJobPromise bytes (t .starts) (t .ends) (t .sizes) (t .negatives) (t .counts) (t .partSizes) (t .partNegatives) (t .partCounts) (t .breaks) (t .letters)
+    (u .starts) (u .ends) (u .sizes) (u .negatives) (u .counts) (u .partSizes) (u .partNegatives) (u .partCounts) (u .breaks) (u .letters) r
 
 -- what a search leaves: the queue's two slices, the rows, and what it says (with record numbers, the records and the answer)
 pub record Left (A : Type 0) : Type 0 where
@@ -59,8 +66,15 @@ Agree A searching promise = (x y : Left A) → promise x → promise y → (x .r
     × ((x .says ≡ y .says)
     × ((searching ≡ false) → (x .links ≡ y .links) × (x .keys ≡ y .keys)))
 
+-- what a BED text is read into
+pub record Filled : Type 0 where
+  pub starts : List ℕ
+  pub ends : List ℕ
+  pub name : List ℕ
+
 pub record Unique : Type 0 where
   pub sizesim : (a b : ℕ) → One Sim (SizesimPromise a b)
+  pub similarity : (d n : ℕ) → One Float (SimilarityPromise d n)
   pub seqsim : (a b : List ℤ) (minkfreq : ℕ) → One Sim (SeqsimPromise a b minkfreq)
   pub bits-of : (x : Float) → One ℕ (BitsOfPromise x)
   pub overlaps : (s1 e1 s2 e2 : ℕ) → One Bool (OverlapsPromise s1 e1 s2 e2)
@@ -73,15 +87,31 @@ pub record Unique : Type 0 where
   pub queue-room : (links keys : ℕ) → One ℕ (QueueRoomPromise links keys)
   pub call-fault : (s : Settings) (starts ends : List ℕ) (sizes features partSizes partFeatures : List ℤ) (queueRoom answerRoom : ℕ)
       → One ℕ (CallFaultPromise s starts ends sizes features partSizes partFeatures queueRoom answerRoom)
+  pub parts-fault : (k : ℕ) (partSizes partFeatures : List ℤ) → One ℕ (PartsFaultPromise k partSizes partFeatures)
+  pub several-fault : (s : Settings) (starts ends : List ℕ) (sizes features : List ℤ) (partEnds featureEnds : List ℕ) (partSizes partFeatures : List ℤ)
+      (queueRoom answerRoom reportRoom : ℕ) → One ℕ (SeveralFaultPromise s starts ends sizes features partEnds featureEnds partSizes partFeatures queueRoom answerRoom reportRoom)
+  pub earlier : (other own : ℕ) → One ℕ (EarlierPromise other own)
   pub count-fault : (starts ends : List ℕ) (cap : ℕ) → One ℕ (CountFaultPromise starts ends cap)
   pub count-chains : (starts ends : List ℕ) (full : Bool) (cap : ℕ) → One ChainCount (CountChainsPromise starts ends full cap)
   pub apply-haplotype : (s : Settings) (starts ends : List ℕ) (sizes features partSizes partFeatures : List ℤ) (links keys rows : List ℕ)
       → Agree Answer (searches (callLent s starts ends sizes features partSizes partFeatures links keys rows))
       (λ x. ApplyHaplotypePromise s starts ends sizes features partSizes partFeatures links keys rows (x .links) (x .keys) (x .rows) (x .says))
+  pub put-report : (answer : Answer) (report : List ℕ) → One (List ℕ) (PutReportPromise answer report)
+  pub apply-haplotypes : (s : Settings) (starts ends : List ℕ) (sizes features : List ℤ) (partEnds featureEnds : List ℕ) (partSizes partFeatures : List ℤ) (links keys rows reports : List ℕ)
+      → Agree (List ℕ × ℕ) (severalSearches (severalLent s starts ends sizes features partEnds featureEnds partSizes partFeatures links keys rows reports))
+      (λ x. ApplyHaplotypesPromise s starts ends sizes features partEnds featureEnds partSizes partFeatures links keys rows reports
+      (x .links) (x .keys) (x .rows) (x .says .0) (x .says .1))
+  pub numbered-fault : (s : Settings) (starts ends : List ℕ) (sizes features : List ℤ) (numbers : List ℕ) (partSizes partFeatures : List ℤ) (queueRoom answerRoom recordRoom : ℕ)
+      → One ℕ (NumberedFaultPromise s starts ends sizes features numbers partSizes partFeatures queueRoom answerRoom recordRoom)
   pub apply-numbered : (s : Settings) (starts ends : List ℕ) (sizes features : List ℤ) (numbers : List ℕ) (partSizes partFeatures : List ℤ) (links keys rows records : List ℕ)
       → Agree (List ℕ × Answer) (numberedSearches (numberedLent s starts ends sizes features numbers partSizes partFeatures links keys rows records))
       (λ x. ApplyNumberedPromise s starts ends sizes features numbers partSizes partFeatures links keys rows records
       (x .links) (x .keys) (x .rows) (x .says .0) (x .says .1))
+  pub apply-numbered-haplotypes : (s : Settings) (starts ends : List ℕ) (sizes features : List ℤ) (numbers partEnds featureEnds : List ℕ) (partSizes partFeatures : List ℤ)
+      (links keys rows records reports : List ℕ)
+      → Agree (List ℕ × (List ℕ × ℕ)) (numberedSeveralSearches (numberedSeveralLent s starts ends sizes features numbers partEnds featureEnds partSizes partFeatures links keys rows records reports))
+      (λ x. ApplyNumberedHaplotypesPromise s starts ends sizes features numbers partEnds featureEnds partSizes partFeatures links keys rows records reports
+      (x .links) (x .keys) (x .rows) (x .says .0) (x .says .1 .0) (x .says .1 .1))
   pub u8-at : (s : List ℕ) (at : ℕ) → One ℕ (U8AtPromise s at)
   pub u32-at : (s : List ℕ) (at : ℕ) → One ℕ (U32AtPromise s at)
   pub u64-at : (s : List ℕ) (at : ℕ) → One ℕ (U64AtPromise s at)
@@ -99,9 +129,14 @@ pub record Unique : Type 0 where
   pub scan : (bytes : List ℕ) → One Scan (ScanPromise bytes)
   pub read-job : (bytes : List ℕ) (t : Lent) → Two Lent Reading (ReadsInto bytes t)
   pub write-job : (s : Settings) (t : Lent) (out : List ℕ)
-      → Two (List ℕ) Writing (WriteJobPromise s (t .starts) (t .ends) (t .sizes) (t .negatives) (t .counts) (t .partSizes) (t .partNegatives) (t .partCounts) (t .letters) out)
+      → Two (List ℕ) Writing (WriteJobPromise s (t .starts) (t .ends) (t .sizes) (t .negatives) (t .counts) (t .partSizes) (t .partNegatives) (t .partCounts) (t .breaks) (t .letters) out)
+  pub put-bytes : (out : List ℕ) (at : ℕ) (src : List ℕ) → Two (List ℕ) ℕ (PutBytesPromise out at src)
+  pub put-digits : (out : List ℕ) (at n left : ℕ) → Two (List ℕ) ℕ (PutDigitsPromise out at n left)
   pub put-refused : (out : List ℕ) (at n : ℕ) → Two (List ℕ) ℕ (PutRefusedPromise out at n)
+  pub put-hap : (out : List ℕ) (at i : ℕ) → Two (List ℕ) ℕ (PutHapPromise out at i)
   pub put-answer : (out : List ℕ) (at : ℕ) (rows records : List ℕ) (a : Answer) → Two (List ℕ) ℕ (PutAnswerPromise out at rows records a)
+  pub read-bed : (text starts ends name : List ℕ) → Two Filled BedRead (λ x. ReadBedPromise text starts ends name (x .starts) (x .ends) (x .name))
+  pub write-bed : (name starts ends rows text : List ℕ) → Two (List ℕ) BedWritten (WriteBedPromise name starts ends rows text)
   pub answer : (input out : List ℕ) → Two (List ℕ) ℕ (AnswerPromise input out)
   pub nd-seq-to-kmer : (letters : List ℕ) (k : ℕ) (negative : Bool) (row : List ℤ) → Two (List ℤ) ℕ (NdSeqToKmerPromise letters k negative row)
   pub nd-seqsim : (a b : List ℤ) (minkfreq : ℕ) (place : Float) → Two Float ℕ (NdSeqsimPromise a b minkfreq place)
@@ -112,3 +147,13 @@ pub record Unique : Type 0 where
       → Agree (List ℕ × (List ℕ × ℕ)) (numberedSearches (numberedLent (settingsOfWords settings) starts ends sizes features numbers partSizes partFeatures links keys rows records))
       (λ x. NdApplyHaplotypePromise settings starts ends sizes features numbers partSizes partFeatures links keys rows records report
       (x .links) (x .keys) (x .rows) (x .says .0) (x .says .1 .0) (x .says .1 .1))
+  pub nd-apply-haplotypes : (settings starts ends : List ℕ) (sizes features : List ℤ) (numbers partEnds featureEnds : List ℕ) (partSizes partFeatures : List ℤ)
+      (links keys rows records reports : List ℕ)
+      → Agree (List ℕ × (List ℕ × ℕ)) (numberedSeveralSearches
+      (numberedSeveralLent (settingsOfWords settings) starts ends sizes features numbers partEnds featureEnds partSizes partFeatures links keys rows records reports))
+      (λ x. NdApplyHaplotypesPromise settings starts ends sizes features numbers partEnds featureEnds partSizes partFeatures links keys rows records reports
+      (x .links) (x .keys) (x .rows) (x .says .0) (x .says .1 .0) (x .says .1 .1))
+  pub nd-read-bed : (text starts ends name counts : List ℕ) → Two Filled (List ℕ × ℕ)
+      (λ x u. NdReadBedPromise text starts ends name counts (x .starts) (x .ends) (x .name) (u .0) (u .1))
+  pub nd-write-bed : (name starts ends rows text : List ℕ) (written : ℕ) → Two (List ℕ) (ℕ × ℕ)
+      (λ x u. NdWriteBedPromise name starts ends rows text written x (u .0) (u .1))

@@ -57,7 +57,15 @@ job = record {
   variants =
       record { start = 10; end = 10; size = pos 2; negative = false; letters = ag }
       ∷ (record { start = 20; end = 20; size = pos 2; negative = false; letters = ct } ∷ []);
-  parts = record { size = pos 2; negative = false; letters = ag } ∷ [];
+  haplotypes = (record { size = pos 2; negative = false; letters = ag } ∷ []) ∷ [];
+}
+
+-- document 02, P1: the same with a second haplotype, whose part has a size over its limit
+abbrev pub twoHaplotypes : Job
+twoHaplotypes = record {
+  settings = settings;
+  variants = job .variants;
+  haplotypes = (record { size = pos 2; negative = false; letters = ag } ∷ []) ∷ ((record { size = pos 131073; negative = false; letters = ag } ∷ []) ∷ []);
 }
 
 -- the lines that document 01 prints, and document 02's `records` (P3) after `rows`
@@ -94,3 +102,5 @@ pub record Worked : Type 0 where
   pub records : recordsOf numbered ≡ 40 ∷ []
   -- the program, given the job's bytes, prints these lines
   pub printed : deskText (jobBytes job) ≡ lines
+  -- of two haplotypes the first has the same lines, and the second is refused by itself
+  pub several : deskText (jobBytes twoHaplotypes) ≡ bytesOf "hap 0\n" ++ lines ++ bytesOf "hap 1\n" ++ bytesOf "refused 9\n"

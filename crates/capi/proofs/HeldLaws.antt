@@ -6,11 +6,14 @@ use Prim.Native.Nat.{ℕ, _<_}
 use native.Mathlib.Omega.{arith}
 use lib.Dec.{ltb}
 use borrow.Author.Tests.{ltb-true}
-use Rattle.params.specs.Numbers.{Table, Parts, callOf, badK}
+use Rattle.params.specs.Numbers.{Table, Parts, callOf, badK, anyBelow}
+use Rattle.params.specs.Several.{haplotypes}
 use Rattle.params.specs.declared.Settings.{Settings}
 use Rattle.params.proofs.CheckLaws.{k-high}
 use Rattle.kplib.specs.Answer.{foundAfter}
+use Rattle.kplib.specs.Haplotypes.{laid, answeredAfter}
 use Rattle.dive.specs.Numbered.{Numbered, numberedFault, numberedAnswer, numberedRows, recordsAt, recordsOf, numberedSearches}
+use Rattle.dive.specs.NumberedSeveral.{NumberedSeveral, ownNumbered, numberedSeveralFault, numberedAnswered, numberedRowsAfter, recordsAfter, numberedReportsAfter, numberedSeveralSearches}
 use Rattle.capi.specs.Held.{settingsHeld}
 
 -- two calls that are answered alike
@@ -47,3 +50,58 @@ module _ (s : Settings) (t : Table) (p : Parts) (queue answers : ℕ) (numbers :
   -- whatever record the code made
   pub held-alike : {made : Settings} → made ≡ settingsHeld s → Alike (with-settings made) (with-settings s)
   held-alike e = rw e (by-k _ refl)
+
+-- ---- the same of a call of several haplotypes
+pub record SeveralAlike (x y : NumberedSeveral) : Type 0 where
+  pub fault : numberedSeveralFault x ≡ numberedSeveralFault y
+  pub rows : (l : List ℕ) → numberedRowsAfter x l ≡ numberedRowsAfter y l
+  pub records : (l : List ℕ) → recordsAfter x l ≡ recordsAfter y l
+  pub reports : (l : List ℕ) → numberedReportsAfter x l ≡ numberedReportsAfter y l
+  pub search : numberedSeveralSearches x ≡ numberedSeveralSearches y
+
+several-refused : (n : NumberedSeveral) → 6 < n .several .settings .k → numberedSeveralFault n ≡ 1
+unfolding numberedSeveralFault badK
+several-refused n wide = rw (k-high (n .several .settings .k) wide) refl
+
+none-laid : (n : NumberedSeveral) → numberedSeveralFault n ≡ 1 → (width : ℕ) (each : ℕ → List ℕ) (l : List ℕ) → laid width each (numberedAnswered n) l ≡ l
+unfolding laid
+none-laid n e width each l = ap (λ (fault : ℕ). laid width each (answeredAfter fault (haplotypes (n .several))) l) e
+
+none-searched : (n : NumberedSeveral) → numberedSeveralFault n ≡ 1 → numberedSeveralSearches n ≡ false
+unfolding anyBelow
+none-searched n e = ap (λ (fault : ℕ). anyBelow (answeredAfter fault (haplotypes (n .several))) (λ i. numberedSearches (ownNumbered n i))) e
+
+both-several : (x y : NumberedSeveral) → numberedSeveralFault x ≡ 1 → numberedSeveralFault y ≡ 1 → SeveralAlike x y
+both-several x y ex ey = record {
+  fault = ex ∙ sym ey;
+  rows = λ l. none-laid x ex _ _ l ∙ sym (none-laid y ey _ _ l);
+  records = λ l. none-laid x ex _ _ l ∙ sym (none-laid y ey _ _ l);
+  reports = λ l. none-laid x ex _ _ l ∙ sym (none-laid y ey _ _ l);
+  search = none-searched x ex ∙ sym (none-searched y ey);
+}
+
+module _ (s : Settings) (t : Table) (p : Parts) (partEnds featureEnds : List ℕ) (queue answers reports : ℕ) (numbers : List ℕ) (room : ℕ) where
+  abbrev several-with : Settings → NumberedSeveral
+  several-with made = record {
+    several = record {
+      settings = made;
+      table = t;
+      parts = p;
+      partEnds = partEnds;
+      featureEnds = featureEnds;
+      queueRoom = queue;
+      answerRoom = answers;
+      reportRoom = reports;
+    };
+    numbers = numbers;
+    recordRoom = room;
+  }
+
+  several-by-k : (wide : Bool) → ltb 255 (s .k) ≡ wide → SeveralAlike (several-with (settingsHeld s)) (several-with s)
+  several-by-k false e = rw e (record { fault = refl; rows = λ l. refl; records = λ l. refl; reports = λ l. refl; search = refl })
+  several-by-k true e =
+      let h : 255 < s .k = ltb-true 255 (s .k) e in
+      both-several _ _ (several-refused (several-with (settingsHeld s)) (rw e (omega arith))) (several-refused (several-with s) (omega (arith, h)))
+
+  pub several-alike : {made : Settings} → made ≡ settingsHeld s → SeveralAlike (several-with made) (several-with s)
+  several-alike e = rw e (several-by-k _ refl)

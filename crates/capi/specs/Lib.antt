@@ -1,4 +1,3 @@
 pub mod Words
 pub mod Held
-pub mod Report
 pub mod Promises

@@ -11,11 +11,13 @@ use Rattle.metrics.specs.Letters.{countsOf, counterAnswer, countedNumber, rowAf
 use Rattle.metrics.specs.Placed.{placed}
 use Rattle.metrics.specs.Similarity.{sizesimOf, seqsimOf, number, value}
 use Rattle.kplib.specs.Graph.{cappedCount, countNumber, countValue}
+use Rattle.kplib.specs.Report.{reportOf}
 use Rattle.dive.specs.Numbered.{numberedAnswer, numberedRows, recordsOf}
-use Rattle.dive.specs.Promises.{numberedLent, NumberedQueueKept}
+use Rattle.dive.specs.Promises.{numberedLent, NumberedQueueKept, ApplyNumberedHaplotypesPromise}
 use Rattle.desk.specs.Desk.{deskText}
+use Rattle.bed.specs.Reading.{nameIn, startsIn, endsIn, readFault, readAnswer, readNumber, readCounts, unlessRefused}
+use Rattle.bed.specs.Writing.{rowsText, writeFault, writeAnswer, writtenNumber, writtenBytes}
 use Rattle.capi.specs.Words.{settingsOfWords}
-use Rattle.capi.specs.Report.{reportOf}
 
 abbrev pub NdSeqToKmerPromise : List ℕ → ℕ → Bool → List ℤ → List ℤ → ℕ → Type 0
 NdSeqToKmerPromise letters k negative row row' r =
@@ -44,3 +46,24 @@ NdApplyHaplotypePromise settings starts ends sizes features numbers partSizes pa
     × ((records' ≡ placed records (recordsOf n))
     × (NumberedQueueKept n links links'
     × NumberedQueueKept n keys keys'))))
+
+abbrev pub NdApplyHaplotypesPromise : List ℕ → List ℕ → List ℕ → List ℤ → List ℤ → List ℕ → List ℕ → List ℕ → List ℤ → List ℤ
+    → List ℕ → List ℕ → List ℕ → List ℕ → List ℕ → List ℕ → List ℕ → List ℕ → List ℕ → List ℕ → ℕ → Type 0
+NdApplyHaplotypesPromise settings starts ends sizes features numbers partEnds featureEnds partSizes partFeatures links keys rows records reports links' keys' rows' records' reports' r =
+    ApplyNumberedHaplotypesPromise (settingsOfWords settings) starts ends sizes features numbers partEnds featureEnds partSizes partFeatures
+    links keys rows records reports links' keys' rows' records' reports' r
+
+abbrev pub NdReadBedPromise : List ℕ → List ℕ → List ℕ → List ℕ → List ℕ → List ℕ → List ℕ → List ℕ → List ℕ → ℕ → Type 0
+NdReadBedPromise text starts ends name counts starts' ends' name' counts' r =
+    let fault = readFault text (length starts) (length ends) in
+    (r ≡ readNumber (readAnswer fault text))
+    × ((counts' ≡ readCounts (readAnswer fault text))
+    × ((starts' ≡ placed starts (unlessRefused fault (startsIn text)))
+    × ((ends' ≡ placed ends (unlessRefused fault (endsIn text)))
+    × (name' ≡ placed name (unlessRefused fault (nameIn text))))))
+
+abbrev pub NdWriteBedPromise : List ℕ → List ℕ → List ℕ → List ℕ → List ℕ → ℕ → List ℕ → ℕ → ℕ → Type 0
+NdWriteBedPromise name starts ends rows text written text' written' r =
+    let fault = writeFault name starts ends rows (length text) in
+    let all = rowsText name starts ends rows in
+    (r ≡ writtenNumber (writeAnswer fault all)) × ((written' ≡ writtenBytes (writeAnswer fault all)) × (text' ≡ placed text (unlessRefused fault all)))

@@ -1,14 +1,16 @@
 // What Rust and C link: the library's calls on numbers and slices. Each gives back the refusal's number, 0 for an accepted call.
-ghost use Rattle.capi.specs.Promises.{NdSeqToKmerPromise, NdSeqsimPromise, NdSizesimPromise, NdCountChainsPromise, NdAnswerPromise, NdApplyHaplotypePromise};
-use crate::report::put_report;
+ghost use Rattle.capi.specs.Promises.{NdSeqToKmerPromise, NdSeqsimPromise, NdSizesimPromise, NdCountChainsPromise, NdAnswerPromise};
+ghost use Rattle.capi.specs.Promises.{NdApplyHaplotypePromise, NdApplyHaplotypesPromise, NdReadBedPromise, NdWriteBedPromise};
 use crate::words::length_word;
 use crate::words::settings_of_words;
+use bed::BedRead;
+use bed::BedWritten;
+use kplib::report::put_report;
 use kplib::vargraph::ChainCount;
 use metrics::Sim;
 use metrics::kmer::Counted;
 use metrics::refusals::ACCEPTED;
 
-mod report;
 mod words;
 
 #[no_mangle]
@@ -126,4 +128,99 @@ pub extern "C" fn nd_apply_haplotype(
     );
     put_report(answer, report);
     answer.refusal
+}
+
+// Several haplotypes over one table; each has its refusal and its answer in its own eight words of the reports.
+#[no_mangle]
+pub extern "C" fn nd_apply_haplotypes(
+    settings: &[u32; 13],
+    starts: &[u64],
+    ends: &[u64],
+    sizes: &[i32],
+    features: &[i32],
+    record_numbers: &[u32],
+    part_ends: &[u64],
+    feature_ends: &[u64],
+    part_sizes: &[i32],
+    part_features: &[i32],
+    links: &mut [u32],
+    keys: &mut [u64],
+    rows: &mut [u32],
+    records: &mut [u32],
+    reports: &mut [u32],
+) -> u32
+    ensures { λ r. ⌜ NdApplyHaplotypesPromise (now (settings .entry)) (now (starts .entry)) (now (ends .entry)) (now (sizes .entry)) (now (features .entry))
+        (now («record_numbers» .entry)) (now («part_ends» .entry)) (now («feature_ends» .entry)) (now («part_sizes» .entry)) (now («part_features» .entry))
+        (now (links .entry)) (now (keys .entry)) (now (rows .entry)) (now (records .entry)) (now (reports .entry))
+        (now (links .exit)) (now (keys .exit)) (now (rows .exit)) (now (records .exit)) (now (reports .exit)) r ⌝ }
+{
+    let s = settings_of_words(settings);
+    dive::apply_numbered_haplotypes(
+        s,
+        starts,
+        ends,
+        sizes,
+        features,
+        record_numbers,
+        part_ends,
+        feature_ends,
+        part_sizes,
+        part_features,
+        links,
+        keys,
+        rows,
+        records,
+        reports,
+    )
+}
+
+// The counts are how many rows there are and how long the name is; both 0 on a refusal.
+#[no_mangle]
+pub extern "C" fn nd_read_bed(
+    text: &[u8],
+    starts: &mut [u64],
+    ends: &mut [u64],
+    name: &mut [u8; 32],
+    counts: &mut [u32; 2],
+) -> u32
+    ensures { λ r. ⌜ NdReadBedPromise (now (text .entry)) (now (starts .entry)) (now (ends .entry)) (now (name .entry)) (now (counts .entry))
+        (now (starts .exit)) (now (ends .exit)) (now (name .exit)) (now (counts .exit)) r ⌝ }
+{
+    let read = bed::read_bed(text, starts, ends, name);
+    match read {
+        BedRead::Table(rows, width) => {
+            *counts = [rows, width];
+            ACCEPTED
+        }
+        BedRead::Refused(n) => {
+            *counts = [0, 0];
+            n
+        }
+    }
+}
+
+// How many bytes are written; 0 on a refusal.
+#[no_mangle]
+pub extern "C" fn nd_write_bed(
+    name: &[u8],
+    starts: &[u64],
+    ends: &[u64],
+    rows: &[u32],
+    text: &mut [u8],
+    written: &mut u64,
+) -> u32
+    ensures { λ r. ⌜ NdWriteBedPromise (now (name .entry)) (now (starts .entry)) (now (ends .entry)) (now (rows .entry)) (now (text .entry)) (now (written .entry))
+        (now (text .exit)) (now (written .exit)) r ⌝ }
+{
+    let wrote = bed::write_bed(name, starts, ends, rows, text);
+    match wrote {
+        BedWritten::Bytes(n) => {
+            *written = n as u64;
+            ACCEPTED
+        }
+        BedWritten::Refused(n) => {
+            *written = 0;
+            n
+        }
+    }
 }

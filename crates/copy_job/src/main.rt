@@ -17,6 +17,12 @@ fn front(bytes: &[u8], n: usize) -> &[u8] {
     &bytes[0..end]
 }
 
+// The same of the breaks.
+fn breaks_front(breaks: &[u64], n: usize) -> &[u64] {
+    let end = at_most(n, breaks.len());
+    &breaks[0..end]
+}
+
 fn main() {
     let mut bytes = [0u8; 32768];
     let got = io::read_full(0, &mut bytes);
@@ -25,9 +31,10 @@ fn main() {
     let mut sizes = [0i32; 16];
     let mut negatives = [false; 16];
     let mut counts = [0u32; 16];
-    let mut part_sizes = [0i32; 8];
-    let mut part_negatives = [false; 8];
-    let mut part_counts = [0u32; 8];
+    let mut part_sizes = [0i32; 128];
+    let mut part_negatives = [false; 128];
+    let mut part_counts = [0u32; 128];
+    let mut breaks = [0u64; 15];
     let mut letters = [0u8; 32768];
     let mut out = [0u8; 32768];
     let reading = read_job(
@@ -40,13 +47,14 @@ fn main() {
         &mut part_sizes,
         &mut part_negatives,
         &mut part_counts,
+        &mut breaks,
         &mut letters,
     );
     let Reading::Job(settings, found) = reading else {
         return;
     };
     let v = at_most(found.variants, 16);
-    let m = at_most(found.parts, 8);
+    let m = at_most(found.parts, 128);
     let writing = write_job(
         settings,
         &starts[0..v],
@@ -57,6 +65,7 @@ fn main() {
         &part_sizes[0..m],
         &part_negatives[0..m],
         &part_counts[0..m],
+        breaks_front(&breaks, found.breaks),
         front(&letters, found.letters),
         &mut out,
     );

@@ -11,20 +11,24 @@ use lib.Seq.{take-at, take-all, take-append-le}
 use borrow.Author.Tests.{ltb-true, ltb-false}
 use Rattle.params.specs.declared.Settings.{Settings}
 use Rattle.kplib.specs.declared.traverse.Answer.{Answer}
-use Rattle.params.specs.Numbers.{Table, Parts, Call, callOf, badK}
+use Rattle.params.specs.Numbers.{Table, Parts, partsOf, callOf, badK}
 use Rattle.kplib.specs.Answer.{queueRoom}
 use Rattle.dive.specs.Numbered.{Numbered, numberedFault, numberedAnswer, numberedRows, recordsAt, recordsOf}
 use Rattle.metrics.specs.Placed.{placed}
 use Rattle.text.specs.Text.{answerText}
 use Rattle.text.specs.Written.{Written}
 use Rattle.text.proofs.TextLaws.{answer-short}
-use Rattle.desk.specs.Desk.{rowNumbers, numberedByRow, numberedText}
-use Rattle.desk.specs.Memory.{searchText, Printed}
+use Rattle.desk.specs.Desk.{rowNumbers, askedOf, haplotypeText, wholeFault}
+use Rattle.desk.specs.Memory.{Printed, mostOfOne}
 use Rattle.desk.proofs.DeskLaws.{printed-as}
 
-pub refused-k-zero : (c : Call) → c .settings .k ≡ 0 → numberedAnswer (numberedByRow c) .refusal ≡ 1
-unfolding numberedAnswer numberedFault badK
-refused-k-zero c e = rw e
+pub fault-k-zero : (n : Numbered) → n .call .settings .k ≡ 0 → numberedFault n ≡ 1
+unfolding numberedFault badK
+fault-k-zero n e = rw e
+
+pub refused-k-zero : (n : Numbered) → n .call .settings .k ≡ 0 → numberedAnswer n .refusal ≡ 1
+unfolding numberedAnswer
+refused-k-zero n e = fault-k-zero n e
 
 -- n row numbers, and the first v of them
 pub row-count : (n : ℕ) → length (rowNumbers n) ≡ n
@@ -56,6 +60,12 @@ lent-by-row v e h = rw e (front-numbers v 16 h)
 pub lent-count : {xs : List ℕ} (v : ℕ) → xs ≡ rowNumbers 16 → v ≤ 16 → v ≡ length (take v xs)
 lent-count v e h = sym (ap length (lent-by-row v e h) ∙ row-count v)
 
+-- the call without parts, by the program's own numbers
+pub whole-asked : (s : Settings) (t : Table) (numbers : List ℕ) → numbers ≡ rowNumbers (length (t .starts)) →
+    {r : ℕ} → r ≡ numberedFault (record { call = callOf s t (partsOf [] []) 1025 16; numbers = numbers; recordRoom = 16 }) → r ≡ wholeFault s t
+unfolding wholeFault
+whole-asked s t numbers by-row e = rw (← by-row) e
+
 -- rows that were placed in a buffer, which kept its length, are no more than it has
 placed-few : (old rows new : List ℕ) → new ≡ placed old rows → length new ≡ length old → length rows ≤ length old
 placed-few old rows new e l =
@@ -78,7 +88,7 @@ module _ (s : Settings) (t : Table) (p : Parts) (numbers links keys rows records
   asked = record { call = callOf s t p (queueRoom links keys) (length rows); numbers = numbers; recordRoom = length records }
 
   abbrev held : Numbered
-  held = numberedByRow (callOf s t p 1025 16)
+  held = askedOf s t p
 
   module _ (by-row : numbers ≡ rowNumbers (length (t .starts))) (link-room : 1025 ≡ length links) (key-room : 1025 ≡ length keys)
       (row-room : length rows ≡ 16) (record-room : length records ≡ 16) where
@@ -100,16 +110,16 @@ module _ (s : Settings) (t : Table) (p : Parts) (numbers links keys rows records
       records-taken : take (a .rows) records' ≡ recordsOf asked
       records-taken = rw records-stand (take-placed records (recordsOf asked) (a .rows) (sym records-are))
 
-      answer-text : answerText a (take (a .rows) rows') (take (a .rows) records') ≡ searchText s t p
-      unfolding searchText
+      answer-text : answerText a (take (a .rows) rows') (take (a .rows) records') ≡ haplotypeText s t p
+      unfolding haplotypeText
       answer-text =
           ap (λ (xs : List ℕ). answerText a xs (take (a .rows) records')) rows-taken
           ∙ ap (λ (xs : List ℕ). answerText a (numberedRows asked) xs) records-taken
           ∙ ap (λ (x : Answer). answerText x (numberedRows asked) (recordsOf asked)) is
-          ∙ ap (λ (n : Numbered). numberedText n) asked-is
+          ∙ ap (λ (n : Numbered). answerText (numberedAnswer n) (numberedRows n) (recordsOf n)) asked-is
 
-      pub answer-printed : length rows' ≡ 16 → {out out' : List ℕ} {r : ℕ} → Written out 0 (answerText a (take (a .rows) rows') (take (a .rows) records')) out' r
-          → Printed out (searchText s t p) out' r
+      pub answer-printed : length rows' ≡ 16 → {out out' : List ℕ} {at r : ℕ} → Written out at (answerText a (take (a .rows) rows') (take (a .rows) records')) out' r
+          → Printed mostOfOne out at (haplotypeText s t p) out' r
       answer-printed l w =
           let e : length (take (a .rows) rows') ≡ length (numberedRows asked) = ap length rows-taken in
           let f : length (take (a .rows) records') ≡ length (numberedRows asked) = ap length records-taken ∙ as-many-records numbers (numberedRows asked) in

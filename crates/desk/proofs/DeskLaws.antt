@@ -4,7 +4,7 @@ use native.Mathlib.Omega.{arith}
 use native.Mathlib.Nat.{zero-add}
 use mathlib.Core.Path.{_≡_, ap, subst, _∙_}
 use mathlib.Core.List.{List, _++_}
-use lib.ListN.{length, drop}
+use lib.ListN.{length, drop, length-append}
 use lib.Seq.{sets-eq}
 use borrow.Author.Tests.{lt-ltb, le-ltb}
 use Rattle.form.specs.Job.{readJob}
@@ -12,19 +12,31 @@ use Rattle.metrics.specs.Placed.{placed}
 use Rattle.text.specs.Text.{refusedText}
 use Rattle.text.specs.Written.{Written}
 use Rattle.text.proofs.TextLaws.{refused-short}
+use Rattle.text.proofs.PieceLaws.{written-then}
 use Rattle.desk.specs.Desk.{readText, deskText}
 use Rattle.desk.specs.Memory.{Printed}
 
 -- the line of a refusal, and the same text under another name
-pub printed-refused : {t u : List ℕ} {r : ℕ} (n : ℕ) → Written t 0 (refusedText n) u r → Printed t (refusedText n) u r
-printed-refused n w = record { written = w; short = let h = refused-short n in omega arith }
+pub printed-refused : {t u : List ℕ} {at r : ℕ} {most : ℕ} (n : ℕ) → 19 ≤ most → Written t at (refusedText n) u r → Printed most t at (refusedText n) u r
+printed-refused n m w = record { written = w; short = let h = refused-short n in omega arith }
 
-pub printed-as : {t u : List ℕ} {r : ℕ} {xs ys : List ℕ} → Printed t xs u r → xs ≡ ys → Printed t ys u r
-printed-as {t} {u} {r} {xs} {ys} p e = subst (λ (l : List ℕ). Printed t l u r) e p
+pub printed-as : {t u : List ℕ} {at r : ℕ} {most : ℕ} {xs ys : List ℕ} → Printed most t at xs u r → xs ≡ ys → Printed most t at ys u r
+printed-as {t} {u} {at} {r} {most} {xs} {ys} p e = subst (λ (l : List ℕ). Printed most t at l u r) e p
+
+-- a shorter text than is asked for
+pub printed-within : {t u : List ℕ} {at r : ℕ} {few most : ℕ} {xs : List ℕ} → few ≤ most → Printed few t at xs u r → Printed most t at xs u r
+printed-within l p = record { written = p .written; short = let h = p .short in omega arith }
+
+-- one text behind the other
+pub printed-then : {t u w : List ℕ} {at r q : ℕ} {few more : ℕ} {xs ys : List ℕ} → Printed few t at xs u r → Printed more u r ys w q → Printed (few + more) t at (xs ++ ys) w q
+printed-then {t} {u} {w} {at} {r} {q} {few} {more} {xs} {ys} p s = record {
+  written = written-then (p .written) (s .written);
+  short = let h = p .short in let g = s .short in simp length-append (omega arith);
+}
 
 -- what is printed into a buffer with room for it is placed at its front
-pub printed-placed : {t u : List ℕ} {r : ℕ} {xs : List ℕ} → Printed t xs u r → 453 ≤ length t → (r ≡ length xs) × (u ≡ placed t xs)
-printed-placed {t} {u} {r} {xs} p h =
+pub printed-placed : {t u : List ℕ} {r most : ℕ} {xs : List ℕ} → Printed most t 0 xs u r → most ≤ length t → (r ≡ length xs) × (u ≡ placed t xs)
+printed-placed {t} {u} {r} {most} {xs} p h =
     let w = p .written .next in
     let s = p .short in
     let room : 0 + length xs ≤ length t = omega arith in

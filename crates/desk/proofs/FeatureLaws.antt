@@ -19,7 +19,7 @@ use Rattle.form.proofs.GatherLaws.{sum-next}
 use Rattle.form.specs.Lent.{sum}
 use Rattle.desk.specs.Rows.{rowsFrom, rowStored, RowFits, RowsFit, RowsCounted}
 
-row-length : (k : ℕ) (negative : Bool) (s : List ℕ) → length (countsOf k negative s) ≡ 4 ^ k
+pub row-length : (k : ℕ) (negative : Bool) (s : List ℕ) → length (countsOf k negative s) ≡ 4 ^ k
 unfolding countsOf
 row-length k negative s = table-length (λ i. signed negative (timesIn i (windowsOf k s))) 0 (4 ^ k)
 

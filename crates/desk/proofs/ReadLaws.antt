@@ -1,5 +1,5 @@
--- What reading into the program's arrays answers. A form of at most 32,768 bytes has fewer letters, so the room is too small exactly for over 16 variants or over 8 parts:
--- the reader's 30 is the program's 26. Any other job is read whole, and the fronts of the arrays are its lists.
+-- What reading into the program's arrays answers. A form of at most 32,768 bytes has fewer letters, and 16 haplotypes of at most 8 parts have at most 128, so
+-- the room is too small only for over 16 variants or over 8 parts in a haplotype: the reader's 30 is the program's 26. Any other job is read whole, and the fronts of the arrays are its lists.
 use Prim.Native.Nat.{ℕ, _≤_}
 use native.Mathlib.Omega.{arith}
 use mathlib.Core.Path.{_≡_, refl, sym, ap, subst, _∙_}
@@ -14,16 +14,18 @@ use Rattle.params.proofs.CheckLaws.{or-no}
 use Rattle.form.specs.declared.records.Counts.{Counts}
 use Rattle.reader.specs.declared.Reading.{Reading}
 use Rattle.reader.specs.declared.Reading.the-variants.{Refused as Declined, Job as Given}
-use Rattle.form.specs.Job.{Variant, Part, Job, Read, Faulty, Held, readJob}
+use Rattle.form.specs.Job.{Variant, Part, Job, allParts, Read, Faulty, Held, readJob}
 use Rattle.metrics.specs.Placed.{placed}
-use Rattle.form.specs.Lent.{Lent, lent, lettersOf, jobCounts}
+use Rattle.form.specs.Lent.{Lent, lent, lettersOf, breaksOf, jobCounts}
 use Rattle.reader.specs.Reading.{five, three, hasRoom, lentWith, readingOf, lentAfter}
 use Rattle.form.proofs.LetterLaws.{letters-within}
+use Rattle.form.proofs.HaplotypeLaws.{long-breaks}
 use Rattle.text.specs.Text.{refusedText}
 use Rattle.desk.specs.Desk.{tooLarge, jobText, readText}
 use Rattle.desk.specs.Memory.{heldText, cut, toldAs, readingText, Fits, Front, Loaded}
 use Rattle.desk.proofs.AnswerLaws.{take-placed}
-use Rattle.desk.proofs.FaultLaws.{form-fault}
+use Rattle.desk.proofs.FaultLaws.{form-fault, few-breaks, some-held}
+use Rattle.desk.proofs.StretchLaws.{few-parts}
 use Rattle.desk.proofs.MemoryLaws.{heldIn, text-held, fits-held}
 
 -- the program's arrays
@@ -33,18 +35,19 @@ pub record Room (t : Lent) : Type 0 where
   pub sizes : length (t .sizes) ≡ 16
   pub negatives : length (t .negatives) ≡ 16
   pub counts : length (t .counts) ≡ 16
-  pub partSizes : length (t .partSizes) ≡ 8
-  pub partNegatives : length (t .partNegatives) ≡ 8
-  pub partCounts : length (t .partCounts) ≡ 8
+  pub partSizes : length (t .partSizes) ≡ 128
+  pub partNegatives : length (t .partNegatives) ≡ 128
+  pub partCounts : length (t .partCounts) ≡ 128
+  pub breaks : length (t .breaks) ≡ 15
   pub letters : length (t .letters) ≡ 32768
 
 -- the arrays before a job is read
 abbrev pub emptyWith : List ℕ → Lent
 emptyWith letters = lent (replicate 16 0) (replicate 16 0) (replicate 16 (pos 0)) (replicate 16 false) (replicate 16 0)
-    (replicate 8 (pos 0)) (replicate 8 false) (replicate 8 0) letters
+    (replicate 128 (pos 0)) (replicate 128 false) (replicate 128 0) (replicate 15 0) letters
 
 pub empty-room : (letters : List ℕ) → 32768 ≡ length letters → Room (emptyWith letters)
-empty-room letters e = record { starts = refl; ends = refl; sizes = refl; negatives = refl; counts = refl; partSizes = refl; partNegatives = refl; partCounts = refl; letters = sym e }
+empty-room letters e = record { starts = refl; ends = refl; sizes = refl; negatives = refl; counts = refl; partSizes = refl; partNegatives = refl; partCounts = refl; breaks = refl; letters = sym e }
 
 pub told-room : (n : ℕ) → n ≡ 30 → 26 ≡ toldAs n
 unfolding toldAs
@@ -61,11 +64,11 @@ module _ {read : Reading} (t : Lent) where
   declined-reading e = rw e
 
   module _ {s : Settings} {c : Counts} (e : read ≡ Given s c) where
-    pub given-reading : heldText s (cut (c .variants) (c .parts) t) ≡ readingText read t
+    pub given-reading : heldText s (cut (c .variants) (c .parts) (c .breaks) t) ≡ readingText read t
     unfolding readingText
     given-reading = rw e
 
-    pub given-loaded : Loaded read t → Front (c .variants) (c .parts) t
+    pub given-loaded : Loaded read t → Front (c .variants) (c .parts) (c .breaks) t
     given-loaded l = subst (λ (x : Reading). Loaded x t) e l
 
 placed-long : {A : Type 0} (old new : List A) (n : ℕ) → n ≡ length new → n ≤ length (placed old new)
@@ -81,31 +84,35 @@ module _ (input : List ℕ) (short : length input ≤ 32768) (t : Lent) (room : 
     pub counts-are : c ≡ jobCounts job
 
   module _ (job : Job) (held : readJob input ≡ Held job) where
-    -- room for every job of at most 16 variants and 8 parts, and for no other
-    has-room : length (job .variants) ≤ 16 → length (job .parts) ≤ 8 → hasRoom (jobCounts job) t ≡ true
+    -- room for every job of at most 16 variants and 128 parts, and for no other
+    has-room : length (job .variants) ≤ 16 → length (allParts job) ≤ 128 → hasRoom (jobCounts job) t ≡ true
     unfolding five three jobCounts
     has-room v p =
         let l = letters-within input job held in
         let few : length (lettersOf job) ≤ 32768 = omega arith in
-        rw (room .starts, room .ends, room .sizes, room .negatives, room .counts, room .partSizes, room .partNegatives, room .partCounts, room .letters)
-        (simp (le-leb _ _ v, le-leb _ _ p, le-leb _ _ few))
+        let b = few-breaks input job held in
+        rw (room .starts, room .ends, room .sizes, room .negatives, room .counts, room .partSizes, room .partNegatives, room .partCounts, room .breaks, room .letters)
+        (simp (le-leb _ _ v, le-leb _ _ p, le-leb _ _ b, le-leb _ _ few))
 
-    few-of : hasRoom (jobCounts job) t ≡ true → (length (job .variants) ≤ 16) × (length (job .parts) ≤ 8)
+    few-of : hasRoom (jobCounts job) t ≡ true → (length (job .variants) ≤ 16) × (length (allParts job) ≤ 128)
     unfolding five three jobCounts
     few-of h =
         let a = and-both _ _ h in
         let v : length (job .variants) ≤ length (t .starts) = leb-true _ _ (and-both _ _ (a .0) .0) in
-        let p : length (job .parts) ≤ length (t .partSizes) = leb-true _ _ (and-both _ _ (and-both _ _ (a .1) .0) .0) in
+        let p : length (allParts job) ≤ length (t .partSizes) = leb-true _ _ (and-both _ _ (and-both _ _ (a .1) .0) .0) in
         let s : length (t .starts) ≡ 16 = room .starts in
-        let q : length (t .partSizes) ≡ 8 = room .partSizes in
+        let q : length (t .partSizes) ≡ 128 = room .partSizes in
         (omega arith, omega arith)
 
     -- a job that is not too large by its definition has room, so one without room is too large
-    small : tooLarge job ≡ false → (length (job .variants) ≤ 16) × (length (job .parts) ≤ 8)
+    small : tooLarge job ≡ false → (length (job .variants) ≤ 16) × (length (allParts job) ≤ 128)
     unfolding tooLarge
     small e =
         let a = or-no _ _ e in
-        (ltb-false _ _ (a .0), ltb-false _ _ (or-no _ _ (a .1) .0))
+        let p = few-parts (job .haplotypes) (or-no _ _ (a .1) .0) in
+        let n = long-breaks (job .haplotypes) (some-held input job held) in
+        let b = few-breaks input job held in
+        (ltb-false _ _ (a .0), omega arith)
 
     large : (is : Bool) → tooLarge job ≡ is → hasRoom (jobCounts job) t ≡ false → is ≡ true
     large true e h = refl
@@ -146,23 +153,27 @@ module _ (input : List ℕ) (short : length input ≤ 32768) (t : Lent) (room : 
     unfolding jobCounts
     variants-are = ap (λ (x : Counts). x .variants) (holds .counts-are)
 
-    parts-are : c .parts ≡ length (theJob .parts)
+    parts-are : c .parts ≡ length (allParts theJob)
     unfolding jobCounts
     parts-are = ap (λ (x : Counts). x .parts) (holds .counts-are)
 
-    few-rows : (length (theJob .variants) ≤ 16) × (length (theJob .parts) ≤ 8)
+    breaks-are : c .breaks ≡ length (breaksOf (theJob .haplotypes))
+    unfolding jobCounts
+    breaks-are = ap (λ (x : Counts). x .breaks) (holds .counts-are)
+
+    few-rows : (length (theJob .variants) ≤ 16) × (length (allParts theJob) ≤ 128)
     few-rows = few-of theJob (holds .held) (holds .enough)
 
     variant-length : {A : Type 0} (f : Variant → A) → length (map f (theJob .variants)) ≡ c .variants
     variant-length f = length-map (theJob .variants) f ∙ sym variants-are
 
-    part-length : {A : Type 0} (f : Part → A) → length (map f (theJob .parts)) ≡ c .parts
-    part-length f = length-map (theJob .parts) f ∙ sym parts-are
+    part-length : {A : Type 0} (f : Part → A) → length (map f (allParts theJob)) ≡ c .parts
+    part-length f = length-map (allParts theJob) f ∙ sym parts-are
 
     abbrev rest : List ℕ
     rest = drop (length (lettersOf theJob)) (t .letters)
 
-    cut-with : cut (c .variants) (c .parts) (lentWith theJob t) ≡ heldIn theJob rest
+    cut-with : cut (c .variants) (c .parts) (c .breaks) (lentWith theJob t) ≡ heldIn theJob rest
     unfolding heldIn lentWith
     cut-with =
         rw (
@@ -171,9 +182,10 @@ module _ (input : List ℕ) (short : length input ≤ 32768) (t : Lent) (room : 
           take-placed (t .sizes) (map (λ (x : Variant). x .size) (theJob .variants)) (c .variants) (variant-length (λ (x : Variant). x .size)),
           take-placed (t .negatives) (map (λ (x : Variant). x .negative) (theJob .variants)) (c .variants) (variant-length (λ (x : Variant). x .negative)),
           take-placed (t .counts) (map (λ (x : Variant). length (x .letters)) (theJob .variants)) (c .variants) (variant-length (λ (x : Variant). length (x .letters))),
-          take-placed (t .partSizes) (map (λ (x : Part). x .size) (theJob .parts)) (c .parts) (part-length (λ (x : Part). x .size)),
-          take-placed (t .partNegatives) (map (λ (x : Part). x .negative) (theJob .parts)) (c .parts) (part-length (λ (x : Part). x .negative)),
-          take-placed (t .partCounts) (map (λ (x : Part). length (x .letters)) (theJob .parts)) (c .parts) (part-length (λ (x : Part). length (x .letters))),
+          take-placed (t .partSizes) (map (λ (x : Part). x .size) (allParts theJob)) (c .parts) (part-length (λ (x : Part). x .size)),
+          take-placed (t .partNegatives) (map (λ (x : Part). x .negative) (allParts theJob)) (c .parts) (part-length (λ (x : Part). x .negative)),
+          take-placed (t .partCounts) (map (λ (x : Part). length (x .letters)) (allParts theJob)) (c .parts) (part-length (λ (x : Part). length (x .letters))),
+          take-placed (t .breaks) (breaksOf (theJob .haplotypes)) (c .breaks) (sym breaks-are),
         )
 
     letters-few : length (lettersOf theJob ++ rest) ≤ 32768
@@ -187,31 +199,34 @@ module _ (input : List ℕ) (short : length input ≤ 32768) (t : Lent) (room : 
       unfolding lentAfter
       u-is = after ∙ rw (holds .held, holds .enough)
 
-      cut-is : cut (c .variants) (c .parts) u ≡ heldIn theJob rest
-      cut-is = ap (cut (c .variants) (c .parts)) u-is ∙ cut-with
+      cut-is : cut (c .variants) (c .parts) (c .breaks) u ≡ heldIn theJob rest
+      cut-is = ap (cut (c .variants) (c .parts) (c .breaks)) u-is ∙ cut-with
 
-      given-front : Front (c .variants) (c .parts) u
+      given-front : Front (c .variants) (c .parts) (c .breaks) u
       unfolding lentWith
       given-front =
           let v = variants-are in
           let p = parts-are in
-          let f : Fits (cut (c .variants) (c .parts) (lentWith theJob t)) = rw cut-with (fits-held theJob rest (few-rows .0) (few-rows .1) letters-few) in
+          let some = some-held input theJob (holds .held) in
+          let few = few-breaks input theJob (holds .held) in
+          let f : Fits (cut (c .variants) (c .parts) (c .breaks) (lentWith theJob t)) = rw cut-with (fits-held theJob rest some (few-rows .0) (few-rows .1) few letters-few) in
           rw u-is record {
             starts = placed-long (t .starts) (map (λ (x : Variant). x .start) (theJob .variants)) (c .variants) (simp length-map v);
             ends = placed-long (t .ends) (map (λ (x : Variant). x .end) (theJob .variants)) (c .variants) (simp length-map v);
             sizes = placed-long (t .sizes) (map (λ (x : Variant). x .size) (theJob .variants)) (c .variants) (simp length-map v);
             negatives = placed-long (t .negatives) (map (λ (x : Variant). x .negative) (theJob .variants)) (c .variants) (simp length-map v);
             counts = placed-long (t .counts) (map (λ (x : Variant). length (x .letters)) (theJob .variants)) (c .variants) (simp length-map v);
-            part-sizes = placed-long (t .partSizes) (map (λ (x : Part). x .size) (theJob .parts)) (c .parts) (simp length-map p);
-            part-negatives = placed-long (t .partNegatives) (map (λ (x : Part). x .negative) (theJob .parts)) (c .parts) (simp length-map p);
-            part-counts = placed-long (t .partCounts) (map (λ (x : Part). length (x .letters)) (theJob .parts)) (c .parts) (simp length-map p);
+            part-sizes = placed-long (t .partSizes) (map (λ (x : Part). x .size) (allParts theJob)) (c .parts) (simp length-map p);
+            part-negatives = placed-long (t .partNegatives) (map (λ (x : Part). x .negative) (allParts theJob)) (c .parts) (simp length-map p);
+            part-counts = placed-long (t .partCounts) (map (λ (x : Part). length (x .letters)) (allParts theJob)) (c .parts) (simp length-map p);
+            breaks = placed-long (t .breaks) (breaksOf (theJob .haplotypes)) (c .breaks) breaks-are;
             fits = f;
           }
 
-      given-text : heldText s (cut (c .variants) (c .parts) u) ≡ readText (readJob input)
+      given-text : heldText s (cut (c .variants) (c .parts) (c .breaks) u) ≡ readText (readJob input)
       given-text =
           ap (heldText s) cut-is ∙ ap (λ (x : Settings). heldText x (heldIn theJob rest)) (holds .settings-are)
-          ∙ text-held theJob rest (few-rows .0) (few-rows .1) ∙ ap readText (sym (holds .held))
+          ∙ text-held theJob rest (some-held input theJob (holds .held)) (few-rows .0) ∙ ap readText (sym (holds .held))
 
   -- what the reader said, either way
   module _ (u : Lent) (after : u ≡ lentAfter (readJob input) t) where

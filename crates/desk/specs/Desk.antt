@@ -1,15 +1,16 @@
--- Document 01, "Job form and program": the text that the program prints for the bytes that it is given.
+-- Document 01, "Job form and program", and document 02, P1: the text that the program prints for the bytes that it is given.
 use Prim.Native.Nat.{ℕ, zero, suc}
-use mathlib.Core.Bool.{Bool, _||_, cond}
+use mathlib.Core.Bool.{Bool, false, _||_, cond}
 use mathlib.Core.List.{List, [], _∷_, _++_, map}
-use lib.Dec.{ltb}
+use lib.Dec.{ltb, eqb}
 use lib.IntN.{ℤ}
 use lib.ListN.{length}
 use Rattle.metrics.specs.Letters.{countsOf}
 use Rattle.params.specs.Numbers.{Table, Parts, Call, tableOf, partsOf, callOf}
-use Rattle.dive.specs.Numbered.{Numbered, numberedAnswer, numberedRows, recordsOf}
+use Rattle.params.specs.declared.Settings.{Settings}
+use Rattle.dive.specs.Numbered.{Numbered, numberedFault, numberedAnswer, numberedRows, recordsOf}
 use Rattle.form.specs.Job.{Variant, Part, Job, Read, Faulty, Held, readJob}
-use Rattle.text.specs.Text.{refusedText, answerText}
+use Rattle.text.specs.Text.{refusedText, hapText, answerText}
 
 -- the feature rows of the variants one behind the other, and of the parts
 unfoldable pub variantFeatures : ℕ → List Variant → List ℤ
@@ -27,17 +28,18 @@ tableOfJob job = tableOf
     (map (λ (x : Variant). x .size) (job .variants))
     (variantFeatures (job .settings .k) (job .variants))
 
-unfoldable pub partsOfJob : Job → Parts
-partsOfJob job = partsOf (map (λ (x : Part). x .size) (job .parts)) (partFeatures (job .settings .k) (job .parts))
+unfoldable pub partsOfHaplotype : ℕ → List Part → Parts
+partsOfHaplotype k parts = partsOf (map (λ (x : Part). x .size) parts) (partFeatures k parts)
 
--- over 16 variants, 8 parts, k over 4 or maxpaths over 63
+-- some haplotype has over 8 parts
+unfoldable pub manyParts : List (List Part) → Bool
+manyParts [] = false
+manyParts (parts ∷ haplotypes) = ltb 8 (length parts) || manyParts haplotypes
+
+-- over 16 variants, over 8 parts in a haplotype, k over 4 or maxpaths over 63
 unfoldable pub tooLarge : Job → Bool
 tooLarge job =
-    ltb 16 (length (job .variants)) || (ltb 8 (length (job .parts)) || (ltb 4 (job .settings .k) || ltb 63 (job .settings .maxpaths)))
-
--- the search has room for 1,025 queue entries and 16 rows
-abbrev pub callOfJob : Job → Call
-callOfJob job = callOf (job .settings) (tableOfJob job) (partsOfJob job) 1025 16
+    ltb 16 (length (job .variants)) || (manyParts (job .haplotypes) || (ltb 4 (job .settings .k) || ltb 63 (job .settings .maxpaths)))
 
 -- the numbers from 0 up to and without n
 unfoldable pub rowNumbers : ℕ → List ℕ
@@ -48,11 +50,31 @@ rowNumbers (suc n) = rowNumbers n ++ (n ∷ [])
 abbrev pub numberedByRow : Call → Numbered
 numberedByRow c = record { call = c; numbers = rowNumbers (length (c .table .starts)); recordRoom = 16 }
 
-abbrev pub numberedText : Numbered → List ℕ
-numberedText n = answerText (numberedAnswer n) (numberedRows n) (recordsOf n)
+-- what is asked for one haplotype: the search has room for 1,025 queue entries and 16 rows
+abbrev pub askedOf : Settings → Table → Parts → Numbered
+askedOf s t p = numberedByRow (callOf s t p 1025 16)
+
+-- one haplotype's lines, those of a job of its own
+unfoldable pub haplotypeText : Settings → Table → Parts → List ℕ
+haplotypeText s t p = let n = askedOf s t p in answerText (numberedAnswer n) (numberedRows n) (recordsOf n)
+
+-- document 02, P1: settings, table and room refuse a whole job of several; they refuse it without parts
+unfoldable pub wholeFault : Settings → Table → ℕ
+wholeFault s t = numberedFault (askedOf s t (partsOf [] []))
+
+-- each block of lines follows a line `hap` and its number, from i on
+unfoldable pub blocksText : Settings → Table → ℕ → List Parts → List ℕ
+blocksText s t i [] = []
+blocksText s t i (p ∷ ps) = hapText i ++ (haplotypeText s t p ++ blocksText s t (suc i) ps)
+
+-- one haplotype keeps document 01's lines; a job has at least one
+unfoldable pub haplotypesText : Settings → Table → List Parts → List ℕ
+haplotypesText s t [] = []
+haplotypesText s t (p ∷ []) = haplotypeText s t p
+haplotypesText s t (p ∷ (q ∷ ps)) = cond (eqb (wholeFault s t) 0) (blocksText s t 0 (p ∷ (q ∷ ps))) (refusedText (wholeFault s t))
 
 unfoldable pub jobText : Job → List ℕ
-jobText job = numberedText (numberedByRow (callOfJob job))
+jobText job = haplotypesText (job .settings) (tableOfJob job) (map (partsOfHaplotype (job .settings .k)) (job .haplotypes))
 
 unfoldable pub readText : Read → List ℕ
 readText (Faulty n) = refusedText n

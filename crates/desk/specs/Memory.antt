@@ -1,60 +1,115 @@
 -- What the program's memory holds between reading a job and searching. No public promise cites this file.
-use Prim.Native.Nat.{ℕ, _+_, _≤_}
+use Prim.Native.Nat.{ℕ, _+_, _-_, _*_, _^_, _≤_}
 use mathlib.Core.Path.{_≡_}
-use mathlib.Core.Bool.{cond}
-use mathlib.Core.List.{List}
+use mathlib.Core.Bool.{Bool, false, cond, _||_}
+use mathlib.Core.List.{List, [], _∷_, _++_}
 use lib.Dec.{ltb, eqb}
 use lib.ListN.{length, take, drop}
 use Rattle.params.specs.declared.Settings.{Settings}
-use Rattle.params.specs.Numbers.{Table, Parts, tableOf, partsOf, callOf}
+use Rattle.params.specs.Numbers.{Table, Parts, tableOf, partsOf}
 use Rattle.reader.specs.declared.Reading.{Reading}
 use Rattle.reader.specs.declared.Reading.the-variants.{Refused as Declined, Job as Given}
 use Rattle.form.specs.Lent.{Lent, lent}
 use Rattle.form.specs.Lent.{sum}
-use Rattle.text.specs.Text.{refusedText}
+use Rattle.text.specs.Text.{refusedText, hapText}
 use Rattle.text.specs.Written.{Written}
-use Rattle.desk.specs.Desk.{numberedByRow, numberedText}
+use Rattle.desk.specs.Desk.{haplotypeText, haplotypesText}
 use Rattle.desk.specs.Rows.{rowsFrom}
 
--- a text stored at the front of a slice, and of at most 453 bytes: 16 rows, 16 records, six more lines
-pub record Printed (old text new : List ℕ) (r : ℕ) : Type 0 where
-  pub written : Written old 0 text new r
-  pub short : length text ≤ 453
+-- a text stored from a place on, and of at most so many bytes
+pub record Printed (most : ℕ) (old : List ℕ) (at : ℕ) (text new : List ℕ) (r : ℕ) : Type 0 where
+  pub written : Written old at text new r
+  pub short : length text ≤ most
 
--- the table and the parts that nine slices give once their letters are counted
+-- of one haplotype: 16 rows, 16 records, six more lines; the same with its `hap` line; of 16 haplotypes
+abbrev pub mostOfOne : ℕ
+mostOfOne = 453
+
+abbrev pub mostOfBlock : ℕ
+mostOfBlock = 468
+
+abbrev pub mostOfAll : ℕ
+mostOfAll = 7488
+
+-- Where each haplotype's parts end: at the breaks, and those of the last with all m.
+abbrev pub endsOf : List ℕ → ℕ → List ℕ
+endsOf breaks m = breaks ++ (m ∷ [])
+
+-- ends that rise from a place on, to at most m
+unfoldable pub Rising : ℕ → ℕ → List ℕ → Type 0
+Rising m from [] = Unit {0}
+Rising m from (to ∷ ends) = (from ≤ to) × ((to ≤ m) × Rising m to ends)
+
+-- over 8 parts between one end and the next
+unfoldable pub overlong : ℕ → List ℕ → Bool
+overlong from [] = false
+overlong from (to ∷ ends) = ltb 8 (to - from) || overlong to ends
+
+-- the parts from one place to another, with rows of e entries
+abbrev pub stretch : ℕ → ℕ → ℕ → Parts → Parts
+stretch e from to p = partsOf (take (to - from) (drop from (p .sizes))) (take (to * e - from * e) (drop (from * e) (p .features)))
+
+-- one block: the `hap` line and the haplotype's lines
+abbrev pub blockText : Settings → Table → ℕ → Parts → List ℕ
+blockText s t i p = hapText i ++ haplotypeText s t p
+
+-- each haplotype's own parts
+unfoldable pub stretches : ℕ → ℕ → List ℕ → Parts → List Parts
+stretches e from [] p = []
+stretches e from (to ∷ ends) p = stretch e from to p ∷ stretches e to ends p
+
+-- slices that hold the parts of up to 16 haplotypes, for a table of up to 16 variants
+pub record BlocksFit (e : ℕ) (t : Table) (p : Parts) (breaks : List ℕ) : Type 0 where
+  pub variants : length (t .starts) ≤ 16
+  pub parts : length (p .sizes) ≤ 128
+  pub haplotypes : length breaks ≤ 15
+  pub rising : Rising (length (p .sizes)) 0 (endsOf breaks (length (p .sizes)))
+  pub rows : length (p .features) ≡ length (p .sizes) * e
+  pub few : length (p .features) ≤ 32768
+
+-- the table and the parts that ten slices give once their letters are counted
 abbrev pub tableFrom : ℕ → Lent → Table
 tableFrom k t = tableOf (t .starts) (t .ends) (t .sizes) (rowsFrom k (t .negatives) (t .counts) (t .letters))
 
 abbrev pub partsFrom : ℕ → Lent → Parts
 partsFrom k t = partsOf (t .partSizes) (rowsFrom k (t .partNegatives) (t .partCounts) (drop (sum (t .counts)) (t .letters)))
 
-unfoldable pub searchText : Settings → Table → Parts → List ℕ
-searchText s t p = numberedText (numberedByRow (callOf s t p 1025 16))
+-- 26 for a haplotype of too many parts, k over 4 or maxpaths over 63, 1 for k 0, and else 0
+unfoldable pub limitFault : Bool → Settings → ℕ
+limitFault long s = cond long 26 (cond (ltb 4 (s .k)) 26 (cond (ltb 63 (s .maxpaths)) 26 (cond (ltb (s .k) 1) 1 0)))
 
--- 26 for k over 4 or maxpaths over 63, 1 for k 0, and else 0
-unfoldable pub limitFault : Settings → ℕ
-limitFault s = cond (ltb 4 (s .k)) 26 (cond (ltb 63 (s .maxpaths)) 26 (cond (ltb (s .k) 1) 1 0))
+abbrev pub lentEnds : Lent → List ℕ
+lentEnds t = endsOf (t .breaks) (length (t .partSizes))
+
+abbrev pub heldFault : Settings → Lent → ℕ
+heldFault s t = limitFault (overlong 0 (lentEnds t)) s
 
 unfoldable pub heldText : Settings → Lent → List ℕ
-heldText s t = cond (eqb (limitFault s) 0) (searchText s (tableFrom (s .k) t) (partsFrom (s .k) t)) (refusedText (limitFault s))
+heldText s t =
+    cond (eqb (heldFault s t) 0)
+    (haplotypesText s (tableFrom (s .k) t) (stretches (4 ^ s .k) 0 (lentEnds t) (partsFrom (s .k) t)))
+    (refusedText (heldFault s t))
 
 -- slices that fit the program's tables
 pub record Fits (t : Lent) : Type 0 where
   pub variants : length (t .counts) ≤ 16
-  pub parts : length (t .partCounts) ≤ 8
+  pub parts : length (t .partCounts) ≤ 128
+  pub haplotypes : length (t .breaks) ≤ 15
+  pub rising : Rising (length (t .partSizes)) 0 (lentEnds t)
   pub starts-alike : length (t .starts) ≡ length (t .counts)
   pub alike : length (t .negatives) ≡ length (t .counts)
   pub part-alike : length (t .partNegatives) ≡ length (t .partCounts)
+  pub sizes-alike : length (t .partSizes) ≡ length (t .partCounts)
   pub letters-end : sum (t .counts) + sum (t .partCounts) ≤ length (t .letters)
   pub few : length (t .letters) ≤ 32768
 
--- v variants and m parts at the fronts of the slices
-abbrev pub cut : ℕ → ℕ → Lent → Lent
-cut v m t = lent (take v (t .starts)) (take v (t .ends)) (take v (t .sizes)) (take v (t .negatives)) (take v (t .counts))
-    (take m (t .partSizes)) (take m (t .partNegatives)) (take m (t .partCounts)) (t .letters)
+-- v variants, m parts and b breaks at the fronts of the slices
+abbrev pub cut : ℕ → ℕ → ℕ → Lent → Lent
+cut v m b t = lent (take v (t .starts)) (take v (t .ends)) (take v (t .sizes)) (take v (t .negatives)) (take v (t .counts))
+    (take m (t .partSizes)) (take m (t .partNegatives)) (take m (t .partCounts)) (take b (t .breaks)) (t .letters)
 
 -- that they stand there, and fit
-pub record Front (v m : ℕ) (t : Lent) : Type 0 where
+pub record Front (v m b : ℕ) (t : Lent) : Type 0 where
   pub starts : v ≤ length (t .starts)
   pub ends : v ≤ length (t .ends)
   pub sizes : v ≤ length (t .sizes)
@@ -63,7 +118,8 @@ pub record Front (v m : ℕ) (t : Lent) : Type 0 where
   pub part-sizes : m ≤ length (t .partSizes)
   pub part-negatives : m ≤ length (t .partNegatives)
   pub part-counts : m ≤ length (t .partCounts)
-  pub fits : Fits (cut v m t)
+  pub breaks : b ≤ length (t .breaks)
+  pub fits : Fits (cut v m b t)
 
 -- the reader's 30, too little room, is the program's 26
 unfoldable pub toldAs : ℕ → ℕ
@@ -72,8 +128,8 @@ toldAs n = cond (eqb n 30) 26 n
 -- what the reader said, and the slices that it filled
 abbrev pub Loaded : Reading → Lent → Type 0
 Loaded (Declined n) t = Unit {0}
-Loaded (Given s c) t = Front (c .variants) (c .parts) t
+Loaded (Given s c) t = Front (c .variants) (c .parts) (c .breaks) t
 
 unfoldable pub readingText : Reading → Lent → List ℕ
 readingText (Declined n) t = refusedText (toldAs n)
-readingText (Given s c) t = heldText s (cut (c .variants) (c .parts) t)
+readingText (Given s c) t = heldText s (cut (c .variants) (c .parts) (c .breaks) t)

@@ -1,7 +1,9 @@
 // One job in, its lines of text out, in fixed memory: what the program does.
+mod blocks;
 mod features;
 mod memory;
 mod room;
+mod stretches;
 
 use crate::memory::answer_read;
 use metrics::refusals::TOO_LARGE;

@@ -1,12 +1,10 @@
-// The program's memory: a job read into fixed arrays, its features counted, and the search over them.
+// The program's memory: a job read into fixed arrays, its features counted, and each haplotype answered.
+use crate::blocks::put_haplotypes;
 use crate::features::count_rows;
-use crate::room::key_room;
 use crate::room::letter_room;
-use crate::room::link_room;
 use crate::room::part_table;
-use crate::room::row_numbers;
 use crate::room::variant_table;
-use dive::apply_numbered;
+use crate::stretches::over_parts;
 use metrics::kmer::entries;
 use metrics::refusals::BAD_K;
 use metrics::refusals::LITTLE_ROOM;
@@ -14,59 +12,22 @@ use metrics::refusals::TOO_LARGE;
 use params::Settings;
 use reader::Reading;
 use reader::read_job;
-use text::put_answer;
 use text::put_refused;
 ghost use mathlib.Core.Path.{_≡_};
 ghost use Prim.Native.Nat.{_≤_};
 ghost use lib.ListN.{length};
-ghost use Rattle.params.specs.Numbers.{tableOf, partsOf};
 ghost use Rattle.form.specs.Job.{readJob};
 ghost use Rattle.form.specs.Lent.{lent};
 ghost use Rattle.desk.specs.Desk.{readText};
-ghost use Rattle.desk.specs.Memory.{searchText, limitFault, heldText, toldAs, readingText, Fits, Loaded, Printed};
+ghost use Rattle.desk.specs.Memory.{limitFault, heldText, toldAs, readingText, Fits, Loaded, Printed, mostOfAll};
 
-// A job's record numbers are its row numbers.
-fn search(
-    s: Settings,
-    starts: &[u64],
-    ends: &[u64],
-    sizes: &[i32],
-    features: &[i32],
-    part_sizes: &[i32],
-    part_features: &[i32],
-    out: &mut [u8],
-) -> usize
-    requires { ⌜ length (now starts) ≤ 16 ⌝ }
-    ensures { λ r. ⌜ Printed (now (out .entry)) (searchText s
-        (tableOf (now (starts .entry)) (now (ends .entry)) (now (sizes .entry)) (now (features .entry)))
-        (partsOf (now («part_sizes» .entry)) (now («part_features» .entry)))) (now (out .exit)) r ⌝ }
+// The program's own limits, `long` where a haplotype has too many parts. k 0 has no features to count: 1 is the first row of the table of refusals.
+fn limit_fault(s: Settings, long: bool) -> u32
+    ensures { λ r. ⌜ r ≡ limitFault long s ⌝ }
 {
-    let mut links = link_room();
-    let mut keys = key_room();
-    let mut rows = [0u32; 16];
-    let mut records = [0u32; 16];
-    let numbers = row_numbers();
-    let a = apply_numbered(
-        s,
-        starts,
-        ends,
-        sizes,
-        features,
-        &numbers[..starts.len()],
-        part_sizes,
-        part_features,
-        &mut links,
-        &mut keys,
-        &mut rows,
-        &mut records,
-    );
-    put_answer(out, 0, &rows, &records, a)
-}
-
-// The program's own limits. k 0 has no features to count: 1 is the first row of the table of refusals.
-fn limit_fault(s: Settings) -> u32
-    ensures { λ r. ⌜ r ≡ limitFault s ⌝ }
-{
+    if long {
+        return TOO_LARGE;
+    }
     if 4 < s.k {
         return TOO_LARGE;
     }
@@ -79,7 +40,7 @@ fn limit_fault(s: Settings) -> u32
     0
 }
 
-// Counts the features of all sequences of a job within the limits, and searches.
+// Counts the features of all sequences of a job within the limits, and answers its haplotypes.
 fn answer_held(
     s: Settings,
     starts: &[u64],
@@ -90,16 +51,18 @@ fn answer_held(
     part_sizes: &[i32],
     part_negatives: &[bool],
     part_counts: &[u32],
+    breaks: &[u64],
     letters: &[u8],
     out: &mut [u8],
 ) -> usize
     requires { ⌜ Fits (lent (now starts) (now ends) (now sizes) (now negatives) (now counts) (now «part_sizes») (now «part_negatives»)
-        (now «part_counts») (now letters)) ⌝ }
-    ensures { λ r. ⌜ Printed (now (out .entry)) (heldText s
+        (now «part_counts») (now breaks) (now letters)) ⌝ }
+    ensures { λ r. ⌜ Printed mostOfAll (now (out .entry)) 0 (heldText s
         (lent (now (starts .entry)) (now (ends .entry)) (now (sizes .entry)) (now (negatives .entry)) (now (counts .entry))
-        (now («part_sizes» .entry)) (now («part_negatives» .entry)) (now («part_counts» .entry)) (now (letters .entry)))) (now (out .exit)) r ⌝ }
+        (now («part_sizes» .entry)) (now («part_negatives» .entry)) (now («part_counts» .entry)) (now (breaks .entry)) (now (letters .entry)))) (now (out .exit)) r ⌝ }
 {
-    let fault = limit_fault(s);
+    let long = over_parts(breaks, part_sizes.len());
+    let fault = limit_fault(s, long);
     if fault != 0 {
         return put_refused(out, 0, fault);
     }
@@ -118,7 +81,7 @@ fn answer_held(
     );
     let v = counts.len() * width;
     let m = part_counts.len() * width;
-    search(
+    put_haplotypes(
         s,
         starts,
         ends,
@@ -126,6 +89,8 @@ fn answer_held(
         &features[..v],
         part_sizes,
         &part_features[..m],
+        breaks,
+        width,
         out,
     )
 }
@@ -148,14 +113,15 @@ fn answer_reading(
     part_sizes: &[i32],
     part_negatives: &[bool],
     part_counts: &[u32],
+    breaks: &[u64],
     letters: &[u8],
     out: &mut [u8],
 ) -> usize
     requires { ⌜ Loaded read (lent (now starts) (now ends) (now sizes) (now negatives) (now counts) (now «part_sizes») (now «part_negatives»)
-        (now «part_counts») (now letters)) ⌝ }
-    ensures { λ r. ⌜ Printed (now (out .entry)) (readingText read
+        (now «part_counts») (now breaks) (now letters)) ⌝ }
+    ensures { λ r. ⌜ Printed mostOfAll (now (out .entry)) 0 (readingText read
         (lent (now (starts .entry)) (now (ends .entry)) (now (sizes .entry)) (now (negatives .entry)) (now (counts .entry))
-        (now («part_sizes» .entry)) (now («part_negatives» .entry)) (now («part_counts» .entry)) (now (letters .entry)))) (now (out .exit)) r ⌝ }
+        (now («part_sizes» .entry)) (now («part_negatives» .entry)) (now («part_counts» .entry)) (now (breaks .entry)) (now (letters .entry)))) (now (out .exit)) r ⌝ }
 {
     match read {
         Reading::Refused(n) => put_refused(out, 0, told_as(n)),
@@ -169,6 +135,7 @@ fn answer_reading(
             &part_sizes[..c.parts],
             &part_negatives[..c.parts],
             &part_counts[..c.parts],
+            &breaks[..c.breaks],
             letters,
             out,
         ),
@@ -178,16 +145,17 @@ fn answer_reading(
 // Reads a job, and answers it.
 pub(crate) fn answer_read(input: &[u8], out: &mut [u8]) -> usize
     requires { ⌜ length (now input) ≤ 32768 ⌝ }
-    ensures { λ r. ⌜ Printed (now (out .entry)) (readText (readJob (now (input .entry)))) (now (out .exit)) r ⌝ }
+    ensures { λ r. ⌜ Printed mostOfAll (now (out .entry)) 0 (readText (readJob (now (input .entry)))) (now (out .exit)) r ⌝ }
 {
     let mut starts = [0u64; 16];
     let mut ends = [0u64; 16];
     let mut sizes = [0i32; 16];
     let mut negatives = [false; 16];
     let mut counts = [0u32; 16];
-    let mut part_sizes = [0i32; 8];
-    let mut part_negatives = [false; 8];
-    let mut part_counts = [0u32; 8];
+    let mut part_sizes = [0i32; 128];
+    let mut part_negatives = [false; 128];
+    let mut part_counts = [0u32; 128];
+    let mut breaks = [0u64; 15];
     let mut letters = letter_room();
     let read = read_job(
         input,
@@ -199,6 +167,7 @@ pub(crate) fn answer_read(input: &[u8], out: &mut [u8]) -> usize
         &mut part_sizes,
         &mut part_negatives,
         &mut part_counts,
+        &mut breaks,
         &mut letters,
     );
     answer_reading(
@@ -211,6 +180,7 @@ pub(crate) fn answer_read(input: &[u8], out: &mut [u8]) -> usize
         &part_sizes,
         &part_negatives,
         &part_counts,
+        &breaks,
         &letters,
         out,
     )

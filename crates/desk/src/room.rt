@@ -10,11 +10,11 @@ pub(crate) fn variant_table() -> [i32; 4096]
     [0i32; 4096]
 }
 
-// The feature rows of 8 parts at k 4.
-pub(crate) fn part_table() -> [i32; 2048]
-    ensures { λ r. ⌜ 2048 ≡ length r ⌝ }
+// The feature rows of 16 × 8 parts at k 4.
+pub(crate) fn part_table() -> [i32; 32768]
+    ensures { λ r. ⌜ 32768 ≡ length r ⌝ }
 {
-    [0i32; 2048]
+    [0i32; 32768]
 }
 
 // The letters of all sequences: fewer than the job has bytes.

@@ -3,3 +3,7 @@ pub mod NumberLaws
 mod RecordLaws
 mod NumberedLaws
 pub mod RowLaws
+pub mod LaidLaws
+pub mod SeveralNumberLaws
+mod RecordStretchLaws
+mod SeveralAnswerLaws

@@ -1,85 +1,24 @@
--- Where a refusal of the record numbers stands among those of the call. Each row of document 01's table is one that goes before 6, 14 or 12, or one
--- that this goes before (which of the two, `earlierOf` says, and for each of the table's numbers it computes); so, row by row, the first
--- refusal of the joined table is the earlier of the two. Over 64 variants are refused by 5 at the latest, before any of the three is asked. Assumes nothing.
-use Prim.Native.Nat.{ℕ, _^_, _<_, _≤_}
+-- Where a refusal of the record numbers stands among those of the call: the first refusal of the joined table is the earlier of the two (TableOrderLaws, params).
+-- Over 64 variants are refused by 5 at the latest, before any of the three is asked. Assumes nothing.
+use Prim.Native.Nat.{ℕ, _*_, _^_, _≤_}
 use native.Mathlib.Omega.{arith}
+use native.Mathlib.Nat.{mul-one}
 use mathlib.Core.Path.{_≡_, refl, sym, ap, _∙_}
-use mathlib.Core.Bool.{Bool, true, false, cond, _&&_}
+use mathlib.Core.Bool.{Bool, true, false, cond}
 use mathlib.Core.List.{List, [], _∷_, _++_}
-use borrow.Author.Tests.{ltb-true, ltb-false, lt-ltb, le-ltb, eqb-true, eqb-false, ne-eqb}
-use lib.Dec.{ltb, eqb}
+use borrow.Author.Tests.{ltb-true, ltb-false}
+use lib.Dec.{ltb}
 use lib.ListN.{length}
-use Rattle.paths.proofs.BooleanLaws.{and-both}
 use Rattle.params.specs.Numbers.{Call, Rule, rule, firstOf, disagrees, littleAnswerRoom, settingsRules, lengthRules, boundRules, limitRules, roomRules, firstFault}
+use Rattle.params.specs.TableOrder.{earlierOf}
 use Rattle.params.proofs.CheckedLaws.{accepted}
+use Rattle.params.proofs.TableOrderLaws.{stands}
 use Rattle.dive.specs.Numbered.{Numbered, repeatedNumber, numberedFault}
-use Rattle.dive.specs.NumberChecks.{numberFault, placeOf, earlierOf}
-
--- ---- the earlier of two
-
-none-other : (own : ℕ) → own ≡ earlierOf 0 own
-unfolding earlierOf
-none-other own = refl
-
--- by its two tests
-pub other-none : (other own : ℕ) → other ≡ 0 → own ≡ earlierOf other own
-other-none other own e = none-other own ∙ ap (λ (m : ℕ). earlierOf m own) (sym e)
-
-pub other-first : (other own place : ℕ) → (other ≡ 0 → ⊥) → place ≡ placeOf own → other < place → other ≡ earlierOf other own
-unfolding earlierOf
-other-first other own place h e l = simp (ne-eqb other 0 h, lt-ltb other (placeOf own) (omega arith))
-
-pub own-first : (other own place : ℕ) → (other ≡ 0 → ⊥) → place ≡ placeOf own → place ≤ other → own ≡ earlierOf other own
-unfolding earlierOf
-own-first other own place h e l = simp (ne-eqb other 0 h, le-ltb other (placeOf own) (omega arith))
-
--- the earlier of two refusals refuses
-pub still-refused : (other own : ℕ) → (own ≡ 0 → ⊥) → earlierOf other own ≡ 0 → ⊥
-unfolding earlierOf
-still-refused other own h = go (eqb other 0) refl (ltb other (cond (eqb own 14) 9 own))
-  where
-    go : (t : Bool) → eqb other 0 ≡ t → (s : Bool) → cond t own (cond s other own) ≡ 0 → ⊥
-    go true q s e = h e
-    go false q true e = eqb-false other 0 q e
-    go false q false e = h e
-
--- ---- a table of rows, and a number among them
-
--- every row goes before the number; and the number goes before every row
-abbrev goBefore : ℕ → List Rule → Bool
-goBefore own [] = true
-goBefore own (r ∷ rows) = eqb (earlierOf (r .number) own) (r .number) && goBefore own rows
-
-abbrev goAfter : ℕ → List Rule → Bool
-goAfter own [] = true
-goAfter own (r ∷ rows) = eqb (earlierOf (r .number) own) own && goAfter own rows
-
-comes-first : (own : ℕ) (back : List Rule) → goAfter own back ≡ true → own ≡ earlierOf (firstOf back) own
-comes-first own [] h = none-other own
-comes-first own (r ∷ back) h =
-    let both = and-both (eqb (earlierOf (r .number) own) own) (goAfter own back) h in
-    go (r .given) (eqb-true (earlierOf (r .number) own) own (both .0)) (comes-first own back (both .1))
-  where
-    go : (t : Bool) → earlierOf (r .number) own ≡ own → own ≡ earlierOf (firstOf back) own → own ≡ earlierOf (cond t (r .number) (firstOf back)) own
-    go true here rest = sym here
-    go false here rest = rest
-
--- a number given between the rows that go before it and those that it goes before
-stands : (own : ℕ) (front back later : List Rule) → goBefore own front ≡ true → goAfter own back ≡ true
-    → firstOf (front ++ (rule own true ∷ later)) ≡ earlierOf (firstOf (front ++ back)) own
-stands own [] back later h g = comes-first own back g
-stands own (r ∷ front) back later h g =
-    let both = and-both (eqb (earlierOf (r .number) own) (r .number)) (goBefore own front) h in
-    go (r .given) (eqb-true (earlierOf (r .number) own) (r .number) (both .0)) (stands own front back later (both .1) g)
-  where
-    go : (t : Bool) {joined : ℕ} → earlierOf (r .number) own ≡ r .number → joined ≡ earlierOf (firstOf (front ++ back)) own
-        → cond t (r .number) joined ≡ earlierOf (cond t (r .number) (firstOf (front ++ back))) own
-    go true here rest = sym here
-    go false here rest = rest
+use Rattle.dive.specs.NumberChecks.{numberFault}
 
 -- ---- the joined table of a call, by what its three new rows ask
 
-abbrev ownOf : Bool → Bool → Bool → ℕ
+abbrev pub ownOf : Bool → Bool → Bool → ℕ
 ownOf six fourteen twelve = cond six 6 (cond fourteen 14 (cond twelve 12 0))
 
 module _ (c : Call) where
@@ -131,16 +70,21 @@ module _ (n : Numbered) where
   abbrev fourteen : Bool
   fourteen = repeatedNumber (n .numbers)
 
+  -- the room for one haplotype
   abbrev twelve : Bool
-  twelve = littleAnswerRoom variants (n .recordRoom)
+  twelve = littleAnswerRoom (variants * 1) (n .recordRoom)
 
   abbrev own : ℕ
-  own = numberFault variants (n .numbers) (n .recordRoom)
+  own = numberFault variants 1 (n .numbers) (n .recordRoom)
+
+  for-one : numberedFault n ≡ firstOf (joined-rows (n .call) six fourteen twelve)
+  unfolding numberedFault
+  for-one = ap (λ (v : ℕ). firstOf (joined-rows (n .call) six fourteen (littleAnswerRoom v (n .recordRoom)))) (sym (mul-one variants))
 
   -- numbers that are refused join the call's own fault
   pub numbers-refused : (own ≡ 0 → ⊥) → numberedFault n ≡ earlierOf (firstFault (n .call)) own
-  unfolding numberedFault numberFault
-  numbers-refused h = go (ltb 64 variants) h
+  unfolding numberFault
+  numbers-refused h = for-one ∙ go (ltb 64 variants) h
     where
       go : (t : Bool) → (cond t 0 (ownOf six fourteen twelve) ≡ 0 → ⊥)
           → firstOf (joined-rows (n .call) six fourteen twelve) ≡ earlierOf (firstFault (n .call)) (cond t 0 (ownOf six fourteen twelve))
@@ -149,8 +93,8 @@ module _ (n : Numbered) where
 
   -- numbers that are not refused leave it
   pub numbers-good : own ≡ 0 → numberedFault n ≡ firstFault (n .call)
-  unfolding numberedFault numberFault
-  numbers-good e = go (ltb 64 variants) refl e
+  unfolding numberFault
+  numbers-good e = for-one ∙ go (ltb 64 variants) refl e
     where
       go : (t : Bool) → ltb 64 variants ≡ t → cond t 0 (ownOf six fourteen twelve) ≡ 0 → firstOf (joined-rows (n .call) six fourteen twelve) ≡ firstFault (n .call)
       go true many e = too-many (n .call) six fourteen twelve many
@@ -166,4 +110,4 @@ module _ (n : Numbered) where
       go false true b d few room e = absurd (omega arith)
       go false false true d few room e = absurd (omega arith)
       go false false false true few room e = absurd (omega arith)
-      go false false false false few room e = ltb-false (n .recordRoom) variants room
+      go false false false false few room e = omega (arith, ltb-false (n .recordRoom) (variants * 1) room, mul-one variants)

@@ -14,12 +14,14 @@ use Rattle.params.specs.Numbers.{Call, firstFault}
 use Rattle.kplib.specs.Answer.{answerWith, noneFound, inSearchMode, foundAfter, answerOf, rowsOf, searches}
 use Rattle.kplib.specs.declared.traverse.Answer.{Answer}
 use Rattle.dive.specs.Numbered.{Numbered, numberedFault, numberedAnswer, numberedRows, recordsAt, recordsOf, numberedSearches}
-use Rattle.dive.specs.NumberChecks.{numberFault, earlierOf}
-use Rattle.dive.proofs.NumberLaws.{numbers-good, numbers-refused, records-suffice, still-refused}
+use Rattle.params.specs.TableOrder.{earlierOf}
+use Rattle.params.proofs.TableOrderLaws.{still-refused}
+use Rattle.dive.specs.NumberChecks.{numberFault}
+use Rattle.dive.proofs.NumberLaws.{numbers-good, numbers-refused, records-suffice}
 use Rattle.dive.proofs.RowLaws.{rows-within}
 
 -- an accepted call has its rows, any other none
-few-rows : (c : Call) (room : ℕ) → (firstFault c ≡ 0 → length (c .table .starts) ≤ room) → length (rowsOf c) ≤ room
+pub few-rows : (c : Call) (room : ℕ) → (firstFault c ≡ 0 → length (c .table .starts) ≤ room) → length (rowsOf c) ≤ room
 unfolding rowsOf
 few-rows c room h = go (firstFault c) refl
   where
@@ -29,7 +31,16 @@ few-rows c room h = go (firstFault c) refl
 
 module _ (n : Numbered) where
   abbrev own : ℕ
-  own = numberFault (length (n .call .table .starts)) (n .numbers) (n .recordRoom)
+  own = numberFault (length (n .call .table .starts)) 1 (n .numbers) (n .recordRoom)
+
+  -- ---- the fault, by what the two checks found
+  module _ {found other : ℕ} (is : found ≡ own) (others : other ≡ firstFault (n .call)) where
+    pub fault-other : found ≡ 0 → other ≡ numberedFault n
+    fault-other good = others ∙ sym (numbers-good n (sym is ∙ good))
+
+    pub fault-earlier : (found ≡ 0 → ⊥) → {fault : ℕ} → fault ≡ earlierOf other found → fault ≡ numberedFault n
+    fault-earlier h f =
+        f ∙ (ap (λ (m : ℕ). earlierOf m found) others ∙ (ap (λ (m : ℕ). earlierOf (firstFault (n .call)) m) is ∙ sym (numbers-refused n (λ z. h (is ∙ z)))))
 
   -- ---- the numbers are refused
   nothing-found : (fault : ℕ) → numberedFault n ≡ fault → (fault ≡ 0 → ⊥) → (numberedAnswer n ≡ answerWith fault noneFound) × (numberedRows n ≡ [])
@@ -38,14 +49,12 @@ module _ (n : Numbered) where
   nothing-found (suc fault) e h =
       (ap (λ (m : ℕ). answerWith m (foundAfter m (n .call))) e, ap (λ (m : ℕ). foundAfter m (n .call) .rows) e)
 
-  pub refused-numbered : {found other fault : ℕ} {r : Answer} (rows records : List ℕ) → found ≡ own → (found ≡ 0 → ⊥) → other ≡ firstFault (n .call)
-      → fault ≡ earlierOf other found → r ≡ answerWith fault noneFound
+  pub refused-numbered : {found fault : ℕ} {r : Answer} (rows records : List ℕ) → found ≡ own → (found ≡ 0 → ⊥) → fault ≡ numberedFault n → r ≡ answerWith fault noneFound
       → (r ≡ numberedAnswer n) × ((rows ≡ placed rows (numberedRows n)) × (records ≡ placed records (recordsOf n)))
   unfolding recordsAt
-  refused-numbered {found} {other} {fault} rows records is h o f a =
-      let known : numberedFault n ≡ earlierOf (firstFault (n .call)) own = numbers-refused n (λ z. h (is ∙ z)) in
-      let same : earlierOf other found ≡ earlierOf (firstFault (n .call)) own = ap (λ (m : ℕ). earlierOf m found) o ∙ ap (λ (m : ℕ). earlierOf (firstFault (n .call)) m) is in
-      let g = nothing-found fault (known ∙ sym same ∙ sym f) (λ z. still-refused other found h (sym f ∙ z)) in
+  refused-numbered {found} {fault} rows records is h f a =
+      let own-refused : own ≡ 0 → ⊥ = λ z. h (is ∙ z) in
+      let g = nothing-found fault (sym f) (λ z. still-refused (firstFault (n .call)) own own-refused (sym (numbers-refused n own-refused) ∙ sym f ∙ z)) in
       (a ∙ sym (g .0), (ap (λ (l : List ℕ). placed rows l) (sym (g .1)), ap (λ (l : List ℕ). placed records (recordsAt (n .numbers) l)) (sym (g .1))))
 
   -- ---- the numbers are not refused

@@ -1,3 +1,5 @@
 pub mod Numbered
 pub mod NumberChecks
+pub mod NumberedSeveral
+pub mod RecordSteps
 pub mod Promises

@@ -7,10 +7,20 @@ use mathlib.Core.List.{List}
 use lib.IntN.{ℤ}
 use lib.ListN.{length}
 use Rattle.params.specs.declared.Settings.{Settings}
+use Rattle.params.specs.Numbers.{tableOf, partsOf, callOf}
 use Rattle.metrics.specs.Placed.{placed}
-use Rattle.kplib.specs.Promises.{callLent}
+use Rattle.kplib.specs.Promises.{callLent, severalLent}
 use Rattle.kplib.specs.declared.traverse.Answer.{Answer}
-use Rattle.dive.specs.Numbered.{Numbered, numberedAnswer, numberedRows, recordsOf, numberedSearches}
+use Rattle.dive.specs.NumberedSeveral.{NumberedSeveral, numberedSeveralFault, numberedRowsAfter, recordsAfter, numberedReportsAfter, numberedSeveralSearches}
+use Rattle.dive.specs.Numbered.{Numbered, numberedFault, numberedAnswer, numberedRows, recordsOf, numberedSearches}
+
+abbrev pub NumberedFaultPromise : Settings → List ℕ → List ℕ → List ℤ → List ℤ → List ℕ → List ℤ → List ℤ → ℕ → ℕ → ℕ → ℕ → Type 0
+NumberedFaultPromise s starts ends sizes features numbers partSizes partFeatures queueRoom answerRoom recordRoom r =
+    r ≡ numberedFault (record {
+      call = callOf s (tableOf starts ends sizes features) (partsOf partSizes partFeatures) queueRoom answerRoom;
+      numbers = numbers;
+      recordRoom = recordRoom;
+    })
 
 -- the call that the settings and the lent slices make, with its record numbers
 abbrev pub numberedLent : Settings → List ℕ → List ℕ → List ℤ → List ℤ → List ℕ → List ℤ → List ℤ → List ℕ → List ℕ → List ℕ → List ℕ → Numbered
@@ -30,3 +40,26 @@ ApplyNumberedPromise s starts ends sizes features numbers partSizes partFeatures
     × ((records' ≡ placed records (recordsOf n))
     × (NumberedQueueKept n links links'
     × NumberedQueueKept n keys keys')))
+
+-- the call of several haplotypes that the settings and the lent slices make, with its record numbers
+abbrev pub numberedSeveralLent : Settings → List ℕ → List ℕ → List ℤ → List ℤ → List ℕ → List ℕ → List ℕ → List ℤ → List ℤ → List ℕ → List ℕ → List ℕ → List ℕ → List ℕ → NumberedSeveral
+numberedSeveralLent s starts ends sizes features numbers partEnds featureEnds partSizes partFeatures links keys rows records reports = record {
+  several = severalLent s starts ends sizes features partEnds featureEnds partSizes partFeatures links keys rows reports;
+  numbers = numbers;
+  recordRoom = length records;
+}
+
+-- a slice of the queue, which only a search may write
+abbrev pub NumberedSeveralQueueKept : NumberedSeveral → List ℕ → List ℕ → Type 0
+NumberedSeveralQueueKept n old new = numberedSeveralSearches n ≡ false → new ≡ old
+
+abbrev pub ApplyNumberedHaplotypesPromise : Settings → List ℕ → List ℕ → List ℤ → List ℤ → List ℕ → List ℕ → List ℕ → List ℤ → List ℤ
+    → List ℕ → List ℕ → List ℕ → List ℕ → List ℕ → List ℕ → List ℕ → List ℕ → List ℕ → List ℕ → ℕ → Type 0
+ApplyNumberedHaplotypesPromise s starts ends sizes features numbers partEnds featureEnds partSizes partFeatures links keys rows records reports links' keys' rows' records' reports' r =
+    let n = numberedSeveralLent s starts ends sizes features numbers partEnds featureEnds partSizes partFeatures links keys rows records reports in
+    (r ≡ numberedSeveralFault n)
+    × ((rows' ≡ numberedRowsAfter n rows)
+    × ((records' ≡ recordsAfter n records)
+    × ((reports' ≡ numberedReportsAfter n reports)
+    × (NumberedSeveralQueueKept n links links'
+    × NumberedSeveralQueueKept n keys keys'))))

@@ -1,8 +1,7 @@
-// The refusals that concern record numbers alone, and their place among the others.
+// The refusals that concern record numbers alone.
 use metrics::refusals::ACCEPTED;
 use metrics::refusals::ANSWER_ROOM;
 use metrics::refusals::BAD_LENGTHS;
-use metrics::refusals::BAD_SIZE;
 use metrics::refusals::REPEATED_NUMBER;
 ghost use mathlib.Core.Path.{_≡_};
 ghost use Prim.Native.Nat.{_<_};
@@ -10,7 +9,7 @@ ghost use lib.Dec.{eqb};
 ghost use lib.ListN.{length, getD};
 ghost use Rattle.params.specs.Numbers.{anyBelow};
 ghost use Rattle.dive.specs.Numbered.{repeatedNumber};
-ghost use Rattle.dive.specs.NumberChecks.{numberFault, placeOf, earlierOf};
+ghost use Rattle.dive.specs.NumberChecks.{numberFault};
 
 // Whether an earlier variant has the number of variant s.
 fn repeats(numbers: &[u32], s: usize) -> bool
@@ -40,11 +39,15 @@ fn repeated_number(numbers: &[u32]) -> bool
     false
 }
 
-// 6, 14 and 12 of V record numbers and their room. They are compared each with each, so more than 64 are left to the 5 that comes before.
-pub(crate) fn number_fault(v: usize, numbers: &[u32], record_room: usize) -> u32
-    ensures { λ r. ⌜ r ≡ numberFault v (now (numbers .entry)) «record_room» ⌝ }
+// 6, 14 and 12 of V record numbers and their room for n haplotypes. The numbers are compared each with each, so more than 64 are left to the 5 that comes before,
+// and more than 16 haplotypes to the 27.
+pub(crate) fn number_fault(v: usize, n: usize, numbers: &[u32], record_room: usize) -> u32
+    ensures { λ r. ⌜ r ≡ numberFault v n (now (numbers .entry)) «record_room» ⌝ }
 {
     if 64 < v {
+        return ACCEPTED;
+    }
+    if 16 < n {
         return ACCEPTED;
     }
     if numbers.len() != v {
@@ -53,32 +56,8 @@ pub(crate) fn number_fault(v: usize, numbers: &[u32], record_room: usize) -> u32
     if repeated_number(numbers) {
         return REPEATED_NUMBER;
     }
-    if record_room < v {
+    if record_room < v * n {
         return ANSWER_ROOM;
     }
     ACCEPTED
-}
-
-// Where a number of `number_fault` stands in the table of refusals: 14 right before 9.
-fn place_of(own: u32) -> u32
-    ensures { λ r. ⌜ r ≡ placeOf own ⌝ }
-{
-    if own == REPEATED_NUMBER {
-        BAD_SIZE
-    } else {
-        own
-    }
-}
-
-// The first in the table of the call's refusal, 0 where it has none, and the record numbers' own.
-pub(crate) fn earlier(other: u32, own: u32) -> u32
-    ensures { λ r. ⌜ r ≡ earlierOf other own ⌝ }
-{
-    if other == ACCEPTED {
-        return own;
-    }
-    if other < place_of(own) {
-        return other;
-    }
-    own
 }

@@ -5,55 +5,58 @@ use native.Mathlib.Omega.{arith}
 use native.Mathlib.Nat.{add-zero}
 use mathlib.Core.Path.{_≡_, refl, sym, ap, subst, _∙_}
 use mathlib.Core.Bool.{Bool, true, false, not, cond, _&&_}
-use mathlib.Core.List.{List, [], _∷_, _++_, append-assoc, append-nil}
+use mathlib.Core.List.{List, [], _∷_, _++_, flatten, append-assoc, append-nil}
 use mathlib.Core.Logic.{⊎-elim}
 use lib.Dec.{ltb, leb, eqb}
 use lib.ListN.{length, length-append}
 use borrow.Author.Tests.{le-ltb, leb-false, ltb-false, eqb-true}
 use Rattle.form.specs.declared.records.Kind.{Kind}
-use Rattle.form.specs.declared.records.Kind.the-variants.{End, Settings, Variant as VariantRecord, Part as PartRecord, Letters, Unknown}
+use Rattle.form.specs.declared.records.Kind.the-variants.{End, Settings, Variant as VariantRecord, Part as PartRecord, Letters, Next, Unknown}
 use Rattle.form.specs.declared.records.State.{State}
 use Rattle.form.specs.declared.records.Counts.{Counts}
 use Rattle.form.specs.declared.records.Scan.{Scan}
 use Rattle.form.specs.declared.records.Scan.the-variants.{Good, Refused}
-use Rattle.form.specs.Form.{kindOf, isEnd, isVariant, isPart, isLetters, isUnknown, bodyLen, inPlace, flagsOk, countOf, padOk, faultOf, after, run, outset, counted}
-use Rattle.form.specs.Job.{Variant, Part, lettersAfter, variantOf, partOf, variantHere, partHere, gather, jobOf, readOf, readJob}
-use Rattle.form.specs.Lent.{variantLetters, partLetters, jobCounts, scanOf}
+use Rattle.form.specs.Form.{kindOf, isEnd, isVariant, isPart, isLetters, isNext, isUnknown, bodyLen, inPlace, tooMany, flagsOk, countOf, padOk, faultOf, after, run, outset, counted}
+use Rattle.form.specs.Job.{Variant, Part, lettersAfter, variantOf, partOf, variantHere, partHere, gather, toFirst, haplotypesHere, haplotypesIn, jobOf, readOf, readJob}
+use Rattle.form.specs.Lent.{variantLetters, partLetters, breaksOf, jobCounts, scanOf}
 use Rattle.form.specs.Steps.{variantLettersHere, partLettersHere}
 use Rattle.form.proofs.FormLaws.{split, both, mixed, count-rest, end-kind}
 use Rattle.form.proofs.GatherLaws.{long-letters}
+use Rattle.form.proofs.HaplotypeLaws.{long-next, long-other, some-haplotype, long-breaks, flat-haplotypes}
 
 -- ---- a record with no fault fails none of the tests
-pub record Clear (a b c d e f g : Bool) : Type 0 where
+pub record Clear (a b c d e f g h : Bool) : Type 0 where
   pub known : a ≡ false
   pub whole : b ≡ false
   pub placed : c ≡ false
-  pub flags : d ≡ false
-  pub few : e ≡ false
-  pub padded : f ≡ false
-  pub last : g ≡ false
+  pub within : d ≡ false
+  pub flags : e ≡ false
+  pub few : f ≡ false
+  pub padded : g ≡ false
+  pub last : h ≡ false
 
 pub never : {n : ℕ} → suc n ≡ 0 → ⊥
 never e = omega arith
 
-clear : (a b c d e f g : Bool) → _≡_ {A = ℕ} (cond a 20 (cond b 21 (cond c 22 (cond d 24 (cond e 13 (cond f 23 (cond g 25 0))))))) 0 → Clear a b c d e f g
-clear true b c d e f g h = absurd (never h)
-clear false true c d e f g h = absurd (never h)
-clear false false true d e f g h = absurd (never h)
-clear false false false true e f g h = absurd (never h)
-clear false false false false true f g h = absurd (never h)
-clear false false false false false true g h = absurd (never h)
-clear false false false false false false true h = absurd (never h)
-clear false false false false false false false h = record { known = refl; whole = refl; placed = refl; flags = refl; few = refl; padded = refl; last = refl }
+clear : (a b c d e f g h : Bool) → _≡_ {A = ℕ} (cond a 20 (cond b 21 (cond c 22 (cond d 27 (cond e 24 (cond f 13 (cond g 23 (cond h 25 0)))))))) 0 → Clear a b c d e f g h
+clear true b c d e f g h z = absurd (never z)
+clear false true c d e f g h z = absurd (never z)
+clear false false true d e f g h z = absurd (never z)
+clear false false false true e f g h z = absurd (never z)
+clear false false false false true f g h z = absurd (never z)
+clear false false false false false true g h z = absurd (never z)
+clear false false false false false false true h z = absurd (never z)
+clear false false false false false false false true z = absurd (never z)
+clear false false false false false false false false z = record { known = refl; whole = refl; placed = refl; within = refl; flags = refl; few = refl; padded = refl; last = refl }
 
 not-back : (t : Bool) → not t ≡ false → t ≡ true
 not-back true e = refl
 not-back false e = let z : _≡_ {A = ℕ} 1 0 = cc in absurd (never z)
 
 module _ (st : State) (kind : Kind) (b : List ℕ) (none : faultOf st kind b ≡ 0) where
-  tests : Clear (isUnknown kind) (ltb (length b) (bodyLen kind)) (not (inPlace st kind)) (not (flagsOk kind b)) (ltb 131072 (countOf kind b)) (not (padOk st kind b)) (isEnd kind && ltb 0 (length b))
+  tests : Clear (isUnknown kind) (ltb (length b) (bodyLen kind)) (not (inPlace st kind)) (tooMany st kind) (not (flagsOk kind b)) (ltb 131072 (countOf kind b)) (not (padOk st kind b)) (isEnd kind && ltb 0 (length b))
   unfolding faultOf
-  tests = clear _ _ _ _ _ _ _ none
+  tests = clear _ _ _ _ _ _ _ _ none
 
   pub none-placed : inPlace st kind ≡ true
   none-placed = not-back _ (tests .placed)
@@ -76,6 +79,7 @@ owed-none st Settings h other = eqb-true _ _ (both _ _ h .0)
 owed-none st VariantRecord h other = eqb-true _ _ (both _ _ h .0)
 owed-none st PartRecord h other = eqb-true _ _ (both _ _ h .0)
 owed-none st Letters h other = mixed other
+owed-none st Next h other = eqb-true _ _ (both _ _ h .0)
 owed-none st Unknown h other = mixed (sym h)
 
 -- ---- one record
@@ -125,12 +129,23 @@ turn st Settings b f = turn-rest st Settings b refl refl refl (owed-none st Sett
 turn st VariantRecord b f = turn-variant st b (none-whole st VariantRecord b f) (owed-none st VariantRecord (none-placed st VariantRecord b f) refl)
 turn st PartRecord b f = turn-part st b (none-whole st PartRecord b f) (owed-none st PartRecord (none-placed st PartRecord b f) refl)
 turn st Letters b f = turn-letters st b
+turn st Next b f = turn-rest st Next b refl refl refl (owed-none st Next (none-placed st Next b f) refl)
 turn st Unknown b f = turn-rest st Unknown b refl refl refl (owed-none st Unknown (none-placed st Unknown b f) refl)
+
+-- a record that begins a haplotype is one break more, and one haplotype more
+break-turn : (st : State) (kind : Kind) (b : List ℕ) (rest : List (List Part)) → 1 ≤ length rest
+    → st .breaks + length (haplotypesHere kind b rest) ≡ after st kind b .breaks + length rest
+unfolding after
+break-turn st kind b rest h = ⊎-elim
+    (λ (e : isNext kind ≡ true). rw (long-next kind b rest h e, e) (omega arith))
+    (λ (e : isNext kind ≡ false). rw (long-other kind b rest h e, e))
+    (split (isNext kind))
 
 -- ---- the whole form
 pub record Tally (s : List ℕ) (n : ℕ) (st : State) (c : Counts) : Type 0 where
   pub variants : c .variants ≡ st .variants + length (gather variantHere s n)
   pub parts : c .parts ≡ st .parts + length (gather partHere s n)
+  pub breaks : c .breaks + 1 ≡ st .breaks + length (haplotypesIn s n)
   pub letters : c .letters ≡ st .letters + st .left + (length (gather variantLettersHere s n) + length (gather partLettersHere s n))
 
 good-is : {c d : Counts} → Good c ≡ Good d → c ≡ d
@@ -142,14 +157,14 @@ end-empty st kind [] f e = refl
 end-empty st kind (x ∷ b) f e = let h : length (x ∷ b) ≤ 0 = none-last st kind (x ∷ b) f e in let z : ⊥ = omega arith in absurd z
 
 at-end : (st : State) (k : ℕ) (c : Counts) → kindOf k ≡ End → st .left ≡ 0 → Good (counted st) ≡ Good c → Tally (k ∷ []) 0 st c
-unfolding gather variantHere partHere variantLettersHere partLettersHere
+unfolding gather haplotypesIn haplotypesHere toFirst variantHere partHere variantLettersHere partLettersHere
 at-end st k c e z g =
-    subst (λ (d : Counts). Tally (k ∷ []) 0 st d) (good-is g) (record { variants = rw e (omega arith); parts = rw e (omega arith); letters = rw e (omega arith) })
+    subst (λ (d : Counts). Tally (k ∷ []) 0 st d) (good-is g) (record { variants = rw e (omega arith); parts = rw e (omega arith); breaks = rw e; letters = rw e (omega arith) })
 
 pub tally : (s : List ℕ) (n : ℕ) (st : State) (c : Counts) → run s n st ≡ Good c → Tally s n st c
-unfolding run gather
+unfolding run gather haplotypesIn
 tally [] n st c e = let z : _≡_ {A = ℕ} 1 0 = cc in absurd (never z)
-tally (k ∷ b) (suc n) st c e = let t = tally b n st c e in record { variants = t .variants; parts = t .parts; letters = t .letters }
+tally (k ∷ b) (suc n) st c e = let t = tally b n st c e in record { variants = t .variants; parts = t .parts; breaks = t .breaks; letters = t .letters }
 tally (k ∷ b) zero st c e = ⊎-elim
     (λ (f : eqb (faultOf st (kindOf k) b) 0 ≡ true).
     let z : faultOf st (kindOf k) b ≡ 0 = eqb-true _ _ f in
@@ -166,6 +181,7 @@ tally (k ∷ b) zero st c e = ⊎-elim
     record {
       variants = t .variants ∙ simp length-append (omega (arith, u .variants));
       parts = t .parts ∙ simp length-append (omega (arith, u .parts));
+      breaks = t .breaks ∙ sym (break-turn st (kindOf k) b _ (some-haplotype b (bodyLen (kindOf k))));
       letters = t .letters ∙ simp length-append (omega (arith, u .letters));
     })
     (split (isEnd (kindOf k))))
@@ -220,10 +236,11 @@ unfolding jobCounts jobOf
 counts-are s c e =
     let t = tally s 0 outset c e in
     let p : c .variants ≡ length (gather variantHere s 0) = t .variants ∙ omega arith in
-    let q : c .parts ≡ length (gather partHere s 0) = t .parts ∙ omega arith in
-    let r : c .letters ≡ length (variantLetters (gather variantHere s 0) ++ partLetters (gather partHere s 0)) =
-    rw (letters-of-variants s 0, letters-of-parts s 0, length-append) (t .letters ∙ omega arith) in
-    λ i. record { variants = p i; parts = q i; letters = r i }
+    let q : c .parts ≡ length (flatten (haplotypesIn s 0)) = rw (flat-haplotypes s 0) (t .parts ∙ omega arith) in
+    let b : c .breaks ≡ length (breaksOf (haplotypesIn s 0)) = omega (arith, t .breaks, long-breaks (haplotypesIn s 0) (some-haplotype s 0)) in
+    let r : c .letters ≡ length (variantLetters (gather variantHere s 0) ++ partLetters (flatten (haplotypesIn s 0))) =
+    rw (flat-haplotypes s 0, letters-of-variants s 0, letters-of-parts s 0, length-append) (t .letters ∙ omega arith) in
+    λ i. record { variants = p i; parts = q i; breaks = b i; letters = r i }
 
 pub scan-is : (s : List ℕ) → run s 0 outset ≡ scanOf (readJob s)
 unfolding readJob scanOf

@@ -6,7 +6,7 @@ use native.Mathlib.Numerals.{add-one}
 use mathlib.Core.Path.{_≡_, refl, sym, ap, subst, _∙_}
 use mathlib.Core.Bool.{Bool, true, false, cond, _&&_}
 use mathlib.Core.List.{List, [], _∷_}
-use lib.Dec.{ltb, eqb}
+use lib.Dec.{ltb, leb, eqb}
 use lib.ListN.{length, getD, take, drop, length-take, length-drop}
 use lib.Seq.{drop-cons, getD-take, drop-nil}
 use borrow.Author.Tests.{lt-ltb, le-ltb, eq-eqb, ne-eqb}
@@ -17,10 +17,10 @@ use lib.ListN.{drop-of-length-le}
 use Rattle.form.specs.declared.records.Scan.{Scan}
 use Rattle.form.specs.declared.records.Scan.the-variants.{Good, Refused}
 use Rattle.form.specs.declared.records.Kind.{Kind}
-use Rattle.form.specs.declared.records.Kind.the-variants.{End, Settings, Variant, Part, Letters, Unknown}
+use Rattle.form.specs.declared.records.Kind.the-variants.{End, Settings, Variant, Part, Letters, Next, Unknown}
 use Rattle.form.specs.declared.records.Record.{Record}
-use Rattle.form.specs.Form.{kindOf, isEnd, isVariant, isPart, isLetters, isUnknown, shapeOf, bodyLen, inPlace, areFlags, flagsOk, countOf, recordOf, recordAt, padOk, allZero, faultOf, after, run, judge, counted}
-use Rattle.form.specs.Steps.{Next}
+use Rattle.form.specs.Form.{kindOf, isEnd, isVariant, isPart, isLetters, isNext, isUnknown, shapeOf, bodyLen, inPlace, areFlags, flagsOk, countOf, recordOf, recordAt, padOk, allZero, tooMany, faultOf, after, run, judge, counted}
+use Rattle.form.specs.Steps.{Follows}
 use Rattle.fields.specs.Fields.{le4}
 use Rattle.form.specs.declared.records.Shape.{Shape}
 use Rattle.form.specs.declared.records.State.{State}
@@ -40,9 +40,9 @@ pub mixed : {A : Type 0} → true ≡ false → A
 mixed e = let z : _≡_ {A = ℕ} 0 1 = cc in let w : ⊥ = omega arith in absurd w
 
 -- ---- the kind of a byte
-pub kind-rest : (k : ℕ) → (k ≡ 0 → ⊥) → (k ≡ 1 → ⊥) → (k ≡ 2 → ⊥) → (k ≡ 3 → ⊥) → (k ≡ 4 → ⊥) → Unknown ≡ kindOf k
+pub kind-rest : (k : ℕ) → (k ≡ 0 → ⊥) → (k ≡ 1 → ⊥) → (k ≡ 2 → ⊥) → (k ≡ 3 → ⊥) → (k ≡ 4 → ⊥) → (k ≡ 5 → ⊥) → Unknown ≡ kindOf k
 unfolding kindOf
-kind-rest k o p q r t = sym (rw (ne-eqb k 0 o, ne-eqb k 1 p, ne-eqb k 2 q, ne-eqb k 3 r, ne-eqb k 4 t))
+kind-rest k o p q r t u = sym (rw (ne-eqb k 0 o, ne-eqb k 1 p, ne-eqb k 2 q, ne-eqb k 3 r, ne-eqb k 4 t, ne-eqb k 5 u))
 
 -- ---- the place of a record: none but letters while letters are owed
 pub none-owed : {x : Bool} (left : ℕ) → left ≡ 0 → x ≡ eqb left 0 && x
@@ -55,8 +55,8 @@ some-owed x left h = rw (ne-eqb left 0 h)
 pub count-is : (b : List ℕ) {n : ℕ} {j k : Kind} → j ≡ k → n ≡ countOf j b → n ≡ countOf k b
 count-is b {n} {j} {k} e h = subst (λ (i : Kind). n ≡ countOf i b) e h
 
-pub next-is : {st : State} {j k : Kind} {b : List ℕ} {r : State} → j ≡ k → Next st k b r → Next st j b r
-next-is {st} {j} {k} {b} {r} e h = subst (λ (i : Kind). Next st i b r) (sym e) h
+pub follows-is : {st : State} {j k : Kind} {b : List ℕ} {r : State} → j ≡ k → Follows st k b r → Follows st j b r
+follows-is {st} {j} {k} {b} {r} e h = subst (λ (i : Kind). Follows st i b r) (sym e) h
 
 pub long : {j k : Kind} {m : ℕ} → j ≡ k → bodyLen j ≤ m → bodyLen k ≤ m
 long {j} {k} {m} e h = subst (λ (i : Kind). bodyLen i ≤ m) e h
@@ -67,6 +67,7 @@ letters-kind Settings e = mixed (sym e)
 letters-kind Variant e = mixed (sym e)
 letters-kind Part e = mixed (sym e)
 letters-kind Letters e = refl
+letters-kind Next e = mixed (sym e)
 letters-kind Unknown e = mixed (sym e)
 
 pub end-kind : (kind : Kind) → isEnd kind ≡ true → kind ≡ End
@@ -75,6 +76,7 @@ end-kind Settings e = mixed (sym e)
 end-kind Variant e = mixed (sym e)
 end-kind Part e = mixed (sym e)
 end-kind Letters e = mixed (sym e)
+end-kind Next e = mixed (sym e)
 end-kind Unknown e = mixed (sym e)
 
 pub short-body : (kind : Kind) → bodyLen kind ≤ 40
@@ -84,6 +86,7 @@ short-body Settings = omega arith
 short-body Variant = omega arith
 short-body Part = omega arith
 short-body Letters = omega arith
+short-body Next = omega arith
 short-body Unknown = omega arith
 
 few-flags : (kind : Kind) → shapeOf kind .flags + shapeOf kind .«flag_count» ≤ 64
@@ -92,6 +95,7 @@ few-flags Settings = omega arith
 few-flags Variant = omega arith
 few-flags Part = omega arith
 few-flags Letters = omega arith
+few-flags Next = omega arith
 few-flags Unknown = omega arith
 
 pub count-rest : (kind : Kind) (b : List ℕ) → isVariant kind ≡ false → isPart kind ≡ false → countOf kind b ≡ 0
@@ -101,6 +105,7 @@ count-rest Settings b p q = refl
 count-rest Variant b p q = mixed p
 count-rest Part b p q = mixed q
 count-rest Letters b p q = refl
+count-rest Next b p q = refl
 count-rest Unknown b p q = refl
 
 -- s is the shape that the table gives
@@ -166,6 +171,16 @@ pub pad-letters : (st : State) (kind : Kind) (b : List ℕ) → isLetters kind �
 unfolding padOk
 pad-letters st kind b h = sym (rw h)
 
+-- ---- one haplotype too many
+module _ (st : State) (kind : Kind) where
+  pub not-next : isNext kind ≡ false → false ≡ tooMany st kind
+  unfolding tooMany
+  not-next h = sym (rw h)
+
+  pub next-late : isNext kind ≡ true → leb 15 (st .breaks) ≡ tooMany st kind
+  unfolding tooMany
+  next-late h = sym (rw h)
+
 -- ---- the faults, in their order
 module _ (st : State) (kind : Kind) (b : List ℕ) where
   pub fault-20 : isUnknown kind ≡ true → 20 ≡ faultOf st kind b
@@ -186,69 +201,78 @@ module _ (st : State) (kind : Kind) (b : List ℕ) where
       fault-22 h = simp (known, le-ltb _ _ whole′, h)
 
       module _ (placed : inPlace st kind ≡ true) where
-        pub fault-24 : flagsOk kind b ≡ false → 24 ≡ faultOf st kind b
+        pub fault-27 : tooMany st kind ≡ true → 27 ≡ faultOf st kind b
         unfolding faultOf
-        fault-24 h = simp (known, le-ltb _ _ whole′, placed, h)
+        fault-27 h = simp (known, le-ltb _ _ whole′, placed, h)
 
-        module _ (flags : flagsOk kind b ≡ true) where
-          pub fault-13 : 131072 < countOf kind b → 13 ≡ faultOf st kind b
+        module _ (within : tooMany st kind ≡ false) where
+          pub fault-24 : flagsOk kind b ≡ false → 24 ≡ faultOf st kind b
           unfolding faultOf
-          fault-13 h = simp (known, le-ltb _ _ whole′, placed, flags, lt-ltb _ _ h)
+          fault-24 h = simp (known, le-ltb _ _ whole′, placed, within, h)
 
-          module _ (few : countOf kind b ≤ 131072) where
-            pub fault-23 : padOk st kind b ≡ false → 23 ≡ faultOf st kind b
+          module _ (flags : flagsOk kind b ≡ true) where
+            pub fault-13 : 131072 < countOf kind b → 13 ≡ faultOf st kind b
             unfolding faultOf
-            fault-23 h = simp (known, le-ltb _ _ whole′, placed, flags, le-ltb _ _ few, h)
+            fault-13 h = simp (known, le-ltb _ _ whole′, placed, within, flags, lt-ltb _ _ h)
 
-            module _ (padded : padOk st kind b ≡ true) where
-              pub fault-25 : isEnd kind ≡ true → 0 < length b → 25 ≡ faultOf st kind b
+            module _ (few : countOf kind b ≤ 131072) where
+              pub fault-23 : padOk st kind b ≡ false → 23 ≡ faultOf st kind b
               unfolding faultOf
-              fault-25 h g = simp (known, le-ltb _ _ whole′, placed, flags, le-ltb _ _ few, padded, h, lt-ltb _ _ g)
+              fault-23 h = simp (known, le-ltb _ _ whole′, placed, within, flags, le-ltb _ _ few, h)
 
-              pub fault-none-end : isEnd kind ≡ true → length b ≤ 0 → 0 ≡ faultOf st kind b
-              unfolding faultOf
-              fault-none-end h g = simp (known, le-ltb _ _ whole′, placed, flags, le-ltb _ _ few, padded, h, le-ltb _ _ g)
+              module _ (padded : padOk st kind b ≡ true) where
+                pub fault-25 : isEnd kind ≡ true → 0 < length b → 25 ≡ faultOf st kind b
+                unfolding faultOf
+                fault-25 h g = simp (known, le-ltb _ _ whole′, placed, within, flags, le-ltb _ _ few, padded, h, lt-ltb _ _ g)
 
-              pub fault-none : isEnd kind ≡ false → 0 ≡ faultOf st kind b
-              unfolding faultOf
-              fault-none h = simp (known, le-ltb _ _ whole′, placed, flags, le-ltb _ _ few, padded, h)
+                pub fault-none-end : isEnd kind ≡ true → length b ≤ 0 → 0 ≡ faultOf st kind b
+                unfolding faultOf
+                fault-none-end h g = simp (known, le-ltb _ _ whole′, placed, within, flags, le-ltb _ _ few, padded, h, le-ltb _ _ g)
+
+                pub fault-none : isEnd kind ≡ false → 0 ≡ faultOf st kind b
+                unfolding faultOf
+                fault-none h = simp (known, le-ltb _ _ whole′, placed, within, flags, le-ltb _ _ few, padded, h)
 
 -- ---- the state after a record
 module _ (st : State) (b : List ℕ) where
-  pub next-last : st .left ≤ 16
-      → Next st Letters [] (record { phase = st .phase; left = 0; variants = st .variants; parts = st .parts; letters = st .letters + st .left })
+  pub follows-last : st .left ≤ 16
+      → Follows st Letters [] (record { phase = st .phase; left = 0; variants = st .variants; parts = st .parts; breaks = st .breaks; letters = st .letters + st .left })
   unfolding after bodyLen
-  next-last h = record { is = simp (le-leb _ _ h); variants-grow = omega arith; parts-grow = omega arith; letters-grow = omega arith }
+  follows-last h = record { is = simp (le-leb _ _ h); variants-grow = omega arith; parts-grow = omega arith; breaks-grow = omega arith; letters-grow = omega arith }
 
-  pub next-letters : 16 < st .left
-      → Next st Letters [] (record { phase = st .phase; left = st .left - 16; variants = st .variants; parts = st .parts; letters = st .letters + 16 })
+  pub follows-letters : 16 < st .left
+      → Follows st Letters [] (record { phase = st .phase; left = st .left - 16; variants = st .variants; parts = st .parts; breaks = st .breaks; letters = st .letters + 16 })
   unfolding after bodyLen
-  next-letters h = record { is = simp (lt-leb _ _ h); variants-grow = omega arith; parts-grow = omega arith; letters-grow = omega arith }
+  follows-letters h = record { is = simp (lt-leb _ _ h); variants-grow = omega arith; parts-grow = omega arith; breaks-grow = omega arith; letters-grow = omega arith }
 
   -- what a letters record's body holds changes nothing
-  pub next-any : {r : State} → Next st Letters [] r → Next st Letters b r
+  pub follows-any : {r : State} → Follows st Letters [] r → Follows st Letters b r
   unfolding after
-  next-any n = record { is = n .is; variants-grow = n .variants-grow; parts-grow = n .parts-grow; letters-grow = n .letters-grow }
+  follows-any n = record { is = n .is; variants-grow = n .variants-grow; parts-grow = n .parts-grow; breaks-grow = n .breaks-grow; letters-grow = n .letters-grow }
 
-  pub next-settings : (n : ℕ) → n ≡ countOf Settings b → Next st Settings b (record { phase = 1; left = n; variants = st .variants; parts = st .parts; letters = st .letters })
+  pub follows-settings : (n : ℕ) → n ≡ countOf Settings b → Follows st Settings b (record { phase = 1; left = n; variants = st .variants; parts = st .parts; breaks = st .breaks; letters = st .letters })
   unfolding after
-  next-settings n e = record { is = rw e; variants-grow = omega arith; parts-grow = omega arith; letters-grow = omega arith }
+  follows-settings n e = record { is = rw e; variants-grow = omega arith; parts-grow = omega arith; breaks-grow = omega arith; letters-grow = omega arith }
 
-  pub next-variant : (n : ℕ) → n ≡ countOf Variant b → Next st Variant b (record { phase = st .phase; left = n; variants = st .variants + 1; parts = st .parts; letters = st .letters })
+  pub follows-variant : (n : ℕ) → n ≡ countOf Variant b → Follows st Variant b (record { phase = st .phase; left = n; variants = st .variants + 1; parts = st .parts; breaks = st .breaks; letters = st .letters })
   unfolding after
-  next-variant n e = record { is = rw e; variants-grow = omega arith; parts-grow = omega arith; letters-grow = omega arith }
+  follows-variant n e = record { is = rw e; variants-grow = omega arith; parts-grow = omega arith; breaks-grow = omega arith; letters-grow = omega arith }
 
-  pub next-part : (n : ℕ) → n ≡ countOf Part b → Next st Part b (record { phase = 2; left = n; variants = st .variants; parts = st .parts + 1; letters = st .letters })
+  pub follows-part : (n : ℕ) → n ≡ countOf Part b → Follows st Part b (record { phase = 2; left = n; variants = st .variants; parts = st .parts + 1; breaks = st .breaks; letters = st .letters })
   unfolding after
-  next-part n e = record { is = rw e; variants-grow = omega arith; parts-grow = omega arith; letters-grow = omega arith }
+  follows-part n e = record { is = rw e; variants-grow = omega arith; parts-grow = omega arith; breaks-grow = omega arith; letters-grow = omega arith }
 
-  pub next-end : (n : ℕ) → n ≡ countOf End b → Next st End b (record { phase = st .phase; left = n; variants = st .variants; parts = st .parts; letters = st .letters })
+  pub follows-next : (n : ℕ) → n ≡ countOf Next b → Follows st Next b (record { phase = 2; left = n; variants = st .variants; parts = st .parts; breaks = st .breaks + 1; letters = st .letters })
   unfolding after
-  next-end n e = record { is = rw e; variants-grow = omega arith; parts-grow = omega arith; letters-grow = omega arith }
+  follows-next n e = record { is = rw e; variants-grow = omega arith; parts-grow = omega arith; breaks-grow = omega arith; letters-grow = omega arith }
 
-  pub next-unknown : (n : ℕ) → n ≡ countOf Unknown b → Next st Unknown b (record { phase = st .phase; left = n; variants = st .variants; parts = st .parts; letters = st .letters })
+  pub follows-end : (n : ℕ) → n ≡ countOf End b → Follows st End b (record { phase = st .phase; left = n; variants = st .variants; parts = st .parts; breaks = st .breaks; letters = st .letters })
   unfolding after
-  next-unknown n e = record { is = rw e; variants-grow = omega arith; parts-grow = omega arith; letters-grow = omega arith }
+  follows-end n e = record { is = rw e; variants-grow = omega arith; parts-grow = omega arith; breaks-grow = omega arith; letters-grow = omega arith }
+
+  pub follows-unknown : (n : ℕ) → n ≡ countOf Unknown b → Follows st Unknown b (record { phase = st .phase; left = n; variants = st .variants; parts = st .parts; breaks = st .breaks; letters = st .letters })
+  unfolding after
+  follows-unknown n e = record { is = rw e; variants-grow = omega arith; parts-grow = omega arith; breaks-grow = omega arith; letters-grow = omega arith }
 
 -- ---- reading on
 pub fault-long : (st : State) (kind : Kind) (b : List ℕ) → faultOf st kind b ≡ 0 → bodyLen kind ≤ length b

@@ -12,12 +12,12 @@ use lib.ListN.{length, getD, drop}
 use lib.Seq.{getD-drop}
 use borrow.Author.Tests.{le-ltb, leb-false, eqb-true}
 use Rattle.form.specs.declared.records.Kind.{Kind}
-use Rattle.form.specs.declared.records.Kind.the-variants.{End, Settings, Variant, Part, Letters, Unknown}
+use Rattle.form.specs.declared.records.Kind.the-variants.{End, Settings, Variant, Part, Letters, Next, Unknown}
 use Rattle.form.specs.declared.records.State.{State}
 use Rattle.form.specs.declared.records.Counts.{Counts}
 use Rattle.form.specs.declared.records.Scan.{Scan}
 use Rattle.form.specs.declared.records.Scan.the-variants.{Good, Refused}
-use Rattle.form.specs.Form.{kindOf, isEnd, isSettings, isVariant, isPart, isLetters, bodyLen, inPlace, countOf, faultOf, after, judge, run, outset}
+use Rattle.form.specs.Form.{kindOf, isEnd, isSettings, isVariant, isPart, isLetters, isNext, bodyLen, inPlace, countOf, faultOf, after, judge, run, outset}
 use Rattle.form.specs.Job.{lettersIn, lettersAfter, gather}
 use Rattle.form.specs.Steps.{variantLettersHere, partLettersHere, lettersGiven, lettersOwed, lettersWalk}
 use Rattle.form.proofs.FormLaws.{split, both, mixed, count-rest, end-kind}
@@ -78,6 +78,7 @@ module _ (st : State) (late : st .phase ≡ 2) where
   late-kind Variant h = let p : eqb (st .phase) 1 ≡ true = both (eqb (st .left) 0) _ h .1 in let e : false ≡ true = rw late at p in mixed (sym e)
   late-kind Part h = (refl, refl)
   late-kind Letters h = (refl, refl)
+  late-kind Next h = (refl, refl)
   late-kind Unknown h = (refl, refl)
 
   module _ (kind : Kind) (b : List ℕ) (none : faultOf st kind b ≡ 0) where
@@ -89,7 +90,10 @@ module _ (st : State) (late : st .phase ≡ 2) where
     unfolding after
     stays-late = ⊎-elim
         (λ (t : isPart kind ≡ true). rw t)
-        (λ (t : isPart kind ≡ false). rw (t, late-kind kind (none-placed st kind b none) .0) late)
+        (λ (t : isPart kind ≡ false). ⊎-elim
+        (λ (u : isNext kind ≡ true). rw (t, u))
+        (λ (u : isNext kind ≡ false). rw (t, u, late-kind kind (none-placed st kind b none) .0) late)
+        (split (isNext kind)))
         (split (isPart kind))
 
 no-more-variants : (s : List ℕ) (n : ℕ) (st : State) (c : Counts) → run s n st ≡ Good c → st .phase ≡ 2 → gather variantLettersHere s n ≡ []
@@ -151,6 +155,7 @@ module _ (st : State) (b : List ℕ) (G2 G3 : List ℕ) where
   turn Variant = turn-variant
   turn Part = turn-part
   turn Letters = turn-letters
+  turn Next = turn-rest Next refl refl refl
   turn Unknown = turn-rest Unknown refl refl refl
 
 at-end : (st : State) (k : ℕ) → kindOf k ≡ End → st .left ≡ 0

@@ -1,4 +1,4 @@
--- Document 01, "Job form": records of one byte of kind and a body, and the first fault, front to back.
+-- Document 01, "Job form", and change request P1: records of one byte of kind and a body, and the first fault, front to back.
 use Prim.Native.Nat.{ℕ, zero, suc, _+_, _-_}
 use mathlib.Core.List.{List, [], _∷_}
 use mathlib.Core.Bool.{Bool, true, false, cond, not, _&&_}
@@ -6,7 +6,7 @@ use lib.ListN.{getD, length, take, drop}
 use lib.Dec.{ltb, leb, eqb}
 use Rattle.fields.specs.Fields.{le4}
 use Rattle.form.specs.declared.records.Kind.{Kind}
-use Rattle.form.specs.declared.records.Kind.the-variants.{End, Settings, Variant, Part, Letters, Unknown}
+use Rattle.form.specs.declared.records.Kind.the-variants.{End, Settings, Variant, Part, Letters, Next, Unknown}
 use Rattle.form.specs.declared.records.Record.{Record}
 use Rattle.form.specs.declared.records.Shape.{Shape}
 use Rattle.form.specs.declared.records.State.{State}
@@ -30,40 +30,49 @@ partKind = 3
 abbrev pub lettersKind : ℕ
 lettersKind = 4
 
+-- begins the next haplotype
+abbrev pub nextKind : ℕ
+nextKind = 5
+
 unfoldable pub kindOf : ℕ → Kind
 kindOf byte =
     cond (eqb byte endKind) End
     (cond (eqb byte settingsKind) Settings
     (cond (eqb byte variantKind) Variant
     (cond (eqb byte partKind) Part
-    (cond (eqb byte lettersKind) Letters Unknown))))
+    (cond (eqb byte lettersKind) Letters
+    (cond (eqb byte nextKind) Next Unknown)))))
 
 -- one value for each kind
-abbrev pub byKind : {A : Type 0} → A → A → A → A → A → A → Kind → A
-byKind end settings variant part letters unknown End = end
-byKind end settings variant part letters unknown Settings = settings
-byKind end settings variant part letters unknown Variant = variant
-byKind end settings variant part letters unknown Part = part
-byKind end settings variant part letters unknown Letters = letters
-byKind end settings variant part letters unknown Unknown = unknown
+abbrev pub byKind : {A : Type 0} → A → A → A → A → A → A → A → Kind → A
+byKind end settings variant part letters next unknown End = end
+byKind end settings variant part letters next unknown Settings = settings
+byKind end settings variant part letters next unknown Variant = variant
+byKind end settings variant part letters next unknown Part = part
+byKind end settings variant part letters next unknown Letters = letters
+byKind end settings variant part letters next unknown Next = next
+byKind end settings variant part letters next unknown Unknown = unknown
 
 abbrev pub isEnd : Kind → Bool
-isEnd kind = byKind true false false false false false kind
+isEnd kind = byKind true false false false false false false kind
 
 abbrev pub isSettings : Kind → Bool
-isSettings kind = byKind false true false false false false kind
+isSettings kind = byKind false true false false false false false kind
 
 abbrev pub isVariant : Kind → Bool
-isVariant kind = byKind false false true false false false kind
+isVariant kind = byKind false false true false false false false kind
 
 abbrev pub isPart : Kind → Bool
-isPart kind = byKind false false false true false false kind
+isPart kind = byKind false false false true false false false kind
 
 abbrev pub isLetters : Kind → Bool
-isLetters kind = byKind false false false false true false kind
+isLetters kind = byKind false false false false true false false kind
+
+abbrev pub isNext : Kind → Bool
+isNext kind = byKind false false false false false true false kind
 
 abbrev pub isUnknown : Kind → Bool
-isUnknown kind = byKind false false false false false true kind
+isUnknown kind = byKind false false false false false false true kind
 
 -- how long the bodies of settings, variant, part and letters are
 abbrev pub settingsLen : ℕ
@@ -89,18 +98,20 @@ shapeOf Settings = shape settingsLen 1 3 0
 shapeOf Variant = shape variantLen 20 1 21
 shapeOf Part = shape partLen 4 1 5
 shapeOf Letters = shape lettersLen 0 0 0
+shapeOf Next = shape 0 0 0 0
 shapeOf Unknown = shape 0 0 0 0
 
 unfoldable pub bodyLen : Kind → ℕ
 bodyLen kind = shapeOf kind .body
 
--- While letters are owed, only they may follow. Phase 0: settings; 1: variants, parts and the end; 2: parts and the end.
+-- While letters are owed, only they may follow. Phase 0: settings; 1: variants, parts, the next haplotype and the end; 2: the same without variants.
 unfoldable pub inPlace : State → Kind → Bool
 inPlace st Letters = ltb 0 (st .left)
 inPlace st Settings = eqb (st .left) 0 && eqb (st .phase) 0
 inPlace st Variant = eqb (st .left) 0 && eqb (st .phase) 1
 inPlace st Part = eqb (st .left) 0 && ltb 0 (st .phase)
 inPlace st End = eqb (st .left) 0 && ltb 0 (st .phase)
+inPlace st Next = eqb (st .left) 0 && ltb 0 (st .phase)
 inPlace st Unknown = false
 
 -- n flags from the i-th byte on
@@ -130,32 +141,41 @@ allZero (x ∷ xs) = eqb x 0 && allZero xs
 unfoldable pub padOk : State → Kind → List ℕ → Bool
 padOk st kind b = cond (isLetters kind) (allZero (drop (st .left) (take lettersLen b))) true
 
+-- All haplotypes but the first begin with a record of their own: the sixteenth would begin a seventeenth.
+abbrev pub mostBreaks : ℕ
+mostBreaks = 15
+
+unfoldable pub tooMany : State → Kind → Bool
+tooMany st kind = isNext kind && leb mostBreaks (st .breaks)
+
 -- the first fault of a record with b from its body on, or 0
 unfoldable pub faultOf : State → Kind → List ℕ → ℕ
 faultOf st kind b =
     cond (isUnknown kind) 20
     (cond (ltb (length b) (bodyLen kind)) 21
     (cond (not (inPlace st kind)) 22
+    (cond (tooMany st kind) 27
     (cond (not (flagsOk kind b)) 24
     (cond (ltb 131072 (countOf kind b)) 13
     (cond (not (padOk st kind b)) 23
-    (cond (isEnd kind && ltb 0 (length b)) 25 0))))))
+    (cond (isEnd kind && ltb 0 (length b)) 25 0)))))))
 
 -- what is known after a record with no fault
 unfoldable pub after : State → Kind → List ℕ → State
 after st kind b = record {
-  phase = cond (isPart kind) 2 (cond (isSettings kind) 1 (st .phase));
+  phase = cond (isPart kind) 2 (cond (isNext kind) 2 (cond (isSettings kind) 1 (st .phase)));
   left = cond (isLetters kind) (cond (leb (st .left) lettersLen) 0 (st .left - lettersLen)) (countOf kind b);
   variants = cond (isVariant kind) (st .variants + 1) (st .variants);
   parts = cond (isPart kind) (st .parts + 1) (st .parts);
+  breaks = cond (isNext kind) (st .breaks + 1) (st .breaks);
   letters = cond (isLetters kind) (st .letters + cond (leb (st .left) lettersLen) (st .left) lettersLen) (st .letters);
 }
 
 abbrev pub outset : State
-outset = record { phase = 0; left = 0; variants = 0; parts = 0; letters = 0 }
+outset = record { phase = 0; left = 0; variants = 0; parts = 0; breaks = 0; letters = 0 }
 
 abbrev pub counted : State → Counts
-counted st = record { variants = st .variants; parts = st .parts; letters = st .letters }
+counted st = record { variants = st .variants; parts = st .parts; breaks = st .breaks; letters = st .letters }
 
 abbrev pub judge : ℕ → Kind → State → Scan → Scan
 judge f kind st rest = cond (eqb f 0) (cond (isEnd kind) (Good (counted st)) rest) (Refused f)

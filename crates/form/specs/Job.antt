@@ -1,7 +1,7 @@
--- Document 01, "Job form": a job is its settings, its variants with their letters, and its parts with their letters.
+-- Document 01, "Job form", and change request P1: a job is its settings, its variants with their letters, and its haplotypes, each the list of its parts with their letters.
 -- What bytes in good form hold, and the bytes of a job.
 use Prim.Native.Nat.{ℕ, zero, suc, _+_, _/_}
-use mathlib.Core.List.{List, [], _∷_, _++_}
+use mathlib.Core.List.{List, [], _∷_, _++_, flatten}
 use mathlib.Core.Bool.{Bool, cond}
 use lib.IntN.{ℤ}
 use lib.ListN.{getD, length, take, drop, replicate}
@@ -9,7 +9,7 @@ use lib.Dec.{ltb, eqb}
 use Rattle.params.specs.declared.Settings.{Settings}
 use Rattle.fields.specs.Fields.{le4, le8, signedOf, bytes4, bytes8, wordOf}
 use Rattle.form.specs.Settings40.{settingsIn, settingsBytes, flag}
-use Rattle.form.specs.Form.{endKind, settingsKind, variantKind, partKind, lettersKind, variantLen, partLen, lettersLen, kindOf, isVariant, isPart, shapeOf, bodyLen, countOf, run, outset}
+use Rattle.form.specs.Form.{endKind, settingsKind, variantKind, partKind, lettersKind, nextKind, variantLen, partLen, lettersLen, kindOf, isVariant, isPart, isNext, shapeOf, bodyLen, countOf, run, outset}
 use Rattle.form.specs.declared.records.Kind.{Kind}
 use Rattle.form.specs.declared.records.Kind.the-variants.{Variant as VariantRecord, Part as PartRecord}
 use Rattle.form.specs.declared.records.Scan.{Scan}
@@ -30,7 +30,11 @@ pub record Part : Type 0 where
 pub record Job : Type 0 where
   pub settings : Settings
   pub variants : List Variant
-  pub parts : List Part
+  pub haplotypes : List (List Part)
+
+-- the parts of all haplotypes, one behind the other
+abbrev pub allParts : Job → List Part
+allParts job = flatten (job .haplotypes)
 
 -- Reading. n letters from the i-th on, of the letters records b: sixteen letters behind each kind.
 unfoldable pub lettersIn : List ℕ → ℕ → ℕ → List ℕ
@@ -70,8 +74,23 @@ gather here [] n = []
 gather here (k ∷ b) (suc n) = gather here b n
 gather here (k ∷ b) zero = here (kindOf k) b ++ gather here b (bodyLen (kindOf k))
 
+-- parts before those of the first haplotype
+unfoldable pub toFirst : List Part → List (List Part) → List (List Part)
+toFirst xs [] = xs ∷ []
+toFirst xs (first ∷ rest) = (xs ++ first) ∷ rest
+
+-- what a record makes of the haplotypes behind it
+unfoldable pub haplotypesHere : Kind → List ℕ → List (List Part) → List (List Part)
+haplotypesHere kind b rest = cond (isNext kind) ([] ∷ rest) (toFirst (partHere kind b) rest)
+
+-- the haplotypes that the records of a form make, the last of no parts at first; the first n bytes belong to a record that was read already
+unfoldable pub haplotypesIn : List ℕ → ℕ → List (List Part)
+haplotypesIn [] n = [] ∷ []
+haplotypesIn (k ∷ b) (suc n) = haplotypesIn b n
+haplotypesIn (k ∷ b) zero = haplotypesHere (kindOf k) b (haplotypesIn b (bodyLen (kindOf k)))
+
 unfoldable pub jobOf : List ℕ → Job
-jobOf s = record { settings = settingsIn (drop 1 s); variants = gather variantHere s 0; parts = gather partHere s 0 }
+jobOf s = record { settings = settingsIn (drop 1 s); variants = gather variantHere s 0; haplotypes = haplotypesIn s 0 }
 
 -- the number of the first fault, or the job
 pub data Read : Type 0 where
@@ -122,5 +141,14 @@ unfoldable pub partsBytes : List Part → List ℕ
 partsBytes [] = []
 partsBytes (x ∷ xs) = partBytes x ++ partsBytes xs
 
+-- each further haplotype begins with a record of its own
+unfoldable pub furtherBytes : List (List Part) → List ℕ
+furtherBytes [] = []
+furtherBytes (xs ∷ rest) = nextKind ∷ (partsBytes xs ++ furtherBytes rest)
+
+unfoldable pub haplotypesBytes : List (List Part) → List ℕ
+haplotypesBytes [] = []
+haplotypesBytes (first ∷ rest) = partsBytes first ++ furtherBytes rest
+
 unfoldable pub jobBytes : Job → List ℕ
-jobBytes job = settingsKind ∷ (settingsBytes (job .settings) ++ (variantsBytes (job .variants) ++ (partsBytes (job .parts) ++ (endKind ∷ []))))
+jobBytes job = settingsKind ∷ (settingsBytes (job .settings) ++ (variantsBytes (job .variants) ++ (haplotypesBytes (job .haplotypes) ++ (endKind ∷ []))))

@@ -5,22 +5,23 @@ use mathlib.Core.List.{List, [], _∷_, _++_}
 use mathlib.Core.Bool.{cond}
 use lib.ListN.{length}
 use lib.Dec.{ltb, leb}
-use Rattle.form.specs.Form.{lettersKind, lettersLen, kindOf, isVariant, isPart, isLetters, bodyLen, countOf, after}
-use Rattle.form.specs.Job.{lettersIn, lettersAfter}
+use Rattle.form.specs.Form.{lettersKind, lettersLen, kindOf, isVariant, isPart, isLetters, isNext, bodyLen, countOf, after}
+use Rattle.form.specs.Job.{lettersIn, lettersAfter, partHere}
 use Rattle.form.specs.declared.records.Kind.{Kind}
 use Rattle.form.specs.declared.records.Kind.the-variants.{Variant, Part}
 use Rattle.form.specs.declared.records.State.{State}
 
 -- a state that a record with no fault leads to, with bounds that keep the counts within the input's length
-pub record Next (st : State) (kind : Kind) (b : List ℕ) (r : State) : Type 0 where
+pub record Follows (st : State) (kind : Kind) (b : List ℕ) (r : State) : Type 0 where
   pub is : r ≡ after st kind b
   pub variants-grow : r .variants ≤ st .variants + 1
   pub parts-grow : r .parts ≤ st .parts + 1
+  pub breaks-grow : r .breaks ≤ st .breaks + 1
   pub letters-grow : r .letters ≤ st .letters + bodyLen kind
 
 -- counts that leave room for one more record
 abbrev pub Small : State → ℕ → Type 0
-Small st n = (st .variants ≤ n) × ((st .parts ≤ n) × (st .letters ≤ n))
+Small st n = (st .variants ≤ n) × ((st .parts ≤ n) × ((st .breaks ≤ n) × (st .letters ≤ n)))
 
 -- the letters behind a variant, and behind a part
 unfoldable pub variantLettersHere : Kind → List ℕ → List ℕ
@@ -43,3 +44,13 @@ lettersWalk [] n left = []
 lettersWalk (k ∷ b) (suc n) left = lettersWalk b n left
 lettersWalk (k ∷ b) zero left =
     lettersIn (lettersKind ∷ b) 0 (lettersGiven (kindOf k) left) ++ lettersWalk b (bodyLen (kindOf k)) (lettersOwed (kindOf k) (countOf (kindOf k) b) left)
+
+-- a haplotype that begins at a record, behind p parts
+unfoldable pub breakHere : Kind → ℕ → List ℕ
+breakHere kind p = cond (isNext kind) (p ∷ []) []
+
+-- how many parts stand before each haplotype that begins in the bytes, of which the first n belong to a record that was read already, behind p parts
+unfoldable pub breaksWalk : List ℕ → ℕ → ℕ → List ℕ
+breaksWalk [] n p = []
+breaksWalk (k ∷ b) (suc n) p = breaksWalk b n p
+breaksWalk (k ∷ b) zero p = breakHere (kindOf k) p ++ breaksWalk b (bodyLen (kindOf k)) (p + length (partHere (kindOf k) b))

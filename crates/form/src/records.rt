@@ -6,15 +6,16 @@ use metrics::refusals::BAD_PADDING;
 use metrics::refusals::BYTES_AFTER_END;
 use metrics::refusals::CUT_SHORT;
 use metrics::refusals::OUT_OF_PLACE;
+use metrics::refusals::TOO_MANY_HAPLOTYPES;
 use metrics::refusals::TOO_MANY_LETTERS;
 use metrics::refusals::UNKNOWN_KIND;
 ghost use mathlib.Core.Path.{_≡_};
 ghost use mathlib.Core.List.{[]};
 ghost use Prim.Native.Nat.{_≤_, _+_, _^_};
 ghost use lib.ListN.{length, drop, take};
-ghost use Rattle.form.specs.Form.{isEnd, isLetters, isUnknown, shapeOf, bodyLen, inPlace, areFlags, flagsOk, countOf, allZero, padOk, faultOf, outset, run};
+ghost use Rattle.form.specs.Form.{isEnd, isLetters, isNext, isUnknown, shapeOf, bodyLen, inPlace, areFlags, flagsOk, countOf, allZero, padOk, tooMany, faultOf, outset, run};
 ghost use Rattle.form.specs.declared.records.Kind.the-variants.{Letters};
-ghost use Rattle.form.specs.Steps.{Next, Small};
+ghost use Rattle.form.specs.Steps.{Follows, Small};
 ghost use Rattle.form.specs.Promises.{KindOfPromise, BodyLenPromise, RecordAtPromise};
 
 // What is known between two records: which kinds may follow, how many letters are owed, and the counts so far.
@@ -23,12 +24,14 @@ pub struct State {
     pub left: u32,
     pub variants: usize,
     pub parts: usize,
+    pub breaks: usize,
     pub letters: usize,
 }
 
 pub struct Counts {
     pub variants: usize,
     pub parts: usize,
+    pub breaks: usize,
     pub letters: usize,
 }
 
@@ -43,6 +46,7 @@ pub enum Kind {
     Variant,
     Part,
     Letters,
+    Next,
     Unknown,
 }
 
@@ -63,8 +67,12 @@ pub const VARIANT: u8 = 2;
 pub const PART: u8 = 3;
 
 pub const LETTERS: u8 = 4;
+
+pub const NEXT: u8 = 5;
 // what one sequence may have
 pub const MOST_LETTERS: u32 = 131072;
+// of a job's 16 haplotypes all but the first begin with a record of their own
+pub const MOST_BREAKS: usize = 15;
 // how long a kind's body is
 pub const SETTINGS_BODY: usize = 40;
 
@@ -112,6 +120,7 @@ pub fn kind_of(byte: u8) -> Kind
         2 => Kind::Variant,
         3 => Kind::Part,
         4 => Kind::Letters,
+        5 => Kind::Next,
         _ => Kind::Unknown,
     }
 }
@@ -141,6 +150,12 @@ fn shape_of(kind: Kind) -> Shape
         },
         Kind::Letters => Shape {
             body: LETTERS_BODY,
+            flags: 0,
+            flag_count: 0,
+            count: 0,
+        },
+        Kind::Next => Shape {
+            body: 0,
             flags: 0,
             flag_count: 0,
             count: 0,
@@ -177,6 +192,7 @@ fn is_end(kind: Kind) -> bool
         Kind::Variant => false,
         Kind::Part => false,
         Kind::Letters => false,
+        Kind::Next => false,
         Kind::Unknown => false,
     }
 }
@@ -190,6 +206,7 @@ fn is_letters(kind: Kind) -> bool
         Kind::Variant => false,
         Kind::Part => false,
         Kind::Letters => true,
+        Kind::Next => false,
         Kind::Unknown => false,
     }
 }
@@ -203,7 +220,22 @@ fn is_unknown(kind: Kind) -> bool
         Kind::Variant => false,
         Kind::Part => false,
         Kind::Letters => false,
+        Kind::Next => false,
         Kind::Unknown => true,
+    }
+}
+
+fn is_next(kind: Kind) -> bool
+    ensures { λ r. ⌜ r ≡ isNext kind ⌝ }
+{
+    match kind {
+        Kind::End => false,
+        Kind::Settings => false,
+        Kind::Variant => false,
+        Kind::Part => false,
+        Kind::Letters => false,
+        Kind::Next => true,
+        Kind::Unknown => false,
     }
 }
 
@@ -215,6 +247,7 @@ fn in_place(st: State, kind: Kind) -> bool
         Kind::Settings => st.left == 0 && st.phase == 0,
         Kind::Variant => st.left == 0 && st.phase == 1,
         Kind::Part => st.left == 0 && 0 < st.phase,
+        Kind::Next => st.left == 0 && 0 < st.phase,
         Kind::End => st.left == 0 && 0 < st.phase,
         Kind::Unknown => false,
     }
@@ -295,6 +328,15 @@ fn pad_ok(st: State, kind: Kind, b: &[u8]) -> bool
     true
 }
 
+fn too_many(st: State, kind: Kind) -> bool
+    ensures { λ r. ⌜ r ≡ tooMany st kind ⌝ }
+{
+    if !is_next(kind) {
+        return false;
+    }
+    MOST_BREAKS <= st.breaks
+}
+
 fn fault_of(st: State, kind: Kind, b: &[u8]) -> u32
     ensures { λ r. ⌜ r ≡ faultOf st kind (now (b .entry)) ⌝ }
 {
@@ -306,6 +348,9 @@ fn fault_of(st: State, kind: Kind, b: &[u8]) -> u32
     }
     if !in_place(st, kind) {
         return OUT_OF_PLACE;
+    }
+    if too_many(st, kind) {
+        return TOO_MANY_HAPLOTYPES;
     }
     if !flags_ok(kind, b) {
         return BAD_FLAG;
@@ -326,7 +371,7 @@ fn fault_of(st: State, kind: Kind, b: &[u8]) -> u32
 
 fn after_letters(st: State) -> State
     requires { ⌜ st .letters ≤ 2 ^ 63 ⌝ }
-    ensures { λ r. ⌜ Next st Letters [] r ⌝ }
+    ensures { λ r. ⌜ Follows st Letters [] r ⌝ }
 {
     let left = st.left;
     if left <= LETTERS_EACH {
@@ -335,6 +380,7 @@ fn after_letters(st: State) -> State
             left: 0,
             variants: st.variants,
             parts: st.parts,
+            breaks: st.breaks,
             letters: st.letters + left as usize,
         };
     }
@@ -343,13 +389,14 @@ fn after_letters(st: State) -> State
         left: left - LETTERS_EACH,
         variants: st.variants,
         parts: st.parts,
+        breaks: st.breaks,
         letters: st.letters + LETTERS_BODY,
     }
 }
 
 fn after_record(st: State, kind: Kind, b: &[u8]) -> State
     requires { ⌜ (bodyLen kind ≤ length (now b)) × Small st (2 ^ 63) ⌝ }
-    ensures { λ r. ⌜ Next st kind (now (b .entry)) r ⌝ }
+    ensures { λ r. ⌜ Follows st kind (now (b .entry)) r ⌝ }
 {
     let n = count_of(kind, b);
     match kind {
@@ -359,6 +406,7 @@ fn after_record(st: State, kind: Kind, b: &[u8]) -> State
             left: n,
             variants: st.variants,
             parts: st.parts,
+            breaks: st.breaks,
             letters: st.letters,
         },
         Kind::Variant => State {
@@ -366,6 +414,7 @@ fn after_record(st: State, kind: Kind, b: &[u8]) -> State
             left: n,
             variants: st.variants + 1,
             parts: st.parts,
+            breaks: st.breaks,
             letters: st.letters,
         },
         Kind::Part => State {
@@ -373,6 +422,15 @@ fn after_record(st: State, kind: Kind, b: &[u8]) -> State
             left: n,
             variants: st.variants,
             parts: st.parts + 1,
+            breaks: st.breaks,
+            letters: st.letters,
+        },
+        Kind::Next => State {
+            phase: 2,
+            left: n,
+            variants: st.variants,
+            parts: st.parts,
+            breaks: st.breaks + 1,
             letters: st.letters,
         },
         Kind::End => State {
@@ -380,6 +438,7 @@ fn after_record(st: State, kind: Kind, b: &[u8]) -> State
             left: n,
             variants: st.variants,
             parts: st.parts,
+            breaks: st.breaks,
             letters: st.letters,
         },
         Kind::Unknown => State {
@@ -387,6 +446,7 @@ fn after_record(st: State, kind: Kind, b: &[u8]) -> State
             left: n,
             variants: st.variants,
             parts: st.parts,
+            breaks: st.breaks,
             letters: st.letters,
         },
     }
@@ -400,6 +460,7 @@ pub(crate) fn first_fault(s: &[u8]) -> Scan
         left: 0,
         variants: 0,
         parts: 0,
+        breaks: 0,
         letters: 0,
     };
     let mut at = 0usize;
@@ -415,6 +476,7 @@ pub(crate) fn first_fault(s: &[u8]) -> Scan
             return Scan::Good(Counts {
                 variants: st.variants,
                 parts: st.parts,
+                breaks: st.breaks,
                 letters: st.letters,
             });
         }

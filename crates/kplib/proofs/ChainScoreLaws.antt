@@ -1,17 +1,19 @@
--- The loop over the laid lists: the best so far, after the lists that are left, is the chain's score. Assumes nothing.
-use mathlib.Core.Path.{_≡_, sym, ap, _∙_, subst}
+-- The loop over the laid lists: the best so far, after the lists that are left, stands for the chain's score. Assumes nothing.
+use mathlib.Core.Path.{_≡_, refl, sym, ap, _∙_, subst}
 use mathlib.Core.Bool.{Bool}
 use mathlib.Core.List.{List}
 use Prim.Native.Nat.{ℕ, _+_, _≤_, _<_}
 use native.Mathlib.Omega.{arith}
 use native.Mathlib.Numerals.{add-one}
 use lib.IntN.{ℤ, pos}
-use lib.ListN.{length, getD, take, drop, drop-of-length-le}
+use lib.Ieee.{Float}
+use lib.ListN.{length, getD, drop, drop-of-length-le}
 use lib.Seq.{drop-cons}
 use mir.Syntax.{w32}
 use mir.Val.{toZ, ofZ}
 use Rattle.kplib.specs.Sums.{featuresOf}
-use Rattle.kplib.specs.Scoring.{Ready, chainTotal, afterCode, afterCodes, codedScore, Attempt, Attempted, noneTried, Scorable}
+use Rattle.kplib.specs.Score.{start}
+use Rattle.kplib.specs.Scoring.{Ready, StandsFor, same, chainTotal, afterCode, afterCodes, codedScore, Attempt, Attempted, noneTried, Scorable}
 use Rattle.kplib.specs.declared.pathscore.Scored.{Scored}
 use Rattle.kplib.specs.declared.pathscore.Best.{Best}
 use Rattle.kplib.specs.declared.plan.Plan.{Plan}
@@ -30,20 +32,24 @@ module _ (after : Scored → ℕ → ℤ → Scored) (codes : List ℕ) (sizes :
   unfolding afterCodes
   codes-done h e = rw (drop-of-length-le codes h) at e
 
--- after i lists
-abbrev pub Tried : Plan → List ℤ → List ℕ → ℤ → List ℤ → List ℕ → List ℤ → Best → List ℤ → ℕ → Type 0
-Tried plan features chain chainSize partFeatures codes sizes best scratch i =
-    let total = chainTotal (plan .width) features chain chainSize in
-    (Ready (best .summed) (take (plan .width) scratch) (featuresOf (plan .width) features chain))
-    × (afterCodes (afterCode plan partFeatures total) (best .scored) (drop i codes) (drop i sizes) ≡ codedScore plan partFeatures codes sizes total)
+-- after i lists: `full` is the best with no list passed over
+pub record Tried (plan : Plan) (features : List ℤ) (chain : List ℕ) (chainSize : ℤ) (partFeatures : List ℤ) (codes : List ℕ) (sizes : List ℤ) (floor : Float) (best : Best)
+    (scratch : List ℤ) (i : ℕ) : Type 0 where
+  pub ready : Ready (best .summed) scratch (best .weight) (featuresOf (plan .width) features chain)
+  pub full : Scored
+  pub stands : StandsFor floor full (best .scored)
+  pub rest : afterCodes (afterCode plan partFeatures (chainTotal (plan .width) features chain chainSize)) full (drop i codes) (drop i sizes)
+      ≡ codedScore plan partFeatures codes sizes (chainTotal (plan .width) features chain chainSize)
 
-pub none-tried : (plan : Plan) (features : List ℤ) (chain : List ℕ) (chainSize : ℤ) (partFeatures : List ℤ) (codes : List ℕ) (sizes scratch : List ℤ) {b : Best} → b ≡ noneTried
-    → Tried plan features chain chainSize partFeatures codes sizes b scratch 0
+pub none-tried : (plan : Plan) (features : List ℤ) (chain : List ℕ) (chainSize : ℤ) (partFeatures : List ℤ) (codes : List ℕ) (sizes : List ℤ) (floor : Float) (scratch : List ℤ)
+    {b : Best} → b ≡ noneTried → Tried plan features chain chainSize partFeatures codes sizes floor b scratch 0
 unfolding codedScore
-none-tried plan features chain chainSize partFeatures codes sizes scratch e = (
-  subst (λ (x : Best). Ready (x .summed) (take (plan .width) scratch) (featuresOf (plan .width) features chain)) (sym e) tt,
-  ap (λ (x : Best). afterCodes (afterCode plan partFeatures (chainTotal (plan .width) features chain chainSize)) (x .scored) codes sizes) e,
-)
+none-tried plan features chain chainSize partFeatures codes sizes floor scratch e = record {
+  ready = subst (λ (x : Best). Ready (x .summed) scratch (x .weight) (featuresOf (plan .width) features chain)) (sym e) tt;
+  full = start;
+  stands = same (ap (λ (x : Best). x .scored) e);
+  rest = refl;
+}
 
 module _ {plan : Plan} {features : List ℤ} {chain : List ℕ} {chainSize : ℤ} {partFeatures : List ℤ} {codes : List ℕ} {sizes : List ℤ} {chosen : List ℕ} {scratch : List ℤ}
     (y : Scorable plan features chain chainSize partFeatures codes sizes chosen scratch) where
@@ -54,9 +60,9 @@ module _ {plan : Plan} {features : List ℤ} {chain : List ℕ} {chainSize : ℤ
     s-back : toZ w32 (ofZ w32 (getD sizes i (pos 0))) ≡ getD sizes i (pos 0)
     s-back = back (getD sizes i (pos 0)) (omega (arith, y .coded .each i h .size-small))
 
-    pub attempt : {chosen' : List ℕ} {scratch' : List ℤ} {t : Bool} → length chosen' ≡ length chosen → length scratch' ≡ length scratch
-        → Ready t (take (plan .width) scratch') (featuresOf (plan .width) features chain)
-        → Attempt plan features chain (toZ w32 (ofZ w32 chainSize)) partFeatures (getD codes i 0) (toZ w32 (ofZ w32 (getD sizes i (pos 0)))) chosen' scratch' t
+    pub attempt : {chosen' : List ℕ} {scratch' : List ℤ} {t : Bool} {w : ℕ} → length chosen' ≡ length chosen → length scratch' ≡ length scratch
+        → Ready t scratch' w (featuresOf (plan .width) features chain)
+        → Attempt plan features chain (toZ w32 (ofZ w32 chainSize)) partFeatures (getD codes i 0) (toZ w32 (ofZ w32 (getD sizes i (pos 0)))) chosen' scratch' t w
     attempt lc ls r = rw (c-back, s-back) (record {
       planned = y .planned;
       chained = y .chained;
@@ -68,17 +74,23 @@ module _ {plan : Plan} {features : List ℤ} {chain : List ℕ} {chainSize : ℤ
       ready = r;
     })
 
-    pub one-more : (best : Best) {r : Best} (scratch' : List ℤ) {scratch'' : List ℤ} → Tried plan features chain (toZ w32 (ofZ w32 chainSize)) partFeatures codes sizes best scratch' i
-        → Attempted plan features chain (toZ w32 (ofZ w32 chainSize)) partFeatures (getD codes i 0) (toZ w32 (ofZ w32 (getD sizes i (pos 0)))) (best .scored) r scratch''
-        → Tried plan features chain (toZ w32 (ofZ w32 chainSize)) partFeatures codes sizes r scratch'' (i + 1)
-    one-more best scratch' v a =
-        let after = afterCode plan partFeatures (chainTotal (plan .width) features chain (toZ w32 (ofZ w32 chainSize))) in (
-          a .ready,
-          codes-turn after codes sizes (best .scored) (y .coded .alike) h (rw s-back at (a .best-is)) (v .1),
-        )
+    pub one-more : (floor : Float) (best : Best) {r : Best} (scratch' : List ℤ) {scratch'' : List ℤ}
+        → Tried plan features chain (toZ w32 (ofZ w32 chainSize)) partFeatures codes sizes floor best scratch' i
+        → Attempted plan features chain (toZ w32 (ofZ w32 chainSize)) partFeatures (getD codes i 0) (toZ w32 (ofZ w32 (getD sizes i (pos 0)))) floor (best .scored) r scratch''
+        → Tried plan features chain (toZ w32 (ofZ w32 chainSize)) partFeatures codes sizes floor r scratch'' (i + 1)
+    one-more floor best {r} scratch' v a =
+        let after = afterCode plan partFeatures (chainTotal (plan .width) features chain (toZ w32 (ofZ w32 chainSize))) in
+        record {
+          ready = a .ready;
+          full = after (v .full) (getD codes i 0) (getD sizes i (pos 0));
+          stands = rw s-back at (a .stands (v .full) (v .stands));
+          rest = codes-turn after codes sizes (v .full) (y .coded .alike) h refl (v .rest);
+        }
 
-  pub all-tried : {i : ℕ} → length codes ≤ i → (best : Best) (scratch' : List ℤ) → Tried plan features chain (toZ w32 (ofZ w32 chainSize)) partFeatures codes sizes best scratch' i
-      → best .scored ≡ codedScore plan partFeatures codes sizes (chainTotal (plan .width) features chain chainSize)
-  all-tried h best scratch' v =
+  pub all-tried : {i : ℕ} → length codes ≤ i → (floor : Float) (best : Best) (scratch' : List ℤ)
+      → Tried plan features chain (toZ w32 (ofZ w32 chainSize)) partFeatures codes sizes floor best scratch' i
+      → StandsFor floor (codedScore plan partFeatures codes sizes (chainTotal (plan .width) features chain chainSize)) (best .scored)
+  all-tried h floor best scratch' v =
       let after = afterCode plan partFeatures (chainTotal (plan .width) features chain (toZ w32 (ofZ w32 chainSize))) in
-      rw c-back at (codes-done after codes sizes (best .scored) h (v .1))
+      let done = rw c-back at (codes-done after codes sizes (v .full) h (v .rest)) in
+      rw (← done) (v .stands)

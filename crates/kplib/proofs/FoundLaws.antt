@@ -6,7 +6,9 @@ use mathlib.Core.Bool.{true, false}
 use mathlib.Core.List.{List, [], _++_, reverse}
 use lib.Dec.{eqb}
 use lib.ListN.{length, drop}
-use Rattle.params.specs.Numbers.{Table, Parts, Call, tableOf, callOf, firstFault, searchMode}
+use Rattle.metrics.specs.Letters.{entryCount}
+use Rattle.metrics.proofs.Entries.{power}
+use Rattle.params.specs.Numbers.{Table, Parts, Call, tableOf, partsOf, callOf, firstOf, partsRules, firstFault, searchMode}
 use Rattle.kplib.specs.Score.{start}
 use Rattle.kplib.specs.OneToOne.{oneToOne, loneRowsAt}
 use Rattle.kplib.specs.Scoring.{unplaced}
@@ -22,6 +24,7 @@ use Rattle.kplib.specs.declared.onetoone.Lone.{Lone}
 use Rattle.kplib.specs.declared.traverse.Answer.{Answer}
 use Rattle.kplib.specs.declared.steps.Progress.{Progress}
 use Rattle.params.proofs.CheckedLaws.{accepted, queue-suffices}
+use Rattle.params.proofs.AcceptedLaws.{own-fault}
 use Rattle.kplib.proofs.ExtensionLaws.{reverse-length}
 
 pub rows-few : (t : Target) (l : List ℕ) → length (rowsFor t l) ≤ length l
@@ -60,6 +63,13 @@ module _ {s : Settings} {t : Table} {p : Parts} {links : List ℕ} {at : Progres
       (omega (arith, e, rows-few (at .best .scored .target) (reverse c), reverse-length c, g .read .walk .fits), g .read .few)
 
 -- ---- by the checks
+
+-- a table that passes without parts leaves the call's fault to them
+pub parts-only : (c : Call) → firstFault (callOf (c .settings) (c .table) (partsOf [] []) (c .queueRoom) (c .answerRoom)) ≡ 0
+    → {found : ℕ} → found ≡ firstOf (partsRules (entryCount (c .settings .k)) (c .parts)) → found ≡ firstFault c
+parts-only c e f =
+    let h = accepted (callOf (c .settings) (c .table) (partsOf [] []) (c .queueRoom) (c .answerRoom)) e in
+    f ∙ (ap (λ (width : ℕ). firstOf (partsRules width (c .parts))) (power (c .settings .k) (h .k-high)) ∙ sym (own-fault (c .settings) (c .table) (c .queueRoom) (c .answerRoom) (c .parts) e))
 
 module _ (c : Call) where
   answer-at : (fault : ℕ) → fault ≡ firstFault c → answerWith fault (foundAfter fault c) ≡ answerOf c

@@ -7,10 +7,14 @@ pub mod WordLaws
 pub mod SimilarityLaws
 pub mod RoundingLaws
 pub mod RowSumLaws
+mod PartSumLaws
+mod BoundLaws
+mod BlockLaws
 pub mod SizeSumLaws
 pub mod PartLaws
 pub mod CodeLaws
 mod CodedLaws
+mod StandLaws
 pub mod VerdictLaws
 pub mod OneToOneLaws
 pub mod LayLaws
@@ -26,3 +30,5 @@ mod SearchedLaws
 pub mod PlaceLaws
 pub mod FoundLaws
 mod CountedLaws
+pub mod StretchLaws
+mod HaplotypesLaws

@@ -456,7 +456,7 @@ seq-safe d n = rw one-fin (go (eqb d 0) (eqb n 0))
         (unfold ofInt in div-up binary32 (round binary32 false n 1) (round binary32 false d 1) (round-up binary32 n 1) (round-up binary32 d 1))
 
 -- ---- what is at most a number that is at most the best does not beat the best
-nothing-beats : (x : Float) → lt x nan ≡ false
+pub nothing-beats : (x : Float) → lt x nan ≡ false
 unfolding lt
 nothing-beats nan = refl
 nothing-beats (inf s) = refl
@@ -469,7 +469,7 @@ nan-under x h = let z : _≡_ {A = ℕ} 0 1 = cc in omega arith
 pub holds : (t : Bool) → t ≡ true → T t
 holds t e = subst (λ (b : Bool). T b) (sym e) tt
 
-no : (t : Bool) → (T t → ⊥) → t ≡ false
+pub no : (t : Bool) → (T t → ⊥) → t ≡ false
 no true h = absurd (h tt)
 no false h = refl
 
@@ -478,9 +478,12 @@ beaten nan y best lost h = nothing-beats best
 beaten x nan best gone h = absurd (nan-under best h)
 beaten x y best (kept k) h = no (lt best x) (λ t. lt-not-le best x t (le-trans x y best (Le→le x y k) (holds (le y best) h)))
 
+-- a greater seqsim scores no less
+pub score-grows : (s : Settings) (x y size : Float) (partial g : ℕ) → Safe x y → Safe (scoreValue s x size partial g) (scoreValue s y size partial g)
+score-grows s x y size partial g h =
+    sub-safe binary32 _ _ (mul binary32 (s .gpenalty) (whole g))
+    (sub-safe binary32 _ _ (mul binary32 (s .fpenalty) (whole partial)) (half-safe _ _ (add-safe binary32 x y size h)))
+
 -- the score of a list is at most what it were if its seqsim were 1.0
 pub score-safe : (s : Settings) (d n : ℕ) (size : Float) (partial g : ℕ) → Safe (scoreValue s (seqsimValue d n) size partial g) (scoreValue s (whole 1) size partial g)
-score-safe s d n size partial g =
-    sub-safe binary32 _ _ (mul binary32 (s .gpenalty) (whole g))
-    (sub-safe binary32 _ _ (mul binary32 (s .fpenalty) (whole partial))
-    (half-safe _ _ (add-safe binary32 (seqsimValue d n) (whole 1) size (seq-safe d n))))
+score-safe s d n size partial g = score-grows s (seqsimValue d n) (whole 1) size partial g (seq-safe d n)

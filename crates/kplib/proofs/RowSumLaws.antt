@@ -7,8 +7,7 @@ use native.Mathlib.Omega.{arith}
 use native.Mathlib.Nat.{not-suc-le-zero, le-of-suc-le-suc, suc-mul, mul-le-mul-right}
 use native.Mathlib.Numerals.{add-one}
 use lib.IntN.{ℤ, pos, natAbs, _+ℤ_}
-use lib.ListN.{length, getD, take, drop, set, replicate, drop-of-length-le, length-take, length-drop, length-replicate}
-use lib.Seq.{drop-cons}
+use lib.ListN.{length, getD, take, drop, set, replicate, length-take, length-drop, length-replicate}
 use mir.Syntax.{w32}
 use mir.Val.{toZ, ofZ, SFits}
 use Rattle.metrics.specs.Similarity.{magnitudeSum}
@@ -120,15 +119,6 @@ inside-at entries e [] i b h = absurd (not-suc-le-zero h)
 inside-at entries e (r ∷ rows) zero b h = b .0
 inside-at entries e (r ∷ rows) (suc i) b h = inside-at entries e rows i (b .1) (le-of-suc-le-suc h)
 
-features-step : (e : ℕ) (table x : List ℤ) (rows : List ℕ) (i : ℕ) → i < length rows
-    → featuresFrom e table x (drop i rows) ≡ featuresFrom e table (rowPlus x (rowAt e table (getD rows i 0))) (drop (i + 1) rows)
-unfolding featuresFrom
-features-step e table x rows i h = rw (add-one, drop-cons rows i 0 h)
-
-features-done : (e : ℕ) (table x : List ℤ) (rows : List ℕ) (i : ℕ) → length rows ≤ i → featuresFrom e table x (drop i rows) ≡ x
-unfolding featuresFrom
-features-done e table x rows i h = rw (drop-of-length-le rows h)
-
 -- how long and how large a sum of rows is
 features-from-length : (e : ℕ) (table x : List ℤ) (rows : List ℕ) → Inside (length table) e rows → length x ≡ e → length (featuresFrom e table x rows) ≡ e
 unfolding featuresFrom
@@ -151,7 +141,7 @@ pub features-sum : (e : ℕ) (table : List ℤ) (rows : List ℕ) → Summable e
 unfolding featuresOf
 features-sum e table rows s = omega (arith, features-from-sum e table (zeros e) rows (s .rowed), zeros-sum e, s .most)
 
--- a turn of the loop that adds rows
+-- a slice that ends where it should
 pub slice-is : (a e : ℕ) (t : List ℤ) → take (a + e - a) (drop a t) ≡ take e (drop a t)
 slice-is a e t = let h : a + e - a ≡ e = omega arith in rw h
 
@@ -159,42 +149,12 @@ pub row-place : {e : ℕ} {table : List ℤ} {rows : List ℕ} → Summable e ta
     → (getD rows i 0 * e + e ≤ length table) × (length table ≤ 262144)
 row-place {e} {table} {rows} s {i} h = (inside-at (length table) e rows i (s .inside) h, s .entries)
 
--- x with the first i rows added is `out`: the rest added to it gives the whole sum
-abbrev pub Adding : ℕ → List ℤ → List ℕ → List ℤ → List ℤ → ℕ → Type 0
-Adding e table rows x out i =
-    (i ≤ length rows) × (length out ≡ e) × (magnitudeSum out ≤ i * 131072) × (featuresFrom e table out (drop i rows) ≡ featuresFrom e table x rows)
-
-module _ {e : ℕ} {table : List ℤ} {rows : List ℕ} (s : Summable e table rows) (x out : List ℤ) {i : ℕ} (h : i < length rows) (v : Adding e table rows x out i) where
-  named-length : length (rowAt e table (getD rows i 0)) ≡ e
-  named-length = row-length e table (getD rows i 0) (row-place s h .0)
-
-  pub adding-ok : (length (take (getD rows i 0 * e + e - getD rows i 0 * e) (drop (getD rows i 0 * e) table)) ≡ length out)
-      × (magnitudeSum out ≤ 8388608) × (magnitudeSum (take (getD rows i 0 * e + e - getD rows i 0 * e) (drop (getD rows i 0 * e) table)) ≤ 131072)
-  adding-ok =
-      rw (slice-is (getD rows i 0 * e) e table)
-      (named-length ∙ sym (v .1), omega (arith, s .most), s .rowed (getD rows i 0))
-
-  pub adding-turn : {out' : List ℤ} → out' ≡ rowPlus out (take (getD rows i 0 * e + e - getD rows i 0 * e) (drop (getD rows i 0 * e) table)) → Adding e table rows x out' (i + 1)
-  adding-turn {out'} g =
-      let r = getD rows i 0 in
-      let f : out' ≡ rowPlus out (rowAt e table r) = g ∙ ap (λ (y : List ℤ). rowPlus out y) (slice-is (r * e) e table) in
-      let k : length out' ≡ e = ap length f ∙ plus-length out (rowAt e table r) (named-length ∙ sym (v .1)) ∙ v .1 in
-      let b : magnitudeSum out' ≤ (i + 1) * 131072 = omega (arith, ap magnitudeSum f, plus-sum out (rowAt e table r), s .rowed r) in
-      (omega arith, k, b, ap (λ (y : List ℤ). featuresFrom e table y (drop (i + 1) rows)) f ∙ sym (features-step e table out rows i h) ∙ v .3)
-
-pub adding-done : (e : ℕ) (table : List ℤ) (rows : List ℕ) (x out : List ℤ) {i : ℕ} → length rows ≤ i → Adding e table rows x out i → out ≡ featuresFrom e table x rows
-adding-done e table rows x out {i} h v = sym (features-done e table out rows i h) ∙ v .3
-
 pub cleared-sum : (e : ℕ) (x : List ℤ) → x ≡ zeros e → magnitudeSum x ≡ 0
 cleared-sum e x g = ap magnitudeSum g ∙ zeros-sum e
 
-pub summed-is : (e e' : ℕ) (table x y : List ℤ) (rows : List ℕ) → x ≡ zeros e → e' ≡ e → y ≡ featuresFrom e' table x rows → y ≡ featuresOf e table rows
-unfolding featuresOf
-summed-is e e' table x y rows f l g = g ∙ rw (l, f)
+pub ready-true : (t : Bool) {a : List ℤ} {w : ℕ} {b : List ℤ} → t ≡ true → Ready t a w b → Ready true a w b
+ready-true true e r = r
+ready-true false e r = let z : _≡_ {A = ℕ} 0 1 = cc in absurd (omega arith)
 
-pub summable-at : (e e' : ℕ) (table : List ℤ) (rows : List ℕ) → e' ≡ e → Summable e table rows → Summable e' table rows
-summable-at e e' table rows l s = subst (λ (w : ℕ). Summable w table rows) (sym l) s
-
-pub ready-true : (t : Bool) (a b : List ℤ) → t ≡ true → Ready t a b → a ≡ b
-ready-true true a b e r = r
-ready-true false a b e r = let z : _≡_ {A = ℕ} 0 1 = cc in absurd (omega arith)
+pub just-ready : {a : List ℤ} {w : ℕ} {b : List ℤ} → a ≡ b → w ≡ magnitudeSum a → Ready true a w b
+just-ready e f = (e, f ∙ ap magnitudeSum e)

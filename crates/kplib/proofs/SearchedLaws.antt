@@ -1,13 +1,12 @@
 -- An accepted job gives a search what it asks; and what the steps end with, told the flags, the width and the part lists as they lie, is document 01's
 -- answer for the table and the haplotype. Assumes nothing.
 use mathlib.Core.Path.{_≡_, refl, ap, _∙_}
-use Prim.Native.Nat.{ℕ, _+_, _*_, _^_, _≤_}
+use Prim.Native.Nat.{ℕ, _^_, _≤_}
 use native.Mathlib.Omega.{arith}
 use mathlib.Core.Bool.{Bool}
 use mathlib.Core.List.{List, [], reverse}
 use lib.IntN.{ℤ, natAbs}
 use lib.ListN.{length, take}
-use lib.Seq.{length-take-le}
 use Rattle.paths.specs.Demand.{scoredChains}
 use Rattle.paths.specs.Queue.{Ended}
 use Rattle.paths.proofs.PickLaws.{all-from}
@@ -47,14 +46,10 @@ pub plan-is : (s : Settings) (sizes : List ℤ) {width : ℕ} {target : ℤ} →
     → _≡_ {A = Plan} (record { s = s; width = width; m = length sizes; target = target }) (record { s = s; width = 4 ^ s .k; m = length sizes; target = haplotypeSize sizes })
 plan-is s sizes w t = rw (w, t)
 
--- the scratch is two rows
-pub two-rows : (width : ℕ) (scratch : List ℤ) → 2 * width ≤ length scratch → length (take (2 * width) scratch) ≡ width + width
-two-rows width scratch h = omega (arith, length-take-le (2 * width) scratch h)
-
 -- what the steps are told of it
 module _ {s : Settings} {t : Table} {p : Parts} {plan : Plan} {codes : List ℕ} {listSizes : List ℤ} {count linkRoom keyRoom : ℕ} (h : Startable s t p linkRoom keyRoom)
     (is : plan ≡ record { s = s; width = 4 ^ s .k; m = length (p .sizes); target = haplotypeSize (p .sizes) }) (d : LaidDown s (p .sizes) codes listSizes count) where
-  pub searchable-first : (together : List Bool) {lr kr room : ℕ} → lr ≡ linkRoom → kr ≡ keyRoom → room ≡ plan .width + plan .width
+  pub searchable-first : (together : List Bool) {lr kr room : ℕ} → lr ≡ linkRoom → kr ≡ keyRoom → room ≡ plan .width
       → Searchable (told plan together (t .sizes) (t .features) (p .features) (take count codes) (take count listSizes)) lr kr room
   searchable-first together l k r = rw is (record {
     planned = record { minkfreq = h .checked .minkfreq; width-is = refl; few = h .checked .part-sized .few };

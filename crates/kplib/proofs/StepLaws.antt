@@ -28,6 +28,7 @@ use Rattle.kplib.specs.declared.steps.Weighed.{Weighed}
 use Rattle.kplib.specs.declared.steps.Progress.{Progress}
 use Rattle.kplib.proofs.WordLaws.{back}
 use Rattle.kplib.proofs.SizeSumLaws.{size-le}
+use Rattle.kplib.proofs.StandLaws.{later-same}
 use Rattle.kplib.proofs.LinkLaws.{parents-length, lasts-length}
 use Rattle.kplib.proofs.ExtensionLaws.{reverse-length, end-at}
 
@@ -127,11 +128,13 @@ module _ {q : Told} {room : ℕ} {links keys : List ℕ} {at : Progress} (h : Se
         (p : Queued (followsTold q) (length (q .sizes)) (distanceTold q) (parentsOf links) (lastsOf links) keys' (at .queued - 1) (at .used) e
         (parentsOf links') (lastsOf links') keys'' added)
         (within : at .queued - 1 + added ≤ length keys'')
-        (hw : WeighedAs (q .plan) (q .sizes) (q .features) (q .partFeatures) (q .codes) (q .listSizes) (reverse (chainOf links e)) w)
+        (hw : WeighedAs (q .plan) (q .sizes) (q .features) (q .partFeatures) (q .codes) (q .listSizes) (reverse (chainOf links e)) (at .best .scored .score) w)
         (hr : to ≡ advanced at e (w .scored) added) where
-      result-is : resultTold q (chainOf links e) ≡ resultWith (reverse (chainOf links e)) (w .scored)
+      -- the leader is what the chain's own score would have made it
+      kept-is : cond (le (at .best .scored .score) (w .scored .score)) (resultWith (reverse (chainOf links e)) (w .scored)) (bestAt links at)
+          ≡ cond (noLower (bestAt links at) (resultTold q (chainOf links e))) (resultTold q (chainOf links e)) (bestAt links at)
       unfolding resultTold
-      result-is = rw (hw .scored-is)
+      kept-is = later-same (at .best .scored .score) _ (w .scored) (λ x. resultWith (reverse (chainOf links e)) x) (bestAt links at) (hw .stands)
 
       on : (r : Leader) → r ≡ laterOf (at .best) (record { entry = e; scored = w .scored })
           → Going q links' keys'' (record { used = at .used + added; queued = at .queued - 1 + added; count = at .count + 1; best = r })
@@ -141,7 +144,7 @@ module _ {q : Told} {room : ℕ} {links keys : List ℕ} {at : Progress} (h : Se
           let in-old = later-in (at .used) r (at .best) x b hr (g .best-in) entry-in in
           let same : resultWith (reverse (chainOf links' (r .entry))) (r .scored)
           ≡ cond (noLower (bestAt links at) (resultTold q (chainOf links e))) (resultTold q (chainOf links e)) (bestAt links at) =
-          rw (p .kept (r .entry) in-old, result-is) (later-result r (at .best) x b (λ i. chainOf links i) hr) in
+          rw (p .kept (r .entry) in-old) (later-result r (at .best) x b (λ i. chainOf links i) hr ∙ kept-is) in
           let next = step-on (g .run) (g .heap) (g .queued-in) some (k .1) (k .0) l less p in
           record {
             best-in = omega (arith, in-old);

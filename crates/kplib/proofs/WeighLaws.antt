@@ -4,10 +4,11 @@ use Prim.Native.Nat.{ℕ, _-_, _≤_}
 use native.Mathlib.Omega.{arith}
 use mathlib.Core.List.{List, reverse}
 use lib.IntN.{ℤ, natAbs}
+use lib.Ieee.{Float}
 use lib.ListN.{length, take, drop, length-drop}
 use lib.Seq.{take-all}
 use Rattle.kplib.specs.Sums.{sizeOf}
-use Rattle.kplib.specs.Scoring.{chainTotal, codedScore, Scorable}
+use Rattle.kplib.specs.Scoring.{chainTotal, codedScore, StandsFor, Scorable}
 use Rattle.metrics.specs.Placed.{placed}
 use Rattle.kplib.specs.SearchSteps.{chainOf, scoreBy, Rowed, Weighable, WeighedAs}
 use Rattle.kplib.specs.declared.plan.Plan.{Plan}
@@ -38,10 +39,11 @@ module _ {plan : Plan} {sizes features partFeatures : List ℤ} {codes : List �
     scratch-is = h .scratch-is;
   }
 
-  pub weighed-as : {r : Weighed} → r .size ≡ sizeOf sizes l → r .scored ≡ codedScore plan partFeatures codes listSizes (chainTotal (plan .width) features l (r .size))
-      → WeighedAs plan sizes features partFeatures codes listSizes (reverse (chainOf links entry)) r
+  pub weighed-as : {floor : Float} {r : Weighed} → r .size ≡ sizeOf sizes l
+      → StandsFor floor (codedScore plan partFeatures codes listSizes (chainTotal (plan .width) features l (r .size))) (r .scored)
+      → WeighedAs plan sizes features partFeatures codes listSizes (reverse (chainOf links entry)) floor r
   unfolding scoreBy
-  weighed-as z q = rw (← e) (record { size-is = z; scored-is = rw z at q })
+  weighed-as z q = rw (← e) (record { size-is = z; stands = rw z at q })
 
 pub cut-length : (x : List ℕ) (n r : ℕ) {c : List ℕ} → length x ≡ n → (r ≤ length x) × (drop r x ≡ c) → n - r ≡ length c
 cut-length x n r l e = omega (arith, length-drop r x, ap length (e .1))

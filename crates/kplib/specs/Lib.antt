@@ -4,8 +4,11 @@ pub mod Parts
 pub mod Sums
 pub mod Score
 pub mod Scoring
+pub mod Blocks
 pub mod OneToOne
 pub mod Search
 pub mod Answer
 pub mod SearchSteps
+pub mod Report
+pub mod Haplotypes
 pub mod Promises

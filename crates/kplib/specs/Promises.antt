@@ -8,8 +8,11 @@ use lib.IntN.{ℤ}
 use lib.ListN.{length}
 use Rattle.params.specs.declared.Settings.{Settings}
 use Rattle.params.specs.Numbers.{Call, tableOf, partsOf, callOf}
+use Rattle.params.specs.Several.{Several, severalFault}
 use Rattle.kplib.specs.Graph.{cappedCount}
 use Rattle.kplib.specs.Answer.{answerOf, rowsOf, queueRoom, searches}
+use Rattle.kplib.specs.Report.{reportOf}
+use Rattle.kplib.specs.Haplotypes.{rowsAfter, reportsAfter, severalSearches}
 use Rattle.metrics.specs.Placed.{placed}
 use Rattle.kplib.specs.declared.vargraph.ChainCount.{ChainCount}
 use Rattle.kplib.specs.declared.traverse.Answer.{Answer}
@@ -34,3 +37,33 @@ ApplyHaplotypePromise s starts ends sizes features partSizes partFeatures links 
     × ((rows' ≡ placed rows (rowsOf c))
     × (QueueKept c links links'
     × QueueKept c keys keys'))
+
+abbrev pub PutReportPromise : Answer → List ℕ → List ℕ → Type 0
+PutReportPromise answer report report' = report' ≡ reportOf answer
+
+-- the call of several haplotypes that the settings and the lent slices make
+abbrev pub severalLent : Settings → List ℕ → List ℕ → List ℤ → List ℤ → List ℕ → List ℕ → List ℤ → List ℤ → List ℕ → List ℕ → List ℕ → List ℕ → Several
+severalLent s starts ends sizes features partEnds featureEnds partSizes partFeatures links keys rows reports = record {
+  settings = s;
+  table = tableOf starts ends sizes features;
+  parts = partsOf partSizes partFeatures;
+  partEnds = partEnds;
+  featureEnds = featureEnds;
+  queueRoom = queueRoom links keys;
+  answerRoom = length rows;
+  reportRoom = length reports;
+}
+
+-- a slice of the queue, which only a search may write
+abbrev pub SeveralQueueKept : Several → List ℕ → List ℕ → Type 0
+SeveralQueueKept c old new = severalSearches c ≡ false → new ≡ old
+
+abbrev pub ApplyHaplotypesPromise : Settings → List ℕ → List ℕ → List ℤ → List ℤ → List ℕ → List ℕ → List ℤ → List ℤ → List ℕ → List ℕ → List ℕ → List ℕ
+    → List ℕ → List ℕ → List ℕ → List ℕ → ℕ → Type 0
+ApplyHaplotypesPromise s starts ends sizes features partEnds featureEnds partSizes partFeatures links keys rows reports links' keys' rows' reports' r =
+    let c = severalLent s starts ends sizes features partEnds featureEnds partSizes partFeatures links keys rows reports in
+    (r ≡ severalFault c)
+    × ((rows' ≡ rowsAfter c rows)
+    × ((reports' ≡ reportsAfter c reports)
+    × (SeveralQueueKept c links links'
+    × SeveralQueueKept c keys keys')))

@@ -3,9 +3,9 @@ use Prim.Native.Nat.{ℕ, zero, suc, _+_, _-_, _*_, _/_, _%_, _^_, _≤_, _<_}
 use mathlib.Core.Path.{_≡_}
 use mathlib.Core.Bool.{Bool, true, false, cond, not, _&&_}
 use mathlib.Core.List.{List, [], _∷_, _++_, map}
-use lib.Dec.{eqb}
+use lib.Dec.{T, eqb}
 use lib.IntN.{ℤ, pos, natAbs}
-use lib.ListN.{length, getD, take, drop}
+use lib.ListN.{length, getD, take}
 use lib.Ieee.{Float, lt, le}
 use Rattle.metrics.specs.Similarity.{whole, sizesimValue, magnitudeSum}
 use Rattle.paths.specs.Best.{All}
@@ -17,7 +17,10 @@ use Rattle.kplib.specs.Score.{sign, gapOf, scoreValue, start, listScore,
 use Rattle.kplib.specs.OneToOne.{nodeTotal, latestOf, overNodes, noLone}
 use Rattle.params.specs.declared.Settings.{Settings}
 use Rattle.kplib.specs.declared.pathscore.Scored.{Scored}
+use Rattle.kplib.specs.declared.pathscore.Verdict.{Verdict}
+use Rattle.kplib.specs.declared.pathscore.Verdict.the-variants.{Skipped, Scores}
 use Rattle.kplib.specs.declared.pathscore.Best.{Best}
+use Rattle.kplib.specs.declared.pathscore.Terms.{Terms}
 use Rattle.kplib.specs.declared.onetoone.Lone.{Lone}
 use Rattle.kplib.specs.declared.plan.Plan.{Plan}
 
@@ -127,10 +130,10 @@ pub record Summable (e : ℕ) (table : List ℤ) (rows : List ℕ) : Type 0 wher
   pub rowed : (r : ℕ) → magnitudeSum (rowAt e table r) ≤ 131072
   pub most : length rows ≤ 64
 
--- the chain's row, once it is summed
-abbrev pub Ready : Bool → List ℤ → List ℤ → Type 0
-Ready true row features = row ≡ features
-Ready false row features = Unit {0}
+-- the chain's row and its magnitudes' sum, once it is summed
+abbrev pub Ready : Bool → List ℤ → ℕ → List ℤ → Type 0
+Ready true row weight features = (row ≡ features) × (weight ≡ magnitudeSum features)
+Ready false row weight features = Unit {0}
 
 -- ---- one list
 
@@ -157,19 +160,51 @@ pub record Comparable (s : Settings) (chainSize : ℤ) (chainRow : List ℤ) (ch
   pub list-row : magnitudeSum listRow ≤ 8388608
   pub tests : Testable chainSize chainLen listSize listLen partial
 
--- a summed chain and a summed list of so many parts in one slice, the chain's row in front
-pub record Paired (plan : Plan) (chainSize : ℤ) (chainLen : ℕ) (listSize : ℤ) (listLen : ℕ) (scratch : List ℤ) : Type 0 where
-  pub short : plan .width ≤ 4096
-  pub scratch-is : length scratch ≡ plan .width + plan .width
-  pub most : listLen ≤ plan .m
-  pub comparable : Comparable (plan .s) chainSize (take (plan .width) scratch) chainLen listSize (drop (plan .width) scratch) listLen (plan .m - listLen)
+-- r may stand for the score x in a search whose best is at `floor`: it is x, or both are below the floor and replace nothing there
+pub data StandsFor (floor : Float) : Scored → Scored → Type 0 where
+  same : {x r : Scored} → r ≡ x → StandsFor floor x r
+  below : {x r : Scored} → lt (x .score) floor ≡ true → lt (r .score) floor ≡ true → StandsFor floor x r
 
--- whether a list passes the sign and size tests and, were its seqsim 1.0, would score above the best
-unfoldable pub mayWin : Settings → ℤ → ℕ → ℤ → ℕ → ℕ → Float → Bool
-mayWin s chainSize chainLen listSize listLen partial best =
-    let size = sizesimValue (natAbs chainSize) (natAbs listSize) in
-    eqb (sign chainSize) (sign listSize)
-    && (not (lt size (s .sizesim)) && not (le (scoreValue s (whole 1) size partial (gapOf (s .squish) listLen chainLen)) best))
+-- what a list's score depends on beside its seqsim, with what it must beat and reach
+abbrev pub termsOf : Settings → ℤ → ℕ → ℤ → ℕ → ℕ → Float → Float → Terms
+termsOf s chainSize chainLen listSize listLen partial floor best = record {
+  size = sizesimValue (natAbs chainSize) (natAbs listSize);
+  partial = partial;
+  gap = gapOf (s .squish) listLen chainLen;
+  floor = floor;
+  best = best;
+}
+
+-- with this seqsim it would score above the best and no lower than the floor
+unfoldable pub mayScore : Settings → Terms → Float → Bool
+mayScore s terms seq =
+    let bound = scoreValue s seq (terms .size) (terms .partial) (terms .gap) in
+    not (lt bound (terms .floor)) && not (le bound (terms .best))
+
+-- whether a list passes the tests before seqsim's and, were its seqsim 1.0, could win
+unfoldable pub mayWin : Settings → ℤ → ℕ → ℤ → ℕ → ℕ → Float → Float → Bool
+unfolding mayScore
+mayWin s chainSize chainLen listSize listLen partial floor best =
+    let terms = termsOf s chainSize chainLen listSize listLen partial floor best in
+    not (s .squish && eqb chainLen 0) && (eqb (sign chainSize) (sign listSize) && (not (lt (terms .size) (s .sizesim)) && mayScore s terms (whole 1)))
+
+-- the verdict by seqsim, where the tests before it are passed
+abbrev pub verdictOf : Settings → Terms → Float → Verdict
+verdictOf s terms seq = cond (lt seq (s .seqsim)) Skipped (Scores (scoreValue s seq (terms .size) (terms .partial) (terms .gap)) (terms .size) seq)
+
+-- a list that may win against a summed chain
+pub record Judgeable (s : Settings) (table : List ℤ) (rows : List ℕ) (chainRow : List ℤ) (weight : ℕ) (terms : Terms) : Type 0 where
+  pub minkfreq : s .minkfreq ≤ 16777216
+  pub summed : Summable (length chainRow) table rows
+  pub weight-is : weight ≡ magnitudeSum chainRow
+  pub limit : weight ≤ 8388608
+  pub partial-few : terms .partial ≤ 64
+  pub gap-few : terms .gap ≤ 64
+
+-- the list's own verdict; or none, since with some seqsim that is no less than its own it could not win
+pub data Judged (s : Settings) (terms : Terms) (seq : Float) : Verdict → Type 0 where
+  own : {r : Verdict} → r ≡ verdictOf s terms seq → Judged s terms seq r
+  idle : {r : Verdict} (most : Float) → r ≡ Skipped → T (le seq most) → mayScore s terms most ≡ false → Judged s terms seq r
 
 -- ---- the lists as they lie, each a code and a size
 
@@ -208,26 +243,29 @@ unfoldable pub codedScore : Plan → List ℤ → List ℕ → List ℤ → Tota
 unfolding afterCodes afterCode
 codedScore plan partFeatures codes sizes chain = afterCodes (afterCode plan partFeatures chain) start codes sizes
 
--- one laid list about to be tried against a chain, with the scratch: its front is the chain's row, its rest the list's
-pub record Attempt (plan : Plan) (features : List ℤ) (chain : List ℕ) (chainSize : ℤ) (partFeatures : List ℤ) (code : ℕ) (size : ℤ) (chosen : List ℕ) (scratch : List ℤ) (summed : Bool) : Type 0 where
+-- one laid list about to be tried against a chain, with the scratch, which is the chain's row once it is summed
+pub record Attempt (plan : Plan) (features : List ℤ) (chain : List ℕ) (chainSize : ℤ) (partFeatures : List ℤ) (code : ℕ) (size : ℤ) (chosen : List ℕ) (scratch : List ℤ) (summed : Bool)
+    (weight : ℕ) : Type 0 where
   pub planned : Planned plan
   pub chained : Summable (plan .width) features chain
   pub chain-size : natAbs chainSize ≤ 8388608
   pub part-rows : Flat (plan .m) (plan .width) partFeatures
   pub listed : CodedList (plan .m) code size
   pub room : 64 ≤ length chosen
-  pub scratch-is : length scratch ≡ plan .width + plan .width
-  pub ready : Ready summed (take (plan .width) scratch) (featuresOf (plan .width) features chain)
+  pub scratch-is : length scratch ≡ plan .width
+  pub ready : Ready summed scratch weight (featuresOf (plan .width) features chain)
 
-pub record Attempted (plan : Plan) (features : List ℤ) (chain : List ℕ) (chainSize : ℤ) (partFeatures : List ℤ) (code : ℕ) (size : ℤ) (best : Scored) (r : Best) (scratch : List ℤ) : Type 0 where
-  pub best-is : r .scored ≡ afterCode plan partFeatures (chainTotal (plan .width) features chain chainSize) best code size
-  pub ready : Ready (r .summed) (take (plan .width) scratch) (featuresOf (plan .width) features chain)
+-- what the best stood for, with the list tried, is what the result stands for
+pub record Attempted (plan : Plan) (features : List ℤ) (chain : List ℕ) (chainSize : ℤ) (partFeatures : List ℤ) (code : ℕ) (size : ℤ) (floor : Float) (best : Scored) (r : Best)
+    (scratch : List ℤ) : Type 0 where
+  pub stands : (x : Scored) → StandsFor floor x best → StandsFor floor (afterCode plan partFeatures (chainTotal (plan .width) features chain chainSize) x code size) (r .scored)
+  pub ready : Ready (r .summed) scratch (r .weight) (featuresOf (plan .width) features chain)
 
 -- ---- a chain, and one-to-one
 
 -- before the first list
 abbrev pub noneTried : Best
-noneTried = record { scored = start; summed = false }
+noneTried = record { scored = start; summed = false; weight = 0 }
 
 -- what scoring a chain asks: its rows and size, the parts' rows, the lists laid down, and the scratch
 pub record Scorable (plan : Plan) (features : List ℤ) (chain : List ℕ) (chainSize : ℤ) (partFeatures : List ℤ) (codes : List ℕ)
@@ -238,7 +276,7 @@ pub record Scorable (plan : Plan) (features : List ℤ) (chain : List ℕ) (chai
   pub part-rows : Flat (plan .m) (plan .width) partFeatures
   pub coded : Coded (plan .m) codes listSizes
   pub room : 64 ≤ length chosen
-  pub scratch-is : length scratch ≡ plan .width + plan .width
+  pub scratch-is : length scratch ≡ plan .width
 
 pub record Matchable (s : Settings) (t : Table) (p : Parts) (chosen : List ℕ) (wholeRow : List ℤ) : Type 0 where
   pub tables : Tables s t p

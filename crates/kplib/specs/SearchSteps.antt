@@ -4,7 +4,7 @@ use mathlib.Core.Path.{_≡_}
 use mathlib.Core.Bool.{Bool, true, false, cond}
 use mathlib.Core.List.{List, map, reverse}
 use lib.Dec.{eqb}
-use lib.Ieee.{le}
+use lib.Ieee.{Float, le}
 use lib.IntN.{ℤ, natAbs}
 use lib.ListN.{length}
 use Rattle.paths.specs.Chains.{firstAfter}
@@ -15,7 +15,7 @@ use Rattle.params.specs.Checked.{Flat, Sized, Checked}
 use Rattle.params.specs.Numbers.{Table, Parts}
 use Rattle.kplib.specs.Sums.{sizeOf, featuresOf, totalOf}
 use Rattle.kplib.specs.Score.{start}
-use Rattle.kplib.specs.Scoring.{AllBelow, Planned, Coded, codedScore}
+use Rattle.kplib.specs.Scoring.{AllBelow, Planned, Coded, codedScore, StandsFor}
 use Rattle.kplib.specs.GraphWalk.{flagOf}
 use Rattle.kplib.specs.Search.{Result, distanceTo, resultWith, startResult, noLower, followsIn, distanceIn, resultOf}
 use Rattle.params.specs.declared.Settings.{Settings}
@@ -148,11 +148,11 @@ pub record Weighable (plan : Plan) (sizes features partFeatures : List ℤ) (cod
   pub walk : Walk (parentsOf links) (lastsOf links) entry 64
   pub within : AllBelow (length sizes) (reverse (chainOf links entry))
   pub most : length (reverse (chainOf links entry)) ≤ 64
-  pub scratch-is : length scratch ≡ plan .width + plan .width
+  pub scratch-is : length scratch ≡ plan .width
 
-pub record WeighedAs (plan : Plan) (sizes features partFeatures : List ℤ) (codes : List ℕ) (listSizes : List ℤ) (rows : List ℕ) (r : Weighed) : Type 0 where
+pub record WeighedAs (plan : Plan) (sizes features partFeatures : List ℤ) (codes : List ℕ) (listSizes : List ℤ) (rows : List ℕ) (floor : Float) (r : Weighed) : Type 0 where
   pub size-is : r .size ≡ sizeOf sizes rows
-  pub scored-is : r .scored ≡ scoreBy plan sizes features partFeatures codes listSizes rows
+  pub stands : StandsFor floor (scoreBy plan sizes features partFeatures codes listSizes rows) (r .scored)
 
 -- what does not change in a search
 pub record Searchable (q : Told) (linkRoom keyRoom scratchRoom : ℕ) : Type 0 where
@@ -165,7 +165,7 @@ pub record Searchable (q : Told) (linkRoom keyRoom scratchRoom : ℕ) : Type 0 w
   pub coded : Coded (q .plan .m) (q .codes) (q .listSizes)
   pub link-room : 1 + (q .plan .s .maxpaths + 1) * length (q .sizes) ≤ linkRoom
   pub key-room : 1 + (q .plan .s .maxpaths + 1) * length (q .sizes) ≤ keyRoom
-  pub scratch-is : scratchRoom ≡ q .plan .width + q .plan .width
+  pub scratch-is : scratchRoom ≡ q .plan .width
 
 -- before the first step: the empty chain is queued
 abbrev pub notBegun : Progress

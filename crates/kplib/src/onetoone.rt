@@ -11,8 +11,8 @@ use crate::pathscore::Scored;
 use crate::pathscore::greater_of;
 use crate::pathscore::list_score;
 use crate::pathscore::nothing;
-use crate::pathscore::sum_features;
 use crate::plan::Plan;
+use crate::sums::sum_features;
 use crate::vargraph::Row;
 use params::Settings;
 

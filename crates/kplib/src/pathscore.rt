@@ -1,18 +1,23 @@
 // The score of a chain against the part lists of a haplotype (pathscore.rs).
 ghost use mathlib.Core.Path.{_≡_};
-ghost use mathlib.Core.Bool.{_&&_};
-ghost use Prim.Native.Nat.{_-_, _≤_};
+ghost use mathlib.Core.Bool.{true, _&&_};
+ghost use Prim.Native.Nat.{_+_, _*_, _≤_, min};
 ghost use lib.Dec.{eqb};
 ghost use lib.IntN.{natAbs};
-ghost use lib.ListN.{length, take, drop};
-ghost use Rattle.metrics.specs.Similarity.{sizesimValue, magnitudeSum};
-ghost use Rattle.kplib.specs.Sums.{rowPlus, featuresFrom, featuresOf};
+ghost use lib.ListN.{length};
+ghost use Rattle.metrics.specs.Similarity.{sizesimValue, seqsimValue, magnitudeSum};
+ghost use Rattle.kplib.specs.Sums.{featuresOf};
 ghost use Rattle.kplib.specs.Score.{sign, seqsimOfRows, gapOf, scoreValue, listScore, start, targetOf, greaterOf};
-ghost use Rattle.kplib.specs.Scoring.{Summable, Ready, Testable, Comparable, Paired, mayWin, total, chainTotal, codedScore, Attempt, Attempted, noneTried, Scorable};
+ghost use Rattle.kplib.specs.Scoring.{Summable, Ready, Testable, Comparable, StandsFor, termsOf, mayScore, mayWin, verdictOf, Judgeable, Judged};
+ghost use Rattle.kplib.specs.Scoring.{total, chainTotal, codedScore, Attempt, Attempted, noneTried, Scorable};
 use crate::haplotype::positions;
 use crate::plan::Plan;
+use crate::sums::Sums;
+use crate::sums::block_end;
+use crate::sums::sum_block;
+use crate::sums::sum_features;
+use crate::sums::weight_of;
 use metrics::Sim;
-use metrics::kmer::clear_row;
 use metrics::lanes::magnitude;
 use params::Settings;
 
@@ -36,10 +41,20 @@ pub(crate) enum Verdict {
     Scores(f32, f32, f32),
 }
 
-// The best so far, and whether the chain's feature row is summed.
+// The best so far, whether the chain's feature row is summed, and if so what its magnitudes sum to.
 pub(crate) struct Best {
     scored: Scored,
     summed: bool,
+    weight: u32,
+}
+
+// What a list's score depends on beside its seqsim, and what it must beat (`best`) and reach (`floor`).
+pub(crate) struct Terms {
+    size: f32,
+    partial: usize,
+    gap: usize,
+    floor: f32,
+    best: f32,
 }
 
 // The scoring's start.
@@ -177,52 +192,55 @@ pub(crate) fn greater_of(best: Scored, partial: usize, verdict: Verdict) -> Scor
     }
 }
 
-fn add_row(acc: &mut [i32], row: &[i32])
-    requires { ⌜ (length (now row) ≡ length (now acc)) × (magnitudeSum (now acc) ≤ 8388608) × (magnitudeSum (now row) ≤ 131072) ⌝ }
-    ensures { λ _. ⌜ now (acc .exit) ≡ rowPlus (now (acc .entry)) (now (row .entry)) ⌝ }
-{
-    let mut i: usize = 0;
-    while i < acc.len() {
-        acc[i] = acc[i] + row[i];
-        i += 1;
-    }
-}
-
-// Adds the rows of a table that a list names.
-fn add_rows(table: &[i32], rows: &[u32], out: &mut [i32])
-    requires { ⌜ (Summable (length (now out)) (now table) (now rows)) × (magnitudeSum (now out) ≡ 0) ⌝ }
-    ensures { λ _. ⌜ now (out .exit) ≡ featuresFrom (length (now (out .entry))) (now (table .entry)) (now (out .entry)) (now (rows .entry)) ⌝ }
-{
-    let width = out.len();
-    let mut i: usize = 0;
-    while i < rows.len() {
-        let a = (rows[i] as usize) * width;
-        let e = a + width;
-        add_row(out, &table[a..e]);
-        i += 1;
-    }
-}
-
-pub(crate) fn sum_features(table: &[i32], rows: &[u32], out: &mut [i32])
-    requires { ⌜ Summable (length (now out)) (now table) (now rows) ⌝ }
-    ensures { λ _. ⌜ now (out .exit) ≡ featuresOf (length (now (out .entry))) (now (table .entry)) (now (rows .entry)) ⌝ }
-{
-    clear_row(out);
-    add_rows(table, rows, out);
-}
-
-// The chain's row, summed at the first need of it.
-fn ready(table: &[i32], chain: &[u32], row: &mut [i32], summed: bool)
-    requires { ⌜ (Summable (length (now row)) (now table) (now chain)) × (Ready summed (now row) (featuresOf (length (now row)) (now table) (now chain))) ⌝ }
-    ensures { λ _. ⌜ now (row .exit) ≡ featuresOf (length (now (row .entry))) (now (table .entry)) (now (chain .entry)) ⌝ }
+// The chain's row, summed at the first need of it, and what its magnitudes sum to.
+fn ready(table: &[i32], chain: &[u32], row: &mut [i32], summed: bool, weight: u32) -> u32
+    requires { ⌜ (Summable (length (now row)) (now table) (now chain)) × (Ready summed (now row) weight (featuresOf (length (now row)) (now table) (now chain))) ⌝ }
+    ensures { λ r. ⌜ Ready true (now (row .exit)) r (featuresOf (length (now (row .entry))) (now (table .entry)) (now (chain .entry))) ⌝ }
 {
     if summed {
-        return;
+        return weight;
     }
     sum_features(table, chain, row);
+    weight_of(row)
 }
 
-// Whether a list passes the sign and size tests and could still beat the best: with seqsim 1.0 it scores no less than with its own.
+fn terms_of(
+    s: Settings,
+    chain_size: i32,
+    chain_len: usize,
+    list_size: i32,
+    list_len: usize,
+    partial: usize,
+    floor: f32,
+    best: f32,
+) -> Terms
+    requires { ⌜ Testable «chain_size» «chain_len» «list_size» «list_len» partial ⌝ }
+    ensures { λ r. ⌜ (r ≡ termsOf s «chain_size» «chain_len» «list_size» «list_len» partial floor best) × (r .partial ≤ 64) × (r .gap ≤ 64) ⌝ }
+{
+    let size = size_alike(chain_size, list_size);
+    let gap = gap_of(s.squish, list_len, chain_len);
+    Terms {
+        size,
+        partial,
+        gap,
+        floor,
+        best,
+    }
+}
+
+// Whether a list whose seqsim is at most this could beat the best and reach the floor: with a greater seqsim it scores no less.
+fn may_score(s: Settings, terms: Terms, seq: f32) -> bool
+    requires { ⌜ (terms .partial ≤ 64) × (terms .gap ≤ 64) ⌝ }
+    ensures { λ r. ⌜ r ≡ mayScore s terms seq ⌝ }
+{
+    let bound = score_value(s, seq, terms.size, terms.partial, terms.gap);
+    if bound < terms.floor {
+        return false;
+    }
+    !(bound <= terms.best)
+}
+
+// Whether a list passes the tests before seqsim's and, were its seqsim 1.0, could win.
 fn may_win(
     s: Settings,
     chain_size: i32,
@@ -230,52 +248,88 @@ fn may_win(
     list_size: i32,
     list_len: usize,
     partial: usize,
+    floor: f32,
     best: f32,
 ) -> bool
     requires { ⌜ Testable «chain_size» «chain_len» «list_size» «list_len» partial ⌝ }
-    ensures { λ r. ⌜ r ≡ mayWin s «chain_size» «chain_len» «list_size» «list_len» partial best ⌝ }
+    ensures { λ r. ⌜ r ≡ mayWin s «chain_size» «chain_len» «list_size» «list_len» partial floor best ⌝ }
 {
+    if accepts_none(s.squish, chain_len) {
+        return false;
+    }
     if sign_of(chain_size) != sign_of(list_size) {
         return false;
     }
-    let size = size_alike(chain_size, list_size);
-    if size < s.sizesim {
-        return false;
-    }
-    let g = gap_of(s.squish, list_len, chain_len);
-    !(score_value(s, 1.0, size, partial, g) <= best)
-}
-
-// A list's score against a chain. The front of `scratch` is the chain's row, its rest the list's.
-fn score_rows(
-    plan: Plan,
-    chain_size: i32,
-    chain_len: usize,
-    list_size: i32,
-    list_len: usize,
-    scratch: &[i32],
-) -> Verdict
-    requires { ⌜ Paired plan «chain_size» «chain_len» «list_size» «list_len» (now scratch) ⌝ }
-    ensures { λ r.
-        let chain = total «chain_size» (take (plan .width) (now (scratch .entry))) «chain_len» in
-        let list = total «list_size» (drop (plan .width) (now (scratch .entry))) «list_len» in
-        ⌜ r ≡ listScore (plan .s) chain list (plan .m - «list_len») ⌝ }
-{
-    let w = plan.width;
-    let partial = plan.m - list_len;
-    list_score(
-        plan.s,
+    let terms = terms_of(
+        s,
         chain_size,
-        &scratch[..w],
         chain_len,
         list_size,
-        &scratch[w..],
         list_len,
         partial,
-    )
+        floor,
+        best,
+    );
+    if terms.size < s.sizesim {
+        return false;
+    }
+    may_score(s, terms, 1.0)
 }
 
-// One laid list against the chain. The front of `scratch` is the chain's row, its rest the list's.
+// What seqsim is at most where the chain's magnitudes sum to `weight` and n is at least this.
+fn most_alike(weight: u32, n: u32) -> f32
+    requires { ⌜ (weight ≤ 8388608) × (n ≤ 16777216) ⌝ }
+    ensures { λ r. ⌜ r ≡ seqsimValue (min (2 * weight + 1 + n) 16777216) n ⌝ }
+{
+    metrics::similarity(2 * weight + 1 + n, n)
+}
+
+// The verdict by seqsim, where the tests before it are passed.
+fn verdict_of(s: Settings, terms: Terms, seq: f32) -> Verdict
+    requires { ⌜ (terms .partial ≤ 64) × (terms .gap ≤ 64) ⌝ }
+    ensures { λ r. ⌜ r ≡ verdictOf s terms seq ⌝ }
+{
+    if seq < s.seqsim {
+        return Verdict::Skipped;
+    }
+    let score = score_value(s, seq, terms.size, terms.partial, terms.gap);
+    Verdict::Scores(score, terms.size, seq)
+}
+
+// The verdict on a list that may win. Its rows are summed block by block; after each block, what n is so far bounds seqsim, and where that is below
+// the threshold or cannot win the list is given up.
+fn judge(
+    s: Settings,
+    table: &[i32],
+    rows: &[u32],
+    chain_row: &[i32],
+    weight: u32,
+    terms: Terms,
+) -> Verdict
+    requires { ⌜ Judgeable s (now table) (now rows) (now «chain_row») weight terms ⌝ }
+    ensures { λ r.
+        let list = featuresOf (length (now («chain_row» .entry))) (now (table .entry)) (now (rows .entry)) in
+        ⌜ Judged s terms (seqsimOfRows (s .minkfreq) (now («chain_row» .entry)) list) r ⌝ }
+{
+    let width = chain_row.len();
+    let mut sums = Sums { d: 0, n: 0 };
+    let mut from: usize = 0;
+    while from < width {
+        let to = block_end(from, width);
+        sums = sum_block(sums, table, rows, chain_row, from, to, s.minkfreq);
+        let most = most_alike(weight, sums.n);
+        if most < s.seqsim {
+            return Verdict::Skipped;
+        }
+        if !may_score(s, terms, most) {
+            return Verdict::Skipped;
+        }
+        from = to;
+    }
+    verdict_of(s, terms, metrics::similarity(sums.d, sums.n))
+}
+
+// One laid list against the chain, in a search whose best is at `floor`. The scratch is the chain's row, once it is summed.
 fn try_list(
     plan: Plan,
     features: &[i32],
@@ -286,28 +340,29 @@ fn try_list(
     size: i32,
     chosen: &mut [u32],
     scratch: &mut [i32],
+    floor: f32,
     best: Best,
 ) -> Best
-    requires { ⌜ Attempt plan (now features) (now chain) «chain_size» (now «part_features») code size (now chosen) (now scratch) (best .summed) ⌝ }
-    ensures { λ r. ⌜ Attempted plan (now (features .entry)) (now (chain .entry)) «chain_size» (now («part_features» .entry)) code size (best .scored) r (now (scratch .exit)) ⌝ }
+    requires { ⌜ Attempt plan (now features) (now chain) «chain_size» (now «part_features») code size (now chosen) (now scratch) (best .summed) (best .weight) ⌝ }
+    ensures { λ r. ⌜ Attempted plan (now (features .entry)) (now (chain .entry)) «chain_size» (now («part_features» .entry)) code size floor (best .scored) r (now (scratch .exit)) ⌝ }
 {
     let s = plan.s;
     let n = (code / 65536) as usize;
     let partial = plan.m - n;
     let len = chain.len();
     let old = best.scored;
-    if !may_win(s, chain_size, len, size, n, partial, old.score) {
+    if !may_win(s, chain_size, len, size, n, partial, floor, old.score) {
         return best;
     }
-    let w = plan.width;
     let d = positions(code, plan.m, chosen);
-    ready(features, chain, &mut scratch[..w], best.summed);
-    sum_features(part_features, &chosen[..d], &mut scratch[w..]);
-    let verdict = score_rows(plan, chain_size, len, size, n, scratch);
+    let weight = ready(features, chain, scratch, best.summed, best.weight);
+    let terms = terms_of(s, chain_size, len, size, n, partial, floor, old.score);
+    let verdict = judge(s, part_features, &chosen[..d], scratch, weight, terms);
     let scored = greater_of(old, partial, verdict);
     Best {
         scored,
         summed: true,
+        weight,
     }
 }
 
@@ -319,10 +374,12 @@ fn none_tried() -> Best
     Best {
         scored,
         summed: false,
+        weight: 0,
     }
 }
 
-// The score of a chain of this size. The scratch is lent, so that nothing is cleared for a chain that no list passes the tests with.
+// The score of a chain of this size, for a search whose best is at `floor`: a list that cannot reach it is passed over. The scratch is lent, so that
+// nothing is cleared for a chain that no list passes the tests with.
 pub(crate) fn score_chain(
     plan: Plan,
     features: &[i32],
@@ -333,10 +390,12 @@ pub(crate) fn score_chain(
     list_sizes: &[i32],
     chosen: &mut [u32],
     scratch: &mut [i32],
+    floor: f32,
 ) -> Scored
     requires { ⌜ Scorable plan (now features) (now chain) «chain_size» (now «part_features») (now codes) (now «list_sizes») (now chosen) (now scratch) ⌝ }
-    ensures { λ r. ⌜ r ≡ codedScore plan (now («part_features» .entry)) (now (codes .entry)) (now («list_sizes» .entry))
-        (chainTotal (plan .width) (now (features .entry)) (now (chain .entry)) «chain_size») ⌝ }
+    ensures { λ r.
+        let chain = chainTotal (plan .width) (now (features .entry)) (now (chain .entry)) «chain_size» in
+        ⌜ StandsFor floor (codedScore plan (now («part_features» .entry)) (now (codes .entry)) (now («list_sizes» .entry)) chain) r ⌝ }
 {
     let mut best = none_tried();
     let mut i: usize = 0;
@@ -351,6 +410,7 @@ pub(crate) fn score_chain(
             list_sizes[i],
             chosen,
             scratch,
+            floor,
             best,
         );
         i += 1;

@@ -40,7 +40,7 @@ pub(crate) struct Progress {
     pub best: Leader,
 }
 
-// Reads an entry's chain back, and scores it.
+// Reads an entry's chain back, and scores it for a search whose best is at `floor`.
 fn weigh(
     plan: Plan,
     sizes: &[i32],
@@ -51,10 +51,11 @@ fn weigh(
     links: &[u32],
     entry: usize,
     scratch: &mut [i32],
+    floor: f32,
 ) -> Weighed
     requires { ⌜ Weighable plan (now sizes) (now features) (now «part_features») (now codes) (now «list_sizes») (now links) entry (now scratch) ⌝ }
     ensures { λ r. ⌜ WeighedAs plan (now (sizes .entry)) (now (features .entry)) (now («part_features» .entry)) (now (codes .entry)) (now («list_sizes» .entry))
-        (reverse (chainOf (now (links .entry)) entry)) r ⌝ }
+        (reverse (chainOf (now (links .entry)) entry)) floor r ⌝ }
 {
     let mut chain = [0u32; 64];
     let mut chosen = [0u32; 64];
@@ -70,6 +71,7 @@ fn weigh(
         list_sizes,
         &mut chosen,
         scratch,
+        floor,
     );
     Weighed { size, scored }
 }
@@ -129,6 +131,7 @@ fn step(
         links,
         entry,
         scratch,
+        at.best.scored.score,
     );
     let scored = weighed.scored;
     let end = end_node(links, entry);
@@ -214,7 +217,7 @@ pub(crate) fn entries(k: u8) -> usize
     metrics::kmer::entries(k)
 }
 
-// The search, with the room that it asks: codes and sizes of at most 2,047 part lists and the flags of all pairs, laid down once, and two feature rows.
+// The search, with the room that it asks: codes and sizes of at most 2,047 part lists and the flags of all pairs, laid down once, and a feature row.
 pub(crate) fn search(
     s: Settings,
     starts: &[u64],
@@ -236,7 +239,7 @@ pub(crate) fn search(
 {
     let mut codes = [0u32; 2047];
     let mut list_sizes = [0i32; 2047];
-    let mut scratch = [0i32; 8192];
+    let mut scratch = [0i32; 4096];
     let width = entries(s.k);
     let count = lay_lists(s, part_sizes, &mut codes, &mut list_sizes);
     let target = whole_size(part_sizes);
@@ -259,7 +262,7 @@ pub(crate) fn search(
         &list_sizes[..count],
         links,
         keys,
-        &mut scratch[..2 * width],
+        &mut scratch[..width],
         not_begun(),
     )
 }

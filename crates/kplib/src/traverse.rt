@@ -4,14 +4,14 @@ ghost use mathlib.Core.List.{[], reverse};
 ghost use Prim.Native.Nat.{_≤_};
 ghost use lib.ListN.{length};
 ghost use Rattle.paths.specs.Queue.{Walk};
-ghost use Rattle.params.specs.Numbers.{tableOf, partsOf};
+ghost use Rattle.params.specs.Numbers.{tableOf, partsOf, firstFault};
 ghost use Rattle.kplib.specs.OneToOne.{oneToOne, loneRowsAt};
 ghost use Rattle.kplib.specs.Scoring.{unplaced, Tables};
 ghost use Rattle.kplib.specs.Search.{rowsFor};
 ghost use Rattle.kplib.specs.Answer.{searched, matchedAlone, answerWith};
 ghost use Rattle.metrics.specs.Placed.{placed};
 ghost use Rattle.kplib.specs.SearchSteps.{parentsOf, lastsOf, chainOf, answerParts, matchedBy, Startable};
-ghost use Rattle.kplib.specs.Promises.{ApplyHaplotypePromise};
+ghost use Rattle.kplib.specs.Promises.{callLent, ApplyHaplotypePromise};
 use crate::onetoone::Lone;
 use crate::onetoone::one_to_one;
 use crate::pathscore::Scored;
@@ -23,6 +23,7 @@ use crate::steps::search;
 use crate::vargraph::Row;
 use params::Settings;
 use params::checks::call_fault;
+use params::checks::parts_fault;
 use params::checks::queue_room;
 use params::graphparams::search_mode;
 
@@ -50,7 +51,7 @@ fn matched(target: Target) -> bool
 }
 
 // Writes rows to the front of the answer buffer.
-fn put_rows(from: &[u32], rows: &mut [u32])
+pub(crate) fn put_rows(from: &[u32], rows: &mut [u32])
     requires { ⌜ length (now from) ≤ length (now rows) ⌝ }
     ensures { λ _. ⌜ now (rows .exit) ≡ placed (now (rows .entry)) (now (from .entry)) ⌝ }
 {
@@ -204,6 +205,75 @@ fn answer_alone(
     answer_with(0, n, scored, starts.len() + 2, true)
 }
 
+// The answer of a call that the checks have accepted, by its mode.
+fn answer_accepted(
+    s: Settings,
+    starts: &[u64],
+    ends: &[u64],
+    sizes: &[i32],
+    features: &[i32],
+    part_sizes: &[i32],
+    part_features: &[i32],
+    links: &mut [u32],
+    keys: &mut [u64],
+    rows: &mut [u32],
+) -> Answer
+    requires { ⌜ firstFault (callLent s (now starts) (now ends) (now sizes) (now features) (now «part_sizes») (now «part_features») (now links) (now keys) (now rows)) ≡ 0 ⌝ }
+    ensures { λ r. ⌜ ApplyHaplotypePromise s (now (starts .entry)) (now (ends .entry)) (now (sizes .entry)) (now (features .entry)) (now («part_sizes» .entry))
+        (now («part_features» .entry)) (now (links .entry)) (now (keys .entry)) (now (rows .entry)) (now (links .exit)) (now (keys .exit)) (now (rows .exit)) r ⌝ }
+{
+    if search_mode(s, starts.len()) {
+        return answer_search(
+            s,
+            starts,
+            ends,
+            sizes,
+            features,
+            part_sizes,
+            part_features,
+            links,
+            keys,
+            rows,
+        );
+    }
+    answer_alone(s, starts, sizes, features, part_sizes, part_features, rows)
+}
+
+// The same of a haplotype whose table was checked: what is left to ask is its parts.
+pub(crate) fn answer_haplotype(
+    s: Settings,
+    starts: &[u64],
+    ends: &[u64],
+    sizes: &[i32],
+    features: &[i32],
+    part_sizes: &[i32],
+    part_features: &[i32],
+    links: &mut [u32],
+    keys: &mut [u64],
+    rows: &mut [u32],
+) -> Answer
+    requires { ⌜ firstFault (callLent s (now starts) (now ends) (now sizes) (now features) [] [] (now links) (now keys) (now rows)) ≡ 0 ⌝ }
+    ensures { λ r. ⌜ ApplyHaplotypePromise s (now (starts .entry)) (now (ends .entry)) (now (sizes .entry)) (now (features .entry)) (now («part_sizes» .entry))
+        (now («part_features» .entry)) (now (links .entry)) (now (keys .entry)) (now (rows .entry)) (now (links .exit)) (now (keys .exit)) (now (rows .exit)) r ⌝ }
+{
+    let refusal = parts_fault(s.k, part_sizes, part_features);
+    if refusal != 0 {
+        return answer_with(refusal, 0, nothing(), 0, false);
+    }
+    answer_accepted(
+        s,
+        starts,
+        ends,
+        sizes,
+        features,
+        part_sizes,
+        part_features,
+        links,
+        keys,
+        rows,
+    )
+}
+
 // The best chain of a table for a haplotype, or the best node alone. `links` and `keys` are the queue's room.
 pub fn apply_haplotype(
     s: Settings,
@@ -234,19 +304,16 @@ pub fn apply_haplotype(
     if refusal != 0 {
         return answer_with(refusal, 0, nothing(), 0, false);
     }
-    if search_mode(s, starts.len()) {
-        return answer_search(
-            s,
-            starts,
-            ends,
-            sizes,
-            features,
-            part_sizes,
-            part_features,
-            links,
-            keys,
-            rows,
-        );
-    }
-    answer_alone(s, starts, sizes, features, part_sizes, part_features, rows)
+    answer_accepted(
+        s,
+        starts,
+        ends,
+        sizes,
+        features,
+        part_sizes,
+        part_features,
+        links,
+        keys,
+        rows,
+    )
 }

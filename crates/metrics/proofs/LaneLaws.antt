@@ -18,8 +18,9 @@ use mir.Syntax.{w64}
 use mir.Val.{toZ, ofZ, SFits}
 use mir.ValLaws.{toZ-ofZ}
 use Rattle.metrics.specs.declared.lanes.Sums.{Sums}
+use Rattle.metrics.specs.declared.lanes.RowSum.{RowSum}
 use Rattle.metrics.specs.Similarity.{magnitudeSum, partD, partN, sumD, sumN, seqsimValue, seqsimOf}
-use Rattle.metrics.specs.Lanes.{bitsOf, magnitudeOfBits, Added, Summed}
+use Rattle.metrics.specs.Lanes.{bitsOf, magnitudeOfBits, Added, Summed, RowSummed}
 use Rattle.metrics.proofs.Ints.{apart-le}
 use Rattle.metrics.proofs.Rows.{row-step, row-none, sum-step, sum-none, sum-le, d-le, n-le, left-out}
 
@@ -141,7 +142,7 @@ more-t m p q t k s r et ek er h g =
     rw (← e) (sum-kept (leb m t) s k t r (ek l) er (omega arith))
 
 -- what is left of a row is at most the row, and each entry is at most what is left
-row-drop : (i : ℕ) (a : List ℤ) → magnitudeSum (drop i a) ≤ magnitudeSum a
+pub row-drop : (i : ℕ) (a : List ℤ) → magnitudeSum (drop i a) ≤ magnitudeSum a
 unfolding magnitudeSum
 row-drop zero a = le-refl (magnitudeSum a)
 row-drop (suc i) [] = zero-le
@@ -265,3 +266,31 @@ module _ (m : ℕ) (a b : List ℤ) (s : Sums) where
   pub over-is-2 : m ≤ 16777216 → length a ≡ length b → ltb 8388608 (magnitudeSum a) ≡ false → ltb 8388608 (magnitudeSum b) ≡ true → Refused 10 ≡ seqsimOf a b m
   unfolding seqsimOf
   over-is-2 h e t u = rw (le-ltb 16777216 m h, eq-eqb (length a) (length b) e, t, u)
+
+-- ---- one row, summed: i entries are passed
+pub record RowPassed (a : List ℤ) (i sum most : ℕ) : Type 0 where
+  pub inside : i ≤ length a
+  pub room : magnitudeSum a ≤ i * most + magnitudeSum (drop i a)
+  pub exact : magnitudeSum a < 4294967296 → sum + magnitudeSum (drop i a) ≡ magnitudeSum a
+
+module _ (a : List ℤ) where
+  pub row-begin : RowPassed a 0 0 0
+  row-begin = record { inside = zero-le; room = omega arith; exact = λ h. omega arith }
+
+  pub row-next : (i p s r most : ℕ) → RowPassed a i s most → i < length a → p ≡ natAbs (getD a i (pos 0)) → r ≡ (s + p) % 4294967296
+      → RowPassed a (i + 1) r (bitOr most p)
+  row-next i p s r most v ia e er = record {
+    inside = omega arith;
+    room = room-step i most (bitOr most p) (natAbs (getD a i (pos 0))) _ _ (or-l most p) (omega (arith, or-r most p)) (rw (← row-step a i ia) (v .room));
+    exact = λ h. let w = v .exact h in omega (arith, row-step a i ia);
+  }
+
+  pub row-ended : (i s most : ℕ) → RowPassed a i s most → length a ≤ i → RowSummed a (record { sum = s; most = most })
+  row-ended i s most v h =
+      let e : i ≡ length a = omega (arith, v .inside) in
+      let z = row-none a i h in
+      let m = v .room in
+      record { room = rw (← e) (omega arith); exact = λ k. let w = v .exact k in omega arith }
+
+pub sum-exact : (a : List ℤ) (r : RowSum) → RowSummed a r → length a * r .most < 4294967296 → r .sum ≡ magnitudeSum a
+sum-exact a r v h = v .exact (omega (arith, v .room))

@@ -7,6 +7,7 @@ use lib.Dec.{leb, ltb}
 use lib.ListN.{length, getD}
 use lib.IntN.{ℤ, pos, negsuc}
 use Rattle.metrics.specs.declared.lanes.Sums.{Sums}
+use Rattle.metrics.specs.declared.lanes.RowSum.{RowSum}
 use Rattle.metrics.specs.Letters.{codeOf}
 use Rattle.metrics.specs.Similarity.{magnitudeSum, sumD, sumN}
 
@@ -32,6 +33,11 @@ pub record Summed (m : ℕ) (a b : List ℤ) (r : Sums) : Type 0 where
   pub room-b : magnitudeSum b ≤ length b * r .most
   pub exact-d : magnitudeSum a + magnitudeSum b < 2147483648 → r .d ≡ sumD m a b
   pub exact-n : magnitudeSum a + magnitudeSum b < 2147483648 → r .n ≡ sumN m a b
+
+-- one row: `most` bounds each entry, and where nothing wraps the sum is right
+pub record RowSummed (a : List ℤ) (r : RowSum) : Type 0 where
+  pub room : magnitudeSum a ≤ length a * r .most
+  pub exact : magnitudeSum a < 4294967296 → r .sum ≡ magnitudeSum a
 
 -- a table that has the code of each byte
 pub record Coded (t : List ℕ) : Type 0 where

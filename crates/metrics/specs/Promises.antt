@@ -1,6 +1,6 @@
 -- The promise of each public function, said once: the function's `ensures` and `Unique` (crates/audit) cite it by name.
 -- Its arguments are the function's own, in their order, a lent slice by what it holds at entry; then what each `&mut` holds at exit; then the result r.
-use Prim.Native.Nat.{ℕ}
+use Prim.Native.Nat.{ℕ, min}
 use mathlib.Core.Path.{_≡_}
 use mathlib.Core.Bool.{Bool}
 use mathlib.Core.List.{List}
@@ -9,12 +9,15 @@ use lib.IntN.{ℤ, pos, natAbs}
 use lib.ListN.{length, replicate}
 use lib.Ieee.{Float, binary32, toBits}
 use Rattle.metrics.specs.Letters.{countsOf, entryCount, counterAnswer, rowAfter}
-use Rattle.metrics.specs.Similarity.{sizesimOf, seqsimOf, overlapsOf, magnitudeSum}
+use Rattle.metrics.specs.Similarity.{sizesimOf, seqsimValue, seqsimOf, overlapsOf, magnitudeSum}
 use Rattle.metrics.specs.declared.Sim.{Sim}
 use Rattle.metrics.specs.declared.kmer.Counted.{Counted}
 
 abbrev pub SizesimPromise : ℕ → ℕ → Sim → Type 0
 SizesimPromise a b r = r ≡ sizesimOf a b
+
+abbrev pub SimilarityPromise : ℕ → ℕ → Float → Type 0
+SimilarityPromise d n r = r ≡ seqsimValue (min d 16777216) (min n 16777216)
 
 abbrev pub SeqsimPromise : List ℤ → List ℤ → ℕ → Sim → Type 0
 SeqsimPromise a b minkfreq r = r ≡ seqsimOf a b minkfreq

@@ -1,12 +1,13 @@
-// The sums of two rows, in a form that the compiler turns into vector instructions: no early exit, no sum wider than its entries.
+// The sums of a row and of two, in a form that the compiler turns into vector instructions: no early exit, no sum wider than its entries.
 // The sums wrap where a row is over its limit; such a row is refused anyway.
 ghost use mathlib.Core.Path.{_≡_};
 ghost use mathlib.Core.Bool.{cond, true};
 ghost use Prim.Native.Nat.{_+_, _*_, _≤_, _<_};
-ghost use lib.Dec.{leb};
+ghost use lib.Dec.{ltb, leb};
 ghost use lib.IntN.{pos, natAbs, _-ℤ_};
 ghost use lib.ListN.{length};
-ghost use Rattle.metrics.specs.Lanes.{bitsOf, magnitudeOfBits, Added, Summed};
+ghost use Rattle.metrics.specs.Lanes.{bitsOf, magnitudeOfBits, Added, Summed, RowSummed};
+ghost use Rattle.metrics.specs.Similarity.{magnitudeSum};
 ghost use Rattle.metrics.specs.Promises.{MagnitudePromise, RowOverPromise};
 
 // The bits of an entry, read as an unsigned number. No instruction is left of it.
@@ -125,8 +126,8 @@ pub(crate) fn surely_within(s: Sums, count: usize, minkfreq: u32) -> bool
 }
 
 // Whether the magnitudes of a row sum to more than a limit. The sum stops there, so that it fits whatever the entries are.
-pub fn row_over(a: &[i32], limit: u32) -> bool
-    ensures { λ r. ⌜ RowOverPromise (now (a .entry)) limit r ⌝ }
+fn count_over(a: &[i32], limit: u32) -> bool
+    ensures { λ r. ⌜ r ≡ ltb limit (magnitudeSum (now (a .entry))) ⌝ }
 {
     let most = limit as u64;
     let mut sum: u64 = 0;
@@ -139,4 +140,50 @@ pub fn row_over(a: &[i32], limit: u32) -> bool
         i += 1;
     }
     false
+}
+
+// The magnitudes of a row, summed, and a number that no magnitude passes.
+pub(crate) struct RowSum {
+    sum: u32,
+    most: u32,
+}
+
+// The sum wraps where a row is very large.
+fn sum_row(a: &[i32]) -> RowSum
+    ensures { λ r. ⌜ RowSummed (now (a .entry)) r ⌝ }
+{
+    let mut sum: u32 = 0;
+    let mut most: u32 = 0;
+    let mut i = 0;
+    while i < a.len() {
+        let p = magnitude(a[i]);
+        sum = std::num::wrapping_add_u32(sum, p);
+        most = most | p;
+        i += 1;
+    }
+    RowSum { sum, most }
+}
+
+// Whether no sum of so many magnitudes wrapped.
+fn surely_exact(s: RowSum, count: usize) -> bool
+    ensures { λ r. ⌜ (r ≡ true → count * s .most < 4294967296) ⌝ }
+{
+    if s.most > 8388608 {
+        return false;
+    }
+    if count > 8388608 {
+        return false;
+    }
+    (s.most as usize) * count < 4294967296
+}
+
+// Whether the magnitudes of a row sum to more than a limit: by the fast sum, where it shows that nothing wrapped.
+pub fn row_over(a: &[i32], limit: u32) -> bool
+    ensures { λ r. ⌜ RowOverPromise (now (a .entry)) limit r ⌝ }
+{
+    let s = sum_row(a);
+    if surely_exact(s, a.len()) {
+        return s.sum > limit;
+    }
+    count_over(a, limit)
 }

@@ -2,7 +2,7 @@
 ghost use mathlib.Core.Path.{_≡_};
 ghost use Prim.Native.Nat.{_≤_, max, min};
 ghost use Rattle.metrics.specs.Similarity.{liesInside, ratioOf, seqsimValue};
-ghost use Rattle.metrics.specs.Promises.{SeqsimPromise, SizesimPromise, OverlapsPromise};
+ghost use Rattle.metrics.specs.Promises.{SimilarityPromise, SeqsimPromise, SizesimPromise, OverlapsPromise};
 use crate::refusals::BAD_LENGTHS;
 use crate::refusals::BAD_NUMBER;
 use crate::refusals::BAD_ROW;
@@ -31,6 +31,19 @@ fn rounded_similarity(d: u32, n: u32) -> f32
         return 1.0;
     }
     1.0 - (n as f32) / (d as f32)
+}
+
+fn capped(x: u32) -> u32
+    ensures { λ r. ⌜ r ≡ min x 16777216 ⌝ }
+{
+    if x < 16777216 { x } else { 16777216 }
+}
+
+// seqsim by its sums d and n, which are 16,777,216 at most for two rows within their limit; a larger one is taken for that.
+pub fn similarity(d: u32, n: u32) -> f32
+    ensures { λ r. ⌜ SimilarityPromise d n r ⌝ }
+{
+    rounded_similarity(capped(d), capped(n))
 }
 
 pub fn seqsim(a: &[i32], b: &[i32], minkfreq: u32) -> Sim

@@ -42,5 +42,17 @@ pub const BAD_FLAG: u32 = 24;
 pub const BYTES_AFTER_END: u32 = 25;
 // over the program's own limits
 pub const TOO_LARGE: u32 = 26;
+// not 1 to 16 haplotypes
+pub const TOO_MANY_HAPLOTYPES: u32 = 27;
 // too little room
 pub const LITTLE_ROOM: u32 = 30;
+// a bad line of BED, or a bad name to write
+pub const BAD_LINE: u32 = 40;
+// a second name in BED
+pub const SECOND_NAME: u32 = 41;
+// a sixty-fifth line of BED
+pub const TOO_MANY_LINES: u32 = 42;
+// too little room for BED text
+pub const LITTLE_TEXT_ROOM: u32 = 43;
+// a row that isn't there
+pub const MISSING_ROW: u32 = 44;

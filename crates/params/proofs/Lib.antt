@@ -2,3 +2,7 @@
 pub mod CheckLaws
 pub mod CheckedLaws
 mod CallLaws
+pub mod TableOrderLaws
+pub mod EndLaws
+pub mod SeveralLaws
+pub mod AcceptedLaws

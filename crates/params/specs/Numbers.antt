@@ -135,14 +135,16 @@ littleAnswerRoom v answerRoom = ltb answerRoom v
 abbrev pub settingsRules : Settings → List Rule
 settingsRules s = rule 1 (badK s) ∷ (rule 2 (badFloat s) ∷ (rule 3 (badNumber s) ∷ []))
 
-abbrev pub lengthRules : ℕ → Table → Parts → List Rule
-lengthRules e t p =
-    rule 4 (noVariants (t .starts))
-    ∷ (rule 5 (tooMany (length (t .starts)))
+abbrev pub shapeRules : ℕ → Table → Parts → List Rule
+shapeRules e t p =
+    rule 5 (tooMany (length (t .starts)))
     ∷ (rule 5 (tooMany (length (p .sizes)))
     ∷ (rule 6 (tableDisagrees e t)
     ∷ (rule 6 (partsDisagree e p)
-    ∷ []))))
+    ∷ [])))
+
+abbrev pub lengthRules : ℕ → Table → Parts → List Rule
+lengthRules e t p = rule 4 (noVariants (t .starts)) ∷ shapeRules e t p
 
 abbrev pub boundRules : List ℕ → List ℕ → List Rule
 boundRules starts ends = rule 7 (startAfterEnd starts ends) ∷ (rule 8 (fallingStart starts) ∷ [])
@@ -152,6 +154,15 @@ limitRules e t p =
     rule 9 (badSize (t .sizes))
     ∷ (rule 9 (badSize (p .sizes))
     ∷ (rule 10 (badRow e (length (t .starts)) (t .features))
+    ∷ (rule 10 (badRow e (length (p .sizes)) (p .features))
+    ∷ [])))
+
+-- those that look at nothing but the parts
+abbrev pub partsRules : ℕ → Parts → List Rule
+partsRules e p =
+    rule 5 (tooMany (length (p .sizes)))
+    ∷ (rule 6 (partsDisagree e p)
+    ∷ (rule 9 (badSize (p .sizes))
     ∷ (rule 10 (badRow e (length (p .sizes)) (p .features))
     ∷ [])))
 

@@ -6,7 +6,10 @@ use mathlib.Core.Bool.{Bool}
 use mathlib.Core.List.{List}
 use lib.IntN.{ℤ}
 use Rattle.params.specs.declared.Settings.{Settings}
-use Rattle.params.specs.Numbers.{tableOf, partsOf, callOf, searchMode, firstFault, chainCountFault}
+use Rattle.metrics.specs.Letters.{entryCount}
+use Rattle.params.specs.Numbers.{tableOf, partsOf, callOf, searchMode, firstOf, partsRules, firstFault, chainCountFault}
+use Rattle.params.specs.Several.{severalFault}
+use Rattle.params.specs.TableOrder.{earlierOf}
 
 abbrev pub SearchModePromise : Settings → ℕ → Bool → Type 0
 SearchModePromise s v r = r ≡ searchMode s v
@@ -20,3 +23,22 @@ CallFaultPromise s starts ends sizes features partSizes partFeatures queueRoom a
 
 abbrev pub CountFaultPromise : List ℕ → List ℕ → ℕ → ℕ → Type 0
 CountFaultPromise starts ends cap r = r ≡ chainCountFault cap starts ends
+
+abbrev pub PartsFaultPromise : ℕ → List ℤ → List ℤ → ℕ → Type 0
+PartsFaultPromise k partSizes partFeatures r = r ≡ firstOf (partsRules (entryCount k) (partsOf partSizes partFeatures))
+
+abbrev pub SeveralFaultPromise : Settings → List ℕ → List ℕ → List ℤ → List ℤ → List ℕ → List ℕ → List ℤ → List ℤ → ℕ → ℕ → ℕ → ℕ → Type 0
+SeveralFaultPromise s starts ends sizes features partEnds featureEnds partSizes partFeatures queueRoom answerRoom reportRoom r =
+    r ≡ severalFault (record {
+      settings = s;
+      table = tableOf starts ends sizes features;
+      parts = partsOf partSizes partFeatures;
+      partEnds = partEnds;
+      featureEnds = featureEnds;
+      queueRoom = queueRoom;
+      answerRoom = answerRoom;
+      reportRoom = reportRoom;
+    })
+
+abbrev pub EarlierPromise : ℕ → ℕ → ℕ → Type 0
+EarlierPromise other own r = r ≡ earlierOf other own

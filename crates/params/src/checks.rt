@@ -22,7 +22,7 @@ ghost use lib.ListN.{length};
 ghost use Rattle.params.specs.Numbers.{tableOf, partsOf, firstOf, startAfterEnd, fallingStart, badSize, badRow, littleQueueRoom};
 ghost use Rattle.params.specs.Numbers.{lengthRules, boundRules, limitRules, roomRules};
 ghost use Rattle.params.specs.CheckSteps.{Shaped};
-ghost use Rattle.params.specs.Promises.{QueueRoomPromise, CallFaultPromise, CountFaultPromise};
+ghost use Rattle.params.specs.Promises.{QueueRoomPromise, CallFaultPromise, PartsFaultPromise, CountFaultPromise};
 
 // 4 to 6. The features are asked last, when V and m are known to be at most 64.
 fn length_fault(
@@ -231,6 +231,27 @@ pub fn call_fault(
         return limits;
     }
     room_fault(s, starts.len(), queue_room, answer_room)
+}
+
+// 5, 6, 9 and 10 of one haplotype's parts alone.
+pub fn parts_fault(k: u8, part_sizes: &[i32], part_features: &[i32]) -> u32
+    ensures { λ r. ⌜ PartsFaultPromise k (now («part_sizes» .entry)) (now («part_features» .entry)) r ⌝ }
+{
+    let e = entries(k);
+    let m = part_sizes.len();
+    if m > 64 {
+        return TOO_MANY;
+    }
+    if part_features.len() != m * e {
+        return BAD_LENGTHS;
+    }
+    if bad_size(part_sizes) {
+        return BAD_SIZE;
+    }
+    if bad_row(part_features, m, e) {
+        return BAD_ROW;
+    }
+    ACCEPTED
 }
 
 // The number of the first refusal of a chain count, 0 where it is accepted.

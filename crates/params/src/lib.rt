@@ -1,6 +1,8 @@
 // The settings of a job and the checks of a call: all that is asked before any work is done.
 pub mod checks;
 pub mod graphparams;
+pub mod order;
+pub mod several;
 
 // The fields of graphparams.rs that document 01 takes: one value that goes from the job form to the search.
 pub struct Settings {

@@ -4,7 +4,7 @@ use Prim.Native.Nat.{ℕ, suc, _+_, _-_, _≤_, _<_}
 use native.Mathlib.Omega.{arith}
 use mathlib.Core.Path.{_≡_, refl, sym, ap, subst, _∙_}
 use mathlib.Core.Bool.{Bool, true, false, cond}
-use mathlib.Core.List.{List, [], _∷_, _++_, map}
+use mathlib.Core.List.{List, [], _∷_, _++_, map, flatten}
 use mathlib.Core.Logic.{⊎-elim}
 use lib.Dec.{eqb}
 use lib.ListN.{length, take, drop, set, length-drop, length-map}
@@ -12,22 +12,23 @@ use lib.Seq.{take-all, sets-eq}
 use borrow.Author.Tests.{le-leb, lt-leb, leb-true, eqb-true}
 use Rattle.params.specs.declared.Settings.{Settings}
 use Rattle.form.specs.declared.records.Kind.{Kind}
-use Rattle.form.specs.declared.records.Kind.the-variants.{End, Settings as SettingsRecord, Variant as VariantRecord, Part as PartRecord, Letters, Unknown}
+use Rattle.form.specs.declared.records.Kind.the-variants.{End, Settings as SettingsRecord, Variant as VariantRecord, Part as PartRecord, Letters, Next, Unknown}
 use Rattle.form.specs.declared.records.Counts.{Counts}
 use Rattle.form.specs.declared.records.Scan.{Scan}
 use Rattle.form.specs.declared.records.Scan.the-variants.{Good, Refused}
 use Rattle.reader.specs.declared.Reading.the-variants.{Refused as Declined, Job as Given}
 use Rattle.form.specs.Settings40.{settingsIn}
 use Rattle.form.specs.Form.{kindOf, bodyLen, inPlace, faultOf, run, judge, outset}
-use Rattle.form.specs.Job.{Variant, Part, variantHere, partHere, gather, jobOf, readOf, readJob}
-use Rattle.form.specs.Lent.{Lent, lettersOf, jobCounts}
+use Rattle.form.specs.Job.{Variant, Part, variantHere, partHere, gather, haplotypesIn, jobOf, readOf, readJob}
+use Rattle.form.specs.Lent.{Lent, lettersOf, breaksOf, jobCounts}
 use Rattle.reader.specs.Reading.{five, three, hasRoom, lentWith, readingOf, lentAfter}
 use Rattle.metrics.specs.Placed.{placed}
 use Rattle.reader.specs.Steps.{Rows, rows, putRow, PartRows, partRows, putPart, stores}
-use Rattle.form.specs.Steps.{variantLettersHere, partLettersHere, lettersWalk}
+use Rattle.form.specs.Steps.{variantLettersHere, partLettersHere, lettersWalk, breaksWalk}
 use Rattle.form.proofs.FormLaws.{split, both, mixed}
 use Rattle.reader.proofs.FillLaws.{stores-sets}
 use Rattle.form.proofs.OrderLaws.{in-order}
+use Rattle.form.proofs.HaplotypeLaws.{flat-haplotypes, breaks-are}
 use Rattle.form.proofs.CountLaws.{none-placed, none-whole, counts-are, letters-of-variants, letters-of-parts}
 
 -- ---- a good form begins with a whole settings record
@@ -38,6 +39,7 @@ first-kind SettingsRecord b h w = w
 first-kind VariantRecord b h w = mixed (sym h)
 first-kind PartRecord b h w = mixed (sym h)
 first-kind Letters b h w = mixed (sym h)
+first-kind Next b h w = mixed (sym h)
 first-kind Unknown b h w = mixed (sym h)
 
 first-whole : (kind : Kind) (b : List ℕ) (c : Counts) (rest : Scan) → judge (faultOf outset kind b) kind outset rest ≡ Good c → 40 ≤ length b
@@ -132,59 +134,68 @@ module _ (s : List ℕ) {c : Counts} (at : run s 0 outset ≡ Good c) where
       crowded-parts h = crowded (rw (rows-room, h))
 
       module _ (parts-room : partsRoom c t ≡ true) where
-        pub crowded-letters : length (t .letters) < c .letters → (Declined 30 ≡ readingOf (readJob s) t) × (t ≡ lentAfter (readJob s) t)
-        crowded-letters h = crowded (rw (rows-room, parts-room, lt-leb _ _ h))
+        pub crowded-breaks : length (t .breaks) < c .breaks → (Declined 30 ≡ readingOf (readJob s) t) × (t ≡ lentAfter (readJob s) t)
+        crowded-breaks h = crowded (rw (rows-room, parts-room, lt-leb _ _ h))
 
-        module _ (enough : c .letters ≤ length (t .letters)) where
-          has-room : hasRoom c t ≡ true
-          has-room = rw (rows-room, parts-room, le-leb _ _ enough)
+        module _ (breaks-room : c .breaks ≤ length (t .breaks)) where
+          pub crowded-letters : length (t .letters) < c .letters → (Declined 30 ≡ readingOf (readJob s) t) × (t ≡ lentAfter (readJob s) t)
+          crowded-letters h = crowded (rw (rows-room, parts-room, le-leb _ _ breaks-room, lt-leb _ _ h))
 
-          kinds : List ℕ
-          kinds = gather variantLettersHere s 0 ++ gather partLettersHere s 0
+          module _ (enough : c .letters ≤ length (t .letters)) where
+            has-room : hasRoom c t ≡ true
+            has-room = rw (rows-room, parts-room, le-leb _ _ breaks-room, le-leb _ _ enough)
 
-          kinds-are : lettersOf (jobOf s) ≡ kinds
-          unfolding jobOf kinds
-          kinds-are = rw (letters-of-variants s 0, letters-of-parts s 0)
+            kinds : List ℕ
+            kinds = gather variantLettersHere s 0 ++ gather partLettersHere s 0
 
-          letters-fit : length (gather variantLettersHere s 0 ++ gather partLettersHere s 0) ≤ length (t .letters)
-          unfolding jobCounts kinds
-          letters-fit =
-              let h : c .letters ≡ length (lettersOf (jobOf s)) = ap (λ (d : Counts). d .letters) are in
-              let g : length (lettersOf (jobOf s)) ≡ length kinds = ap length kinds-are in
-              omega (arith, h, g, enough)
+            kinds-are : lettersOf (jobOf s) ≡ kinds
+            unfolding jobOf kinds
+            kinds-are = rw (flat-haplotypes s 0, letters-of-variants s 0, letters-of-parts s 0)
 
-          module _ (u : Lent) (vs : rows (u .starts) (u .ends) (u .sizes) (u .negatives) (u .counts)
-              ≡ stores putRow (rows (t .starts) (t .ends) (t .sizes) (t .negatives) (t .counts)) 0 (gather variantHere s 0))
-              (ps : partRows (u .partSizes) (u .partNegatives) (u .partCounts)
-              ≡ stores putPart (partRows (t .partSizes) (t .partNegatives) (t .partCounts)) 0 (gather partHere s 0))
-              (ls : u .letters ≡ stores set (t .letters) 0 (lettersWalk s 0 0)) where
-            laid-job : u ≡ lentWith (jobOf s) t
-            unfolding lentWith jobOf jobCounts kinds
-            laid-job =
-                let xs : List Variant = gather variantHere s 0 in
-                let ys : List Part = gather partHere s 0 in
-                let t5 : Rows = rows (t .starts) (t .ends) (t .sizes) (t .negatives) (t .counts) in
-                let u5 : Rows = rows (u .starts) (u .ends) (u .sizes) (u .negatives) (u .counts) in
-                let t3 : PartRows = partRows (t .partSizes) (t .partNegatives) (t .partCounts) in
-                let u3 : PartRows = partRows (u .partSizes) (u .partNegatives) (u .partCounts) in
-                let n : c .variants ≡ length xs = ap (λ (d : Counts). d .variants) are in
-                let m : c .parts ≡ length ys = ap (λ (d : Counts). d .parts) are in
-                let r : RowsFit (length xs) t = subst (λ (k : ℕ). RowsFit k t) n (rows-fit (c .variants) t rows-room) in
-                let p : PartsFit (length ys) t = subst (λ (k : ℕ). PartsFit k t) m (parts-fit (c .parts) t parts-room) in
-                let e1 = front putRow (λ (w : Rows). w .starts) (λ (x : Variant). x .start) (λ (w : Rows) (i : ℕ) (x : Variant). refl) t5 u5 xs (r .starts) vs in
-                let e2 = front putRow (λ (w : Rows). w .ends) (λ (x : Variant). x .end) (λ (w : Rows) (i : ℕ) (x : Variant). refl) t5 u5 xs (r .ends) vs in
-                let e3 = front putRow (λ (w : Rows). w .sizes) (λ (x : Variant). x .size) (λ (w : Rows) (i : ℕ) (x : Variant). refl) t5 u5 xs (r .sizes) vs in
-                let e4 = front putRow (λ (w : Rows). w .negatives) (λ (x : Variant). x .negative) (λ (w : Rows) (i : ℕ) (x : Variant). refl) t5 u5 xs (r .negatives) vs in
-                let e5 = front putRow (λ (w : Rows). w .counts) (λ (x : Variant). length (x .letters)) (λ (w : Rows) (i : ℕ) (x : Variant). refl) t5 u5 xs (r .counts) vs in
-                let e6 = front putPart (λ (w : PartRows). w .sizes) (λ (x : Part). x .size) (λ (w : PartRows) (i : ℕ) (x : Part). refl) t3 u3 ys (p .sizes) ps in
-                let e7 = front putPart (λ (w : PartRows). w .negatives) (λ (x : Part). x .negative) (λ (w : PartRows) (i : ℕ) (x : Part). refl) t3 u3 ys (p .negatives) ps in
-                let e8 = front putPart (λ (w : PartRows). w .counts) (λ (x : Part). length (x .letters)) (λ (w : PartRows) (i : ℕ) (x : Part). refl) t3 u3 ys (p .counts) ps in
-                let e9 : u .letters ≡ placed (t .letters) (lettersOf (jobOf s)) =
-                ls ∙ ap (λ (l : List ℕ). stores set (t .letters) 0 l) (in-order s c at) ∙ laid (t .letters) kinds letters-fit ∙ ap (placed (t .letters)) (sym kinds-are) in
-                λ i. record { starts = e1 i; ends = e2 i; sizes = e3 i; negatives = e4 i; counts = e5 i; partSizes = e6 i; partNegatives = e7 i; partCounts = e8 i; letters = e9 i }
+            letters-fit : length (gather variantLettersHere s 0 ++ gather partLettersHere s 0) ≤ length (t .letters)
+            unfolding jobCounts kinds
+            letters-fit =
+                let h : c .letters ≡ length (lettersOf (jobOf s)) = ap (λ (d : Counts). d .letters) are in
+                let g : length (lettersOf (jobOf s)) ≡ length kinds = ap length kinds-are in
+                omega (arith, h, g, enough)
 
-            pub read-job : (head : Settings) → head ≡ settingsIn (take (length s - 1) (drop 1 s))
-                → (Given head c ≡ readingOf (readJob s) t) × (u ≡ lentAfter (readJob s) t)
-            read-job head h =
-                let x : take (length s - 1) (drop 1 s) ≡ drop 1 s = take-all (length s - 1) (drop 1 s) (simp length-drop (omega arith)) in
-                (sym (reading-at ∙ rw has-room (ap (λ (y : Settings). Given y c) (sym (h ∙ ap settingsIn x)))), laid-job ∙ sym (lent-at ∙ rw has-room))
+            module _ (u : Lent) (vs : rows (u .starts) (u .ends) (u .sizes) (u .negatives) (u .counts)
+                ≡ stores putRow (rows (t .starts) (t .ends) (t .sizes) (t .negatives) (t .counts)) 0 (gather variantHere s 0))
+                (ps : partRows (u .partSizes) (u .partNegatives) (u .partCounts)
+                ≡ stores putPart (partRows (t .partSizes) (t .partNegatives) (t .partCounts)) 0 (gather partHere s 0))
+                (bs : u .breaks ≡ stores set (t .breaks) 0 (breaksWalk s 0 0))
+                (ls : u .letters ≡ stores set (t .letters) 0 (lettersWalk s 0 0)) where
+              laid-job : u ≡ lentWith (jobOf s) t
+              unfolding lentWith jobOf jobCounts kinds
+              laid-job =
+                  let xs : List Variant = gather variantHere s 0 in
+                  let ys : List Part = flatten (haplotypesIn s 0) in
+                  let ds : List ℕ = breaksOf (haplotypesIn s 0) in
+                  let t5 : Rows = rows (t .starts) (t .ends) (t .sizes) (t .negatives) (t .counts) in
+                  let u5 : Rows = rows (u .starts) (u .ends) (u .sizes) (u .negatives) (u .counts) in
+                  let t3 : PartRows = partRows (t .partSizes) (t .partNegatives) (t .partCounts) in
+                  let u3 : PartRows = partRows (u .partSizes) (u .partNegatives) (u .partCounts) in
+                  let qs : u3 ≡ stores putPart t3 0 ys = ps ∙ ap (λ (l : List Part). stores putPart t3 0 l) (sym (flat-haplotypes s 0)) in
+                  let n : c .variants ≡ length xs = ap (λ (d : Counts). d .variants) are in
+                  let m : c .parts ≡ length ys = ap (λ (d : Counts). d .parts) are in
+                  let d : c .breaks ≡ length ds = ap (λ (x : Counts). x .breaks) are in
+                  let r : RowsFit (length xs) t = subst (λ (k : ℕ). RowsFit k t) n (rows-fit (c .variants) t rows-room) in
+                  let p : PartsFit (length ys) t = subst (λ (k : ℕ). PartsFit k t) m (parts-fit (c .parts) t parts-room) in
+                  let e1 = front putRow (λ (w : Rows). w .starts) (λ (x : Variant). x .start) (λ (w : Rows) (i : ℕ) (x : Variant). refl) t5 u5 xs (r .starts) vs in
+                  let e2 = front putRow (λ (w : Rows). w .ends) (λ (x : Variant). x .end) (λ (w : Rows) (i : ℕ) (x : Variant). refl) t5 u5 xs (r .ends) vs in
+                  let e3 = front putRow (λ (w : Rows). w .sizes) (λ (x : Variant). x .size) (λ (w : Rows) (i : ℕ) (x : Variant). refl) t5 u5 xs (r .sizes) vs in
+                  let e4 = front putRow (λ (w : Rows). w .negatives) (λ (x : Variant). x .negative) (λ (w : Rows) (i : ℕ) (x : Variant). refl) t5 u5 xs (r .negatives) vs in
+                  let e5 = front putRow (λ (w : Rows). w .counts) (λ (x : Variant). length (x .letters)) (λ (w : Rows) (i : ℕ) (x : Variant). refl) t5 u5 xs (r .counts) vs in
+                  let e6 = front putPart (λ (w : PartRows). w .sizes) (λ (x : Part). x .size) (λ (w : PartRows) (i : ℕ) (x : Part). refl) t3 u3 ys (p .sizes) qs in
+                  let e7 = front putPart (λ (w : PartRows). w .negatives) (λ (x : Part). x .negative) (λ (w : PartRows) (i : ℕ) (x : Part). refl) t3 u3 ys (p .negatives) qs in
+                  let e8 = front putPart (λ (w : PartRows). w .counts) (λ (x : Part). length (x .letters)) (λ (w : PartRows) (i : ℕ) (x : Part). refl) t3 u3 ys (p .counts) qs in
+                  let e0 : u .breaks ≡ placed (t .breaks) ds = bs ∙ ap (λ (l : List ℕ). stores set (t .breaks) 0 l) (breaks-are s) ∙ laid (t .breaks) ds (omega (arith, d, breaks-room)) in
+                  let e9 : u .letters ≡ placed (t .letters) (lettersOf (jobOf s)) =
+                  ls ∙ ap (λ (l : List ℕ). stores set (t .letters) 0 l) (in-order s c at) ∙ laid (t .letters) kinds letters-fit ∙ ap (placed (t .letters)) (sym kinds-are) in
+                  λ i. record { starts = e1 i; ends = e2 i; sizes = e3 i; negatives = e4 i; counts = e5 i; partSizes = e6 i; partNegatives = e7 i; partCounts = e8 i; breaks = e0 i; letters = e9 i }
+
+              pub read-job : (head : Settings) → head ≡ settingsIn (take (length s - 1) (drop 1 s))
+                  → (Given head c ≡ readingOf (readJob s) t) × (u ≡ lentAfter (readJob s) t)
+              read-job head h =
+                  let x : take (length s - 1) (drop 1 s) ≡ drop 1 s = take-all (length s - 1) (drop 1 s) (simp length-drop (omega arith)) in
+                  (sym (reading-at ∙ rw has-room (ap (λ (y : Settings). Given y c) (sym (h ∙ ap settingsIn x)))), laid-job ∙ sym (lent-at ∙ rw has-room))

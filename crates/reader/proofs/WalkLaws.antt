@@ -1,4 +1,4 @@
--- Letters stored record by record: what is stored plus what the rest of the walk will give is the whole. Assumes nothing.
+-- Letters, and breaks, stored record by record: what is stored plus what the rest of the walk will give is the whole. Assumes nothing.
 use Prim.Native.Nat.{ℕ, zero, suc, _+_, _-_, _≤_, _<_, _/_, zero-le}
 use native.Mathlib.Omega.{arith}
 use native.Mathlib.Numerals.{add-one}
@@ -10,9 +10,9 @@ use lib.Seq.{drop-cons, drop-nil, drop-drop}
 use borrow.Author.Tests.{le-leb, lt-leb}
 use Rattle.form.specs.declared.records.Kind.{Kind}
 use Rattle.form.specs.declared.records.Record.{Record}
-use Rattle.form.specs.Form.{isLetters, bodyLen, countOf, recordAt}
-use Rattle.form.specs.Job.{lettersIn}
-use Rattle.form.specs.Steps.{lettersGiven, lettersOwed, lettersWalk}
+use Rattle.form.specs.Form.{isLetters, isNext, bodyLen, countOf, recordAt}
+use Rattle.form.specs.Job.{lettersIn, partHere}
+use Rattle.form.specs.Steps.{lettersGiven, lettersOwed, lettersWalk, breakHere, breaksWalk}
 use Rattle.form.proofs.FormLaws.{letters-kind, rest-is, record-kind, record-count, record-next}
 use Rattle.form.proofs.GatherLaws.{long-letters}
 use Rattle.reader.specs.Steps.{stores}
@@ -109,3 +109,40 @@ module _ (s : List ℕ) (at : ℕ) where
         → u ≡ stores set t l (lettersIn (4 ∷ body) 0 (lettersGiven (here .kind) left))
         → stores set u r (lettersWalk (drop (here .next) s) 0 owed) ≡ stores set t l (lettersWalk (drop at s) 0 left)
     walk-more t u l r left owed o g f = rw (f, g, o, walk-here left, stores-append, long-letters)
+
+-- ---- the breaks
+pub no-break : (kind : Kind) (p : ℕ) → isNext kind ≡ false → breakHere kind p ≡ []
+unfolding breakHere
+no-break kind p h = rw h
+
+pub one-break : (kind : Kind) (p : ℕ) → isNext kind ≡ true → breakHere kind p ≡ p ∷ []
+unfolding breakHere
+one-break kind p h = rw h
+
+breaks-skip : (s : List ℕ) (n p : ℕ) → breaksWalk s n p ≡ breaksWalk (drop n s) 0 p
+unfolding breaksWalk
+breaks-skip [] n p = simp drop-nil
+breaks-skip (k ∷ b) zero p = refl
+breaks-skip (k ∷ b) (suc n) p = breaks-skip b n p
+
+module _ (s : List ℕ) (at : ℕ) where
+  pub breaks-done : (t : List ℕ) (v p : ℕ) → length s ≤ at → stores set t v (breaksWalk (drop at s) 0 p) ≡ t
+  unfolding stores breaksWalk
+  breaks-done t v p h = rw (drop-of-length-le s {i = at} h)
+
+  module _ (inside : at < length s) (here : Record) (is : here ≡ recordAt s at) where
+    breaks-here : (p : ℕ) → breaksWalk (drop at s) 0 p ≡ breakHere (here .kind) p ++ breaksWalk (drop (here .next) s) 0 (p + length (partHere (here .kind) (body s at inside here is)))
+    unfolding breaksWalk
+    breaks-here p =
+        let h : suc at + bodyLen (here .kind) ≡ here .next = omega (arith, record-next s at inside here is) in
+        let rest : List ℕ = drop (suc at) s in
+        ap (λ (l : List ℕ). breaksWalk l 0 p) (drop-cons s at 0 inside)
+        ∙ ap (λ (k : Kind). breakHere k p ++ breaksWalk rest (bodyLen k) (p + length (partHere k rest))) (sym (record-kind s at inside here is))
+        ∙ rw (rest-is s at inside) (ap (λ (l : List ℕ). breakHere (here .kind) p ++ l)
+        (breaks-skip rest (bodyLen (here .kind)) (p + length (partHere (here .kind) rest))
+        ∙ ap (λ (l : List ℕ). breaksWalk l 0 (p + length (partHere (here .kind) rest))) (drop-drop (bodyLen (here .kind)) (suc at) s ∙ ap (λ (j : ℕ). drop j s) h)))
+
+    pub breaks-more : (t u : List ℕ) (v r p q : ℕ) → u ≡ stores set t v (breakHere (here .kind) p) → r ≡ v + length (breakHere (here .kind) p)
+        → q ≡ p + length (partHere (here .kind) (body s at inside here is))
+        → stores set u r (breaksWalk (drop (here .next) s) 0 q) ≡ stores set t v (breaksWalk (drop at s) 0 p)
+    breaks-more t u v r p q f g e = rw (f, g, e, breaks-here p, stores-append)

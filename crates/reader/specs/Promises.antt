@@ -10,10 +10,10 @@ use Rattle.form.specs.Lent.{lent}
 use Rattle.reader.specs.Reading.{readingOf, lentAfter}
 use Rattle.reader.specs.declared.Reading.{Reading}
 
-abbrev pub ReadJobPromise : List ℕ → List ℕ → List ℕ → List ℤ → List Bool → List ℕ → List ℤ → List Bool → List ℕ → List ℕ
-    → List ℕ → List ℕ → List ℤ → List Bool → List ℕ → List ℤ → List Bool → List ℕ → List ℕ → Reading → Type 0
-ReadJobPromise bytes starts ends sizes negatives letterCounts partSizes partNegatives partLetterCounts letters
-    starts' ends' sizes' negatives' letterCounts' partSizes' partNegatives' partLetterCounts' letters' r =
-    let t = lent starts ends sizes negatives letterCounts partSizes partNegatives partLetterCounts letters in
-    let u = lent starts' ends' sizes' negatives' letterCounts' partSizes' partNegatives' partLetterCounts' letters' in
+abbrev pub ReadJobPromise : List ℕ → List ℕ → List ℕ → List ℤ → List Bool → List ℕ → List ℤ → List Bool → List ℕ → List ℕ → List ℕ
+    → List ℕ → List ℕ → List ℤ → List Bool → List ℕ → List ℤ → List Bool → List ℕ → List ℕ → List ℕ → Reading → Type 0
+ReadJobPromise bytes starts ends sizes negatives letterCounts partSizes partNegatives partLetterCounts breaks letters
+    starts' ends' sizes' negatives' letterCounts' partSizes' partNegatives' partLetterCounts' breaks' letters' r =
+    let t = lent starts ends sizes negatives letterCounts partSizes partNegatives partLetterCounts breaks letters in
+    let u = lent starts' ends' sizes' negatives' letterCounts' partSizes' partNegatives' partLetterCounts' breaks' letters' in
     (r ≡ readingOf (readJob bytes) t) × (u ≡ lentAfter (readJob bytes) t)

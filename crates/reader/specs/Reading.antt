@@ -1,4 +1,4 @@
--- Document 01, "Job form": what reading a job into lent slices answers, and what the slices hold then.
+-- Document 01, "Job form", and change request P1: what reading a job into lent slices answers, and what the slices hold then.
 use Prim.Native.Nat.{ℕ}
 use mathlib.Core.List.{map}
 use mathlib.Core.Bool.{Bool, _&&_, cond}
@@ -6,8 +6,8 @@ use lib.ListN.{length}
 use lib.Dec.{leb}
 use Rattle.metrics.specs.Placed.{placed}
 use Rattle.form.specs.declared.records.Counts.{Counts}
-use Rattle.form.specs.Job.{Variant, Part, Job, Read, Faulty, Held}
-use Rattle.form.specs.Lent.{Lent, lettersOf, jobCounts}
+use Rattle.form.specs.Job.{Variant, Part, Job, allParts, Read, Faulty, Held}
+use Rattle.form.specs.Lent.{Lent, lettersOf, breaksOf, jobCounts}
 use Rattle.reader.specs.declared.Reading.{Reading}
 use Rattle.reader.specs.declared.Reading.the-variants.{Refused as Declined, Job as Given}
 
@@ -21,7 +21,8 @@ three n a b c = leb n a && (leb n b && leb n c)
 abbrev pub hasRoom : Counts → Lent → Bool
 hasRoom c t =
     five (c .variants) (length (t .starts)) (length (t .ends)) (length (t .sizes)) (length (t .negatives)) (length (t .counts))
-    && (three (c .parts) (length (t .partSizes)) (length (t .partNegatives)) (length (t .partCounts)) && leb (c .letters) (length (t .letters)))
+    && (three (c .parts) (length (t .partSizes)) (length (t .partNegatives)) (length (t .partCounts))
+    && (leb (c .breaks) (length (t .breaks)) && leb (c .letters) (length (t .letters))))
 
 unfoldable pub lentWith : Job → Lent → Lent
 lentWith job t = record {
@@ -30,9 +31,10 @@ lentWith job t = record {
   sizes = placed (t .sizes) (map (λ (x : Variant). x .size) (job .variants));
   negatives = placed (t .negatives) (map (λ (x : Variant). x .negative) (job .variants));
   counts = placed (t .counts) (map (λ (x : Variant). length (x .letters)) (job .variants));
-  partSizes = placed (t .partSizes) (map (λ (x : Part). x .size) (job .parts));
-  partNegatives = placed (t .partNegatives) (map (λ (x : Part). x .negative) (job .parts));
-  partCounts = placed (t .partCounts) (map (λ (x : Part). length (x .letters)) (job .parts));
+  partSizes = placed (t .partSizes) (map (λ (x : Part). x .size) (allParts job));
+  partNegatives = placed (t .partNegatives) (map (λ (x : Part). x .negative) (allParts job));
+  partCounts = placed (t .partCounts) (map (λ (x : Part). length (x .letters)) (allParts job));
+  breaks = placed (t .breaks) (breaksOf (job .haplotypes));
   letters = placed (t .letters) (lettersOf job);
 }
 

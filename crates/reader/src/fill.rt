@@ -1,4 +1,4 @@
-// Lays a form's variants, parts and letters out in lent slices.
+// Lays a form's variants, parts, breaks and letters out in lent slices.
 use fields::i32_of;
 use fields::put_u8;
 use fields::u8_at;
@@ -18,8 +18,8 @@ ghost use Prim.Native.Nat.{_≤_, _<_, _+_, _^_};
 ghost use mathlib.Core.List.{_∷_};
 ghost use lib.ListN.{length, set};
 ghost use Rattle.form.specs.Job.{variantOf, variantHere, partOf, partHere, lettersIn, gather};
-ghost use Rattle.form.specs.Form.{lettersKind, isVariant, isPart, isLetters, variantLen, partLen, lettersLen, bodyLen};
-ghost use Rattle.form.specs.Steps.{lettersGiven, lettersOwed, lettersWalk};
+ghost use Rattle.form.specs.Form.{lettersKind, isVariant, isPart, isLetters, isNext, variantLen, partLen, lettersLen, bodyLen};
+ghost use Rattle.form.specs.Steps.{lettersGiven, lettersOwed, lettersWalk, breakHere, breaksWalk};
 ghost use Rattle.reader.specs.Steps.{rows, putRow, partRows, putPart, stores, Stored};
 
 fn set_u64(dst: &mut [u64], i: usize, x: u64)
@@ -85,6 +85,7 @@ fn is_variant(kind: Kind) -> bool
         Kind::Variant => true,
         Kind::Part => false,
         Kind::Letters => false,
+        Kind::Next => false,
         Kind::Unknown => false,
     }
 }
@@ -98,6 +99,21 @@ fn is_part(kind: Kind) -> bool
         Kind::Variant => false,
         Kind::Part => true,
         Kind::Letters => false,
+        Kind::Next => false,
+        Kind::Unknown => false,
+    }
+}
+
+fn is_next(kind: Kind) -> bool
+    ensures { λ r. ⌜ r ≡ isNext kind ⌝ }
+{
+    match kind {
+        Kind::End => false,
+        Kind::Settings => false,
+        Kind::Variant => false,
+        Kind::Part => false,
+        Kind::Letters => false,
+        Kind::Next => true,
         Kind::Unknown => false,
     }
 }
@@ -111,6 +127,7 @@ fn is_letters(kind: Kind) -> bool
         Kind::Variant => false,
         Kind::Part => false,
         Kind::Letters => true,
+        Kind::Next => false,
         Kind::Unknown => false,
     }
 }
@@ -173,6 +190,18 @@ fn fill_part(
     v + 1
 }
 
+// A record that begins a haplotype behind p parts, stored in row v. Returns the next row.
+fn fill_break(kind: Kind, p: usize, v: usize, breaks: &mut [u64]) -> usize
+    requires { ⌜ v < 2 ^ 63 ⌝ }
+    ensures { λ r. ⌜ Stored set (now (breaks .entry)) (now (breaks .exit)) v r (breakHere kind p) ⌝ }
+{
+    if !is_next(kind) {
+        return v;
+    }
+    set_u64(breaks, v, p as u64);
+    v + 1
+}
+
 // How many letters the record gives, of those that are owed.
 fn letters_given(kind: Kind, left: u32) -> u32
     ensures { λ r. ⌜ (r ≡ lettersGiven kind left) × ((r ≤ lettersLen) × (r ≤ bodyLen kind)) ⌝ }
@@ -224,7 +253,7 @@ fn fill_letters(kind: Kind, b: &[u8], at: usize, left: u32, out: &mut [u8]) -> u
     at + n
 }
 
-// Lays the variants, the parts and the letters at the fronts of the slices, in one walk over the records.
+// Lays the variants, the parts, the breaks and the letters at the fronts of the slices, in one walk over the records.
 pub(crate) fn fill(
     s: &[u8],
     starts: &mut [u64],
@@ -235,6 +264,7 @@ pub(crate) fn fill(
     part_sizes: &mut [i32],
     part_negatives: &mut [bool],
     part_counts: &mut [u32],
+    breaks: &mut [u64],
     letters: &mut [u8],
 )
     ensures variants { λ _. ⌜ rows (now (starts .exit)) (now (ends .exit)) (now (sizes .exit)) (now (negatives .exit)) (now (counts .exit))
@@ -242,11 +272,13 @@ pub(crate) fn fill(
         0 (gather variantHere (now (s .entry)) 0) ⌝ }
     ensures parts { λ _. ⌜ partRows (now («part_sizes» .exit)) (now («part_negatives» .exit)) (now («part_counts» .exit))
         ≡ stores putPart (partRows (now («part_sizes» .entry)) (now («part_negatives» .entry)) (now («part_counts» .entry))) 0 (gather partHere (now (s .entry)) 0) ⌝ }
+    ensures begins { λ _. ⌜ now (breaks .exit) ≡ stores set (now (breaks .entry)) 0 (breaksWalk (now (s .entry)) 0 0) ⌝ }
     ensures sequence { λ _. ⌜ now (letters .exit) ≡ stores set (now (letters .entry)) 0 (lettersWalk (now (s .entry)) 0 0) ⌝ }
 {
     let mut at = 0usize;
     let mut v = 0usize;
     let mut p = 0usize;
+    let mut n = 0usize;
     let mut l = 0usize;
     let mut left = 0u32;
     while at < s.len() {
@@ -254,6 +286,7 @@ pub(crate) fn fill(
         let kind = here.kind;
         let b = &s[at + 1..];
         v = fill_variant(kind, b, v, starts, ends, sizes, negatives, counts);
+        n = fill_break(kind, p, n, breaks);
         p = fill_part(kind, b, p, part_sizes, part_negatives, part_counts);
         l = fill_letters(kind, b, l, left, letters);
         left = letters_owed(kind, here.count, left);

@@ -48,7 +48,8 @@ fn parts_fit(n: usize, a: usize, b: usize, c: usize) -> bool
 }
 
 // The first fault, 30 where a slice is too small, or the settings and the counts; then the job stands at the fronts of the slices,
-// the letters one sequence behind the other, the variants' and then the parts'. A refusal changes nothing.
+// the parts of one haplotype behind those of the other, for each haplotype but the first how many parts stand before it, and the letters
+// one sequence behind the other, the variants' and then the parts'. A refusal changes nothing.
 pub fn read_job(
     bytes: &[u8],
     starts: &mut [u64],
@@ -59,12 +60,13 @@ pub fn read_job(
     part_sizes: &mut [i32],
     part_negatives: &mut [bool],
     part_letter_counts: &mut [u32],
+    breaks: &mut [u64],
     letters: &mut [u8],
 ) -> Reading
     ensures { λ r. ⌜ ReadJobPromise (now (bytes .entry)) (now (starts .entry)) (now (ends .entry)) (now (sizes .entry)) (now (negatives .entry))
-        (now («letter_counts» .entry)) (now («part_sizes» .entry)) (now («part_negatives» .entry)) (now («part_letter_counts» .entry)) (now (letters .entry))
+        (now («letter_counts» .entry)) (now («part_sizes» .entry)) (now («part_negatives» .entry)) (now («part_letter_counts» .entry)) (now (breaks .entry)) (now (letters .entry))
         (now (starts .exit)) (now (ends .exit)) (now (sizes .exit)) (now (negatives .exit)) (now («letter_counts» .exit)) (now («part_sizes» .exit))
-        (now («part_negatives» .exit)) (now («part_letter_counts» .exit)) (now (letters .exit)) r ⌝ }
+        (now («part_negatives» .exit)) (now («part_letter_counts» .exit)) (now (breaks .exit)) (now (letters .exit)) r ⌝ }
 {
     let found = scan(bytes);
     match found {
@@ -88,6 +90,9 @@ pub fn read_job(
             ) {
                 return Reading::Refused(LITTLE_ROOM);
             }
+            if breaks.len() < c.breaks {
+                return Reading::Refused(LITTLE_ROOM);
+            }
             if letters.len() < c.letters {
                 return Reading::Refused(LITTLE_ROOM);
             }
@@ -102,6 +107,7 @@ pub fn read_job(
                 part_sizes,
                 part_negatives,
                 part_letter_counts,
+                breaks,
                 letters,
             );
             Reading::Job(head, c)

@@ -146,6 +146,7 @@ pub(crate) fn settings_of(head: &[u8]) -> Settings {
     let mut part_sizes = [0i32; 1];
     let mut part_negatives = [false; 1];
     let mut part_counts = [0u32; 1];
+    let mut breaks = [0u64; 1];
     let mut letters = [0u8; 1];
     let reading = read_job(
         head,
@@ -157,6 +158,7 @@ pub(crate) fn settings_of(head: &[u8]) -> Settings {
         &mut part_sizes,
         &mut part_negatives,
         &mut part_counts,
+        &mut breaks,
         &mut letters,
     );
     match reading {

@@ -10,7 +10,7 @@ use lib.ListN.{length, length-append}
 use borrow.Author.Tests.{eq-eqb, ne-eqb}
 use Rattle.kplib.specs.declared.traverse.Answer.{Answer}
 use Rattle.text.specs.Text.{bytesOf, digitsWithin, hex2, hex4, hex8, numberLine, floatLine, flagLine, yesOrNo, entryText, entriesText, listLine, isWhole}
-use Rattle.text.specs.Text.{similarityLines, reachLines, eightLines, refusedText, answerText}
+use Rattle.text.specs.Text.{similarityLines, reachLines, eightLines, refusedText, hapText, answerText}
 
 pub text-refused : (a : Answer) (rows records : List ℕ) → (a .refusal ≡ 0 → ⊥) → refusedText (a .refusal) ≡ answerText a rows records
 unfolding answerText
@@ -20,7 +20,7 @@ pub text-accepted : (a : Answer) (rows records : List ℕ) → a .refusal ≡ 0 
 unfolding answerText
 text-accepted a rows records h = simp (eq-eqb (a .refusal) 0 h)
 
-digits-short : (left n : ℕ) → length (digitsWithin left n) ≤ left
+pub digits-short : (left n : ℕ) → length (digitsWithin left n) ≤ left
 unfolding digitsWithin
 digits-short zero n = omega arith
 digits-short (suc left) n = go (ltb n 10) (digits-short left (n / 10))
@@ -94,6 +94,10 @@ eight-short rows records a =
 pub refused-short : (n : ℕ) → length (refusedText n) ≤ 19
 unfolding refusedText bytesOf
 refused-short n = number-short (bytesOf "refused ") n
+
+pub hap-short : (i : ℕ) → length (hapText i) ≤ 15
+unfolding hapText bytesOf
+hap-short i = number-short (bytesOf "hap ") _
 
 pub answer-short : (a : Answer) (rows records : List ℕ) → length (answerText a rows records) ≤ 101 + 11 * length rows + 11 * length records
 unfolding answerText

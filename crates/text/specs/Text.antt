@@ -16,7 +16,7 @@ unfoldable pub bytesOf : String → List ℕ
 bytesOf no-more = []
 bytesOf (c then s) = code c ∷ bytesOf s
 
--- a number in decimal; ten digits are enough for a u32
+-- a number in decimal, at most so many digits; ten are enough for a u32, twenty for a u64
 unfoldable pub digitsWithin : ℕ → ℕ → List ℕ
 digitsWithin zero n = []
 digitsWithin (suc left) n = cond (ltb n 10) ((48 + n) ∷ []) (digitsWithin left (n / 10) ++ ((48 + n % 10) ∷ []))
@@ -86,6 +86,10 @@ eightLines rows records a = listLine (bytesOf "rows") rows ++ listLine (bytesOf 
 
 unfoldable pub refusedText : ℕ → List ℕ
 refusedText n = numberLine (bytesOf "refused ") n
+
+-- document 02, P1: the line before the lines of haplotype i, where a job has several
+unfoldable pub hapText : ℕ → List ℕ
+hapText i = numberLine (bytesOf "hap ") i
 
 -- `refused N`, or the eight lines
 unfoldable pub answerText : Answer → List ℕ → List ℕ → List ℕ

@@ -15,7 +15,7 @@ fn put_entry(out: &mut [u8], at: usize, entry: u32) -> usize
     ensures { λ r. ⌜ Written (now (out .entry)) at (entryText entry) (now (out .exit)) r ⌝ }
 {
     let a = put_bytes(out, at, b" ");
-    put_digits(out, a, entry, 10)
+    put_digits(out, a, entry as u64, 10)
 }
 
 fn put_entries(out: &mut [u8], at: usize, entries: &[u32]) -> usize
@@ -70,7 +70,7 @@ pub(crate) fn put_number_line(out: &mut [u8], at: usize, word: &[u8], n: u32) ->
     ensures { λ r. ⌜ Written (now (out .entry)) at (numberLine (now (word .entry)) n) (now (out .exit)) r ⌝ }
 {
     let a = put_bytes(out, at, word);
-    let b = put_digits(out, a, n, 10);
+    let b = put_digits(out, a, n as u64, 10);
     put_bytes(out, b, b"\n")
 }
 

@@ -2,8 +2,9 @@
 ghost use mathlib.Core.Path.{_≡_};
 ghost use mathlib.Core.List.{[], _∷_};
 ghost use Prim.Native.Nat.{_<_};
-ghost use Rattle.text.specs.Text.{hexDigit, hex2, hex4, hex8, digitsWithin};
+ghost use Rattle.text.specs.Text.{hexDigit, hex2, hex4, hex8};
 ghost use Rattle.text.specs.Written.{Written};
+ghost use Rattle.text.specs.Promises.{PutBytesPromise, PutDigitsPromise};
 
 fn put_byte(out: &mut [u8], at: usize, x: u8) -> usize
     ensures { λ r. ⌜ Written (now (out .entry)) at (x ∷ []) (now (out .exit)) r ⌝ }
@@ -15,8 +16,8 @@ fn put_byte(out: &mut [u8], at: usize, x: u8) -> usize
     at
 }
 
-pub(crate) fn put_bytes(out: &mut [u8], at: usize, src: &[u8]) -> usize
-    ensures { λ r. ⌜ Written (now (out .entry)) at (now (src .entry)) (now (out .exit)) r ⌝ }
+pub fn put_bytes(out: &mut [u8], at: usize, src: &[u8]) -> usize
+    ensures { λ r. ⌜ PutBytesPromise (now (out .entry)) at (now (src .entry)) (now (out .exit)) r ⌝ }
 {
     let mut i = 0usize;
     let mut end = at;
@@ -58,8 +59,8 @@ pub(crate) fn put_hex8(out: &mut [u8], at: usize, x: u32) -> usize
 }
 
 // The digits of n, at most `left` of them.
-pub(crate) fn put_digits(out: &mut [u8], at: usize, n: u32, left: usize) -> usize
-    ensures { λ r. ⌜ Written (now (out .entry)) at (digitsWithin left n) (now (out .exit)) r ⌝ }
+pub fn put_digits(out: &mut [u8], at: usize, n: u64, left: usize) -> usize
+    ensures { λ r. ⌜ PutDigitsPromise (now (out .entry)) at n left (now (out .exit)) r ⌝ }
 {
     if left == 0 {
         return at;

@@ -1,7 +1,7 @@
--- What writing a job answers: its length is what the checks took away, and settings, variants, parts and end are stored one behind the other. Assumes nothing.
+-- What writing a job answers: its length is what the checks took away, and settings, variants, haplotypes and end are stored one behind the other. Assumes nothing.
 use Prim.Native.Nat.{ℕ, zero, suc, _+_, _*_, _≤_, _<_}
 use native.Mathlib.Omega.{arith}
-use mathlib.Core.Path.{_≡_, refl, sym, ap, subst, _∙_}
+use mathlib.Core.Path.{_≡_, refl, sym, ap, _∙_}
 use mathlib.Core.Bool.{Bool, true, false}
 use mathlib.Core.List.{List, [], _∷_, _++_}
 use lib.IntN.{ℤ, pos}
@@ -15,15 +15,16 @@ use Rattle.writer.specs.declared.Writing.the-variants.{Refused, Wrote}
 use Rattle.fields.specs.Fields.{bytes2, bytes4, bytes8}
 use Rattle.form.specs.Settings40.{settingsBytes, numberBytes, floatBytes}
 use Rattle.form.specs.Form.{kindOf, bodyLen}
-use Rattle.form.specs.Job.{recordsFor, sequenceBytes, partBody, variantBody, variantBytes, partBytes, variantsBytes, partsBytes, jobBytes}
+use Rattle.form.specs.Job.{recordsFor, sequenceBytes, partBody, variantBody, variantBytes, partBytes, variantsBytes, partsBytes, haplotypesBytes, jobBytes, Part}
 use Rattle.form.specs.Lent.{Lent}
 use Rattle.form.specs.Lent.{sum}
-use Rattle.writer.specs.Writing.{anyOver, fourAgree, twoAgree, agree, variantsFrom, partsFrom, jobFrom, writingOf, outAfter}
-use Rattle.writer.specs.Steps.{costOf, total, leftOf, VariantsFit, PartsFit, Put, JobFits}
+use Rattle.writer.specs.Writing.{anyOver, fourAgree, twoAgree, inOrder, agree, variantsFrom, partsFrom, cutAt, jobFrom, writingOf, outAfter}
+use Rattle.writer.specs.Steps.{costOf, total, leftOf, VariantsFit, HaplotypesFit, Put, JobFits}
 use Rattle.fields.proofs.FieldLaws.{join}
 use Rattle.form.proofs.FormLaws.{both}
 use Rattle.writer.proofs.WriteLaws.{enough-had, short-had}
 use Rattle.writer.proofs.RowLaws.{long-sequence}
+use Rattle.writer.proofs.CutLaws.{long-haplotypes}
 
 -- ---- slices that agree
 pub record Agreed (t : Lent) : Type 0 where
@@ -34,13 +35,14 @@ pub record Agreed (t : Lent) : Type 0 where
   pub partNegatives : length (t .partNegatives) ≡ length (t .partSizes)
   pub partCounts : length (t .partCounts) ≡ length (t .partSizes)
   pub letters : sum (t .counts) + sum (t .partCounts) ≡ length (t .letters)
+  pub breaks : inOrder (length (t .partSizes)) 0 (t .breaks) ≡ true
 
 pub agreed : (t : Lent) → agree t ≡ true → Agreed t
 unfolding fourAgree twoAgree
 agreed t h =
     let a = both _ _ h in let b = both _ _ (a .1) in
     let c = both _ _ (a .0) in let d = both _ _ (c .1) in let e = both _ _ (d .1) in
-    let f = both _ _ (b .0) in
+    let f = both _ _ (b .0) in let g = both _ _ (b .1) in
     record {
       ends = eqb-true _ _ (c .0);
       sizes = eqb-true _ _ (d .0);
@@ -48,7 +50,8 @@ agreed t h =
       counts = eqb-true _ _ (e .1);
       partNegatives = eqb-true _ _ (f .0);
       partCounts = eqb-true _ _ (f .1);
-      letters = eqb-true _ _ (b .1);
+      letters = eqb-true _ _ (g .0);
+      breaks = g .1;
     }
 
 -- ---- how long the rows are
@@ -122,33 +125,38 @@ module _ (s : Settings) (t : Lent) where
   abbrev vs : List ℕ
   vs = variantsBytes (variantsFrom (t .starts) (t .ends) (t .sizes) (t .negatives) (t .counts) (t .letters) 0 0 (length (t .starts)))
 
-  abbrev ps : List ℕ
-  ps = partsBytes (partsFrom (t .partSizes) (t .partNegatives) (t .partCounts) (t .letters) 0 (sum (t .counts)) (length (t .partSizes)))
+  abbrev ps : ℕ → List Part
+  ps from = partsFrom (t .partSizes) (t .partNegatives) (t .partCounts) (t .letters) 0 from (length (t .partSizes))
+
+  abbrev hs : List ℕ
+  hs = haplotypesBytes (cutAt 0 (t .breaks) (ps (sum (t .counts))))
 
   long-settings : length (settingsBytes s) ≡ 40
   unfolding settingsBytes numberBytes floatBytes bytes4 bytes2
   long-settings = refl
 
-  long-job : length (jobBytes (jobFrom s t)) ≡ 42 + (length vs + length ps)
+  long-job : length (jobBytes (jobFrom s t)) ≡ 42 + (length vs + length hs)
   unfolding jobBytes jobFrom
   long-job =
-      let a = length-append (settingsBytes s) (vs ++ (ps ++ (0 ∷ []))) in
-      let b = length-append vs (ps ++ (0 ∷ [])) in
-      let c = length-append ps (0 ∷ []) in
+      let a = length-append (settingsBytes s) (vs ++ (hs ++ (0 ∷ []))) in
+      let b = length-append vs (hs ++ (0 ∷ [])) in
+      let c = length-append hs (0 ∷ []) in
       let d = long-settings in
       omega (arith, a, b, c, d)
 
-  job-total : Agreed t → length (jobBytes (jobFrom s t)) ≡ 42 + (total 2 (t .counts) + total 3 (t .partCounts))
+  job-total : Agreed t → length (jobBytes (jobFrom s t)) ≡ 42 + length (t .breaks) + (total 2 (t .counts) + total 3 (t .partCounts))
   job-total g =
       let v : length vs ≡ total 2 (t .counts) = variants-total _ _ _ _ _ _ (length (t .starts)) 0 0 (omega (arith, g .counts)) (omega (arith, g .letters)) in
-      let p : length ps ≡ total 3 (t .partCounts) = parts-total _ _ _ _ (length (t .partSizes)) 0 (sum (t .counts)) (omega (arith, g .partCounts)) (omega (arith, g .letters)) in
-      omega (arith, v, p, long-job)
+      let p : length (partsBytes (ps (sum (t .counts)))) ≡ total 3 (t .partCounts)
+      = parts-total _ _ _ _ (length (t .partSizes)) 0 (sum (t .counts)) (omega (arith, g .partCounts)) (omega (arith, g .letters)) in
+      let h = long-haplotypes 0 (t .breaks) (ps (sum (t .counts))) in
+      omega (arith, v, p, h, long-job)
 
   module _ (room : ℕ) (fit : JobFits s t room) where
     ag : Agreed t
     ag = agreed t (fit .agrees)
 
-    pub job-room : 42 + (length vs + length ps) ≤ room
+    pub job-room : 42 + (length vs + length hs) ≤ room
     job-room = omega (arith, long-job, fit .fits)
 
     pub variants-fit : (there : ℕ) → there ≡ room → VariantsFit (t .starts) (t .ends) (t .sizes) (t .negatives) (t .counts) (t .letters) 41 there
@@ -162,34 +170,35 @@ module _ (s : Settings) (t : Lent) where
     }
 
     module _ (from at : ℕ) (from-is : from ≡ sum (t .counts)) (at-is : at ≡ 41 + length vs) where
-      pub parts-fit : (there : ℕ) → there ≡ room → PartsFit (t .partSizes) (t .partNegatives) (t .partCounts) (t .letters) from at there
-      parts-fit there e = subst (λ (f : ℕ). PartsFit (t .partSizes) (t .partNegatives) (t .partCounts) (t .letters) f at there) (sym from-is) (record {
+      abbrev hsAt : List ℕ
+      hsAt = haplotypesBytes (cutAt 0 (t .breaks) (ps from))
+
+      hs-is : hsAt ≡ hs
+      hs-is = rw from-is
+
+      pub haplotypes-fit : (there : ℕ) → there ≡ room → HaplotypesFit (t .partSizes) (t .partNegatives) (t .partCounts) (t .letters) from (t .breaks) at there
+      haplotypes-fit there e = record {
         negatives-are = ag .partNegatives;
         counts-are = ag .partCounts;
-        letters-are = let g = ag .letters in omega (arith, g);
-        fits = let h = job-room in omega (arith, h, e, at-is);
-      })
+        letters-are = let g = ag .letters in omega (arith, g, from-is);
+        breaks-are = ag .breaks;
+        fits = let h = job-room in let g = ap length hs-is in omega (arith, h, e, g, at-is);
+      }
 
-      abbrev psAt : List ℕ
-      psAt = partsBytes (partsFrom (t .partSizes) (t .partNegatives) (t .partCounts) (t .letters) 0 from (length (t .partSizes)))
-
-      ps-is : psAt ≡ ps
-      ps-is = rw from-is
-
-      pub end-there : (last : ℕ) → last ≡ at + length psAt → last + 1 ≤ room
-      end-there last e = let h = job-room in let g = ap length ps-is in omega (arith, h, g, e, at-is)
+      pub end-there : (last : ℕ) → last ≡ at + length hsAt → last + 1 ≤ room
+      end-there last e = let h = job-room in let g = ap length hs-is in omega (arith, h, g, e, at-is)
 
       pub job-stored : (l a b c d e : List ℕ) (last : ℕ) → a ≡ sets l 0 (1 ∷ []) → b ≡ sets a 1 (settingsBytes s) → c ≡ sets b 41 vs
-          → d ≡ sets c at psAt → last ≡ at + length psAt → e ≡ sets d last (0 ∷ []) → Put l e 0 (last + 1) (jobBytes (jobFrom s t))
+          → d ≡ sets c at hsAt → last ≡ at + length hsAt → e ≡ sets d last (0 ∷ []) → Put l e 0 (last + 1) (jobBytes (jobFrom s t))
       unfolding jobBytes jobFrom
       job-stored l a b c d e last p q r u n w =
-          let m : length psAt ≡ length ps = ap length ps-is in
+          let m : length hsAt ≡ length hs = ap length hs-is in
           record {
-            is = join l a e 0 1 (1 ∷ []) (settingsBytes s ++ (vs ++ (ps ++ (0 ∷ [])))) refl p
-                (join a b e 1 41 (settingsBytes s) (vs ++ (ps ++ (0 ∷ []))) (rw long-settings) q
-                (join b c e 41 at vs (ps ++ (0 ∷ [])) (sym at-is) r
-                (join c d e at last ps (0 ∷ []) (omega (arith, n, m)) (u ∙ ap (sets c at) ps-is) w)));
-            next = let k : length (jobBytes (jobFrom s t)) ≡ 42 + (length vs + length ps) = long-job in omega (arith, k, n, m, at-is);
+            is = join l a e 0 1 (1 ∷ []) (settingsBytes s ++ (vs ++ (hs ++ (0 ∷ [])))) refl p
+                (join a b e 1 41 (settingsBytes s) (vs ++ (hs ++ (0 ∷ []))) (rw long-settings) q
+                (join b c e 41 at vs (hs ++ (0 ∷ [])) (sym at-is) r
+                (join c d e at last hs (0 ∷ []) (omega (arith, n, m)) (u ∙ ap (sets c at) hs-is) w)));
+            next = let k : length (jobBytes (jobFrom s t)) ≡ 42 + (length vs + length hs) = long-job in omega (arith, k, n, m, at-is);
           }
 
 -- ---- the answer
@@ -200,61 +209,76 @@ module _ (t : Lent) where
   abbrev pub partsAgree : Bool
   partsAgree = twoAgree (length (t .partSizes)) (length (t .partNegatives)) (length (t .partCounts))
 
-  abbrev lettersAgree : Bool
+  abbrev pub lettersAgree : Bool
   lettersAgree = eqb (sum (t .counts) + sum (t .partCounts)) (length (t .letters))
 
-  pub all-agree : rowsAgree ≡ true → partsAgree ≡ true → lettersAgree ≡ true → agree t ≡ true
-  all-agree f g h = rw (f, g, h)
+  abbrev breaksAgree : Bool
+  breaksAgree = inOrder (length (t .partSizes)) 0 (t .breaks)
+
+  pub all-agree : rowsAgree ≡ true → partsAgree ≡ true → lettersAgree ≡ true → breaksAgree ≡ true → agree t ≡ true
+  all-agree f g h i = rw (f, g, h, i)
 
 module _ (s : Settings) (t : Lent) (out : List ℕ) where
   abbrev bytes : List ℕ
   bytes = jobBytes (jobFrom s t)
 
-  six : agree t ≡ false → (Refused 6 ≡ writingOf s t (length out)) × (out ≡ outAfter (Refused 6) bytes out)
+  -- refused by n, with nothing written
+  abbrev Declined : ℕ → Type 0
+  Declined n = (Refused n ≡ writingOf s t (length out)) × (out ≡ outAfter (Refused n) bytes out)
+
+  pub write-many : 15 < length (t .breaks) → Declined 27
   unfolding writingOf outAfter
-  six h = (sym (rw h), refl)
+  write-many h = (sym (rw (lt-ltb _ _ h)), refl)
 
-  pub write-rows : rowsAgree t ≡ false → (Refused 6 ≡ writingOf s t (length out)) × (out ≡ outAfter (Refused 6) bytes out)
-  write-rows h = six (rw h)
-
-  pub write-parts : rowsAgree t ≡ true → partsAgree t ≡ false → (Refused 6 ≡ writingOf s t (length out)) × (out ≡ outAfter (Refused 6) bytes out)
-  write-parts f h = six (rw (f, h))
-
-  pub write-letters : rowsAgree t ≡ true → partsAgree t ≡ true → lettersAgree t ≡ false → (Refused 6 ≡ writingOf s t (length out)) × (out ≡ outAfter (Refused 6) bytes out)
-  write-letters f g h = six (rw (f, g, h))
-
-  module _ (agrees : agree t ≡ true) where
-    pub write-over : anyOver (t .counts) ≡ true → (Refused 13 ≡ writingOf s t (length out)) × (out ≡ outAfter (Refused 13) bytes out)
+  module _ (within : length (t .breaks) ≤ 15) where
+    six : agree t ≡ false → Declined 6
     unfolding writingOf outAfter
-    write-over h = (sym (rw (agrees, h)), refl)
+    six h = (sym (rw (le-ltb _ _ within, h)), refl)
 
-    module _ (few : anyOver (t .counts) ≡ false) where
-      pub write-part-over : anyOver (t .partCounts) ≡ true → (Refused 13 ≡ writingOf s t (length out)) × (out ≡ outAfter (Refused 13) bytes out)
+    pub write-rows : rowsAgree t ≡ false → Declined 6
+    write-rows h = six (rw h)
+
+    pub write-parts : rowsAgree t ≡ true → partsAgree t ≡ false → Declined 6
+    write-parts f h = six (rw (f, h))
+
+    pub write-letters : rowsAgree t ≡ true → partsAgree t ≡ true → lettersAgree t ≡ false → Declined 6
+    write-letters f g h = six (rw (f, g, h))
+
+    pub write-breaks : rowsAgree t ≡ true → partsAgree t ≡ true → lettersAgree t ≡ true → breaksAgree t ≡ false → Declined 6
+    write-breaks f g h i = six (rw (f, g, h, i))
+
+    module _ (agrees : agree t ≡ true) where
+      pub write-over : anyOver (t .counts) ≡ true → Declined 13
       unfolding writingOf outAfter
-      write-part-over h = (sym (rw (agrees, few, h)), refl)
+      write-over h = (sym (rw (le-ltb _ _ within, agrees, h)), refl)
 
-      module _ (part-few : anyOver (t .partCounts) ≡ false) where
-        pub write-short : Short ≡ leftOf (42 + (total 2 (t .counts) + total 3 (t .partCounts))) (length out)
-            → (Refused 30 ≡ writingOf s t (length out)) × (out ≡ outAfter (Refused 30) bytes out)
+      module _ (few : anyOver (t .counts) ≡ false) where
+        pub write-part-over : anyOver (t .partCounts) ≡ true → Declined 13
         unfolding writingOf outAfter
-        write-short e =
-            let h = short-had _ _ e in
-            let k = job-total s t (agreed t agrees) in
-            let g : length out < length bytes = omega (arith, h, k) in
-            (sym (rw (agrees, few, part-few, lt-ltb _ _ g)), refl)
+        write-part-over h = (sym (rw (le-ltb _ _ within, agrees, few, h)), refl)
 
-        pub wrote : JobFits s t (length out) → {r : ℕ} {u : List ℕ} → Put out u 0 r bytes → (Wrote r ≡ writingOf s t (length out)) × (u ≡ outAfter (Wrote r) bytes out)
-        unfolding writingOf outAfter
-        wrote fit {r} {u} p =
-            let z : 0 + length bytes ≡ length bytes = omega arith in
-            let h = fit .fits in
-            let e : r ≡ length bytes = p .next ∙ z in (
-              sym (rw (agrees, few, part-few, le-ltb _ _ h, e)),
-              p .is ∙ sets-eq bytes out 0 (rw z h) ∙ ap (λ (k : ℕ). bytes ++ drop k out) z,
-            )
+        module _ (part-few : anyOver (t .partCounts) ≡ false) where
+          pub write-short : Short ≡ leftOf (42 + length (t .breaks) + (total 2 (t .counts) + total 3 (t .partCounts))) (length out) → Declined 30
+          unfolding writingOf outAfter
+          write-short e =
+              let h = short-had _ _ e in
+              let k = job-total s t (agreed t agrees) in
+              let g : length out < length bytes = omega (arith, h, k) in
+              (sym (rw (le-ltb _ _ within, agrees, few, part-few, lt-ltb _ _ g)), refl)
 
-    pub write-fits : {n : ℕ} → Enough n ≡ leftOf (42 + (total 2 (t .counts) + total 3 (t .partCounts))) (length out) → JobFits s t (length out)
-    write-fits enough =
-        let h = enough-had _ _ _ enough in
-        let k = job-total s t (agreed t agrees) in
-        record { agrees = agrees; fits = omega (arith, h .fits, k) }
+          pub wrote : JobFits s t (length out) → {r : ℕ} {u : List ℕ} → Put out u 0 r bytes → (Wrote r ≡ writingOf s t (length out)) × (u ≡ outAfter (Wrote r) bytes out)
+          unfolding writingOf outAfter
+          wrote fit {r} {u} p =
+              let z : 0 + length bytes ≡ length bytes = omega arith in
+              let h = fit .fits in
+              let e : r ≡ length bytes = p .next ∙ z in (
+                sym (rw (le-ltb _ _ within, agrees, few, part-few, le-ltb _ _ h, e)),
+                p .is ∙ sets-eq bytes out 0 (rw z h) ∙ ap (λ (k : ℕ). bytes ++ drop k out) z,
+              )
+
+  pub write-fits : agree t ≡ true → {n : ℕ} → Enough n ≡ leftOf (42 + length (t .breaks) + (total 2 (t .counts) + total 3 (t .partCounts))) (length out)
+      → JobFits s t (length out)
+  write-fits agrees enough =
+      let h = enough-had _ _ _ enough in
+      let k = job-total s t (agreed t agrees) in
+      record { agrees = agrees; fits = omega (arith, h .fits, k) }

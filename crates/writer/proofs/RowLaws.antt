@@ -100,16 +100,14 @@ module _ (starts ends : List ℕ) (sizes : List ℤ) (negatives : List Bool) (co
       let k : a + 26 + 17 * recordsFor c ≤ room = omega (arith, x, y, z, w, v, q, long, fit .fits) in
       record { letters-there = l; room-there = k; room-again = subst (λ (n : ℕ). a + 26 + 17 * recordsFor n ≤ room) (sym e) k; sums-are = omega (arith, s, sums) }
 
-module _ (sizes : List ℤ) (negatives : List Bool) (counts letters : List ℕ) where
+-- the parts of the rows up to `end`
+module _ (sizes : List ℤ) (negatives : List Bool) (counts letters : List ℕ) (end : ℕ) where
   abbrev pub partsAt : ℕ → ℕ → List ℕ
-  partsAt r p = partsBytes (partsFrom sizes negatives counts letters r p (length sizes - r))
+  partsAt r p = partsBytes (partsFrom sizes negatives counts letters r p (end - r))
 
-  pub parts-whole : (from : ℕ) → partsAt 0 from ≡ partsBytes (partsFrom sizes negatives counts letters 0 from (length sizes))
-  parts-whole from = let e : length sizes - 0 ≡ length sizes = omega arith in rw e
-
-  pub parts-none : (r p : ℕ) → length sizes ≤ r → partsAt r p ≡ []
+  pub parts-none : (r p : ℕ) → end ≤ r → partsAt r p ≡ []
   unfolding partsBytes partsFrom
-  parts-none r p h = let e : length sizes - r ≡ 0 = omega arith in rw e
+  parts-none r p h = let e : end - r ≡ 0 = omega arith in rw e
 
   abbrev partAt : ℕ → List ℕ
   partAt r = 3 ∷ partBody (getD sizes r (pos 0)) (getD negatives r false) (getD counts r 0)
@@ -118,11 +116,11 @@ module _ (sizes : List ℤ) (negatives : List Bool) (counts letters : List ℕ) 
   unfolding partBody bytes4 bytes2
   long-part r = refl
 
-  module _ (r p : ℕ) (inside : r < length sizes) (fits : p + getD counts r 0 ≤ length letters) where
+  module _ (r p : ℕ) (inside : r < end) (fits : p + getD counts r 0 ≤ length letters) where
     part-step : partsAt r p ≡ (partAt r ++ sequenceBytes (slice p (p + getD counts r 0) letters)) ++ partsAt (r + 1) (p + getD counts r 0)
     unfolding partsBytes partsFrom partBytes
     part-step =
-        let n : length sizes - r ≡ suc (length sizes - suc r) = omega arith in
+        let n : end - r ≡ suc (end - suc r) = omega arith in
         let e : p + getD counts r 0 - p ≡ getD counts r 0 = omega arith in
         let l : length (slice p (p + getD counts r 0) letters) ≡ getD counts r 0 = length-slice p (p + getD counts r 0) letters fits ∙ e in
         rw (add-one r, n, l)
@@ -138,20 +136,19 @@ module _ (sizes : List ℤ) (negatives : List Bool) (counts letters : List ℕ) 
           item-long out m u a b 10 (partAt r) _ (partsAt (r + 1) (p + getD counts r 0)) (long-part r) f′ g ∙ ap (λ (l : List ℕ). a + length l) (sym part-step),
         )
 
-  pub parts-turn : (from at room a p r : ℕ) → PartsFit sizes negatives counts letters from at room → r < length sizes
-      → a + length (partsAt r p) ≡ at + length (partsAt 0 from) → p + sum (drop r counts) ≡ from + sum counts
-      → Turn counts letters room a p r (from + sum counts) 10
-  parts-turn from at room a p r fit h long sums =
+  pub parts-turn : (from first at room a p r : ℕ) → PartsFit sizes negatives counts letters from first end at room → r < end
+      → a + length (partsAt r p) ≡ at + length (partsAt first from) → p + sum (drop r counts) ≡ length letters
+      → Turn counts letters room a p r (length letters) 10
+  parts-turn from first at room a p r fit h long sums =
       let c : ℕ = getD counts r 0 in
-      let g : r < length counts = omega (arith, fit .counts-are, h) in
+      let g : r < length counts = omega (arith, fit .counts-are, fit .end-in, h) in
       let s = sum-next counts r g in
-      let l : p + c ≤ length letters = omega (arith, s, sums, fit .letters-are) in
+      let l : p + c ≤ length letters = omega (arith, s, sums) in
       let x = ap length (part-step r p h l) in
       let y = length-append (partAt r ++ sequenceBytes (slice p (p + c) letters)) (partsAt (r + 1) (p + c)) in
       let z = length-append (partAt r) (sequenceBytes (slice p (p + c) letters)) in
       let w = long-sequence letters p c l in
       let v = long-part r in
-      let q = ap length (parts-whole from) in
       let e : p + c - p ≡ c = omega arith in
-      let k : a + 10 + 17 * recordsFor c ≤ room = omega (arith, x, y, z, w, v, q, long, fit .fits) in
+      let k : a + 10 + 17 * recordsFor c ≤ room = omega (arith, x, y, z, w, v, long, fit .fits) in
       record { letters-there = l; room-there = k; room-again = subst (λ (n : ℕ). a + 10 + 17 * recordsFor n ≤ room) (sym e) k; sums-are = omega (arith, s, sums) }

@@ -1,23 +1,24 @@
 -- The job that lent slices hold gives them back: row r of it has what stands at r in each slice, and the letters of its rows, one behind
--- the other, are all the letters, since the counts sum to their number. Assumes nothing.
+-- the other, are all the letters, since the counts sum to their number; where its haplotypes begin is where the parts were cut. Assumes nothing.
 use Prim.Native.Nat.{ℕ, zero, suc, _+_, _-_, _≤_, _<_}
 use native.Mathlib.Omega.{arith}
 use native.Mathlib.Numerals.{add-one}
 use mathlib.Core.Path.{_≡_, refl, sym, ap, _∙_}
 use mathlib.Core.Bool.{true, false}
-use mathlib.Core.List.{List, [], _∷_, _++_, map, append-assoc, append-nil}
+use mathlib.Core.List.{List, [], _∷_, _++_, map, flatten, append-assoc, append-nil}
 use lib.IntN.{pos}
 use lib.ListN.{length, getD, drop, take-append-drop, drop-of-length-le}
 use lib.Seq.{slice, drop-cons, drop-length, length-slice}
 use Rattle.params.specs.declared.Settings.{Settings}
 use Rattle.form.specs.Job.{Variant, Part}
-use Rattle.form.specs.Lent.{Lent, variantLetters, partLetters, jobCounts}
+use Rattle.form.specs.Lent.{Lent, variantLetters, partLetters, breaksOf, jobCounts}
 use Rattle.metrics.specs.Placed.{placed}
 use Rattle.reader.specs.Reading.{lentWith}
 use Rattle.form.specs.Lent.{sum}
-use Rattle.writer.specs.Writing.{agree, variantsFrom, partsFrom, jobFrom}
+use Rattle.writer.specs.Writing.{agree, variantsFrom, partsFrom, cutAt, jobFrom}
 use Rattle.writer.specs.RoundTrip.{laidOver, lentCounts}
 use Rattle.form.proofs.GatherLaws.{sum-next}
+use Rattle.writer.proofs.CutLaws.{flat-cut, breaks-back}
 use Rattle.writer.proofs.JobLaws.{Agreed, agreed}
 
 slice-rest : (p q : ℕ) (l : List ℕ) → p ≤ q → slice p q l ++ drop q l ≡ drop p l
@@ -66,7 +67,7 @@ module _ (counts : List ℕ) where
         ∙ ap (λ (l : List ℕ). slice p (p + c) letters ++ l) (letters-and-rest more n (suc r) (p + c) (omega arith))
         ∙ slice-rest p (p + c) letters (omega arith))
 
--- ---- the nine slices
+-- ---- the ten slices
 module _ (t : Lent) (a : Agreed t) where
   abbrev variantsOn : ℕ → ℕ → ℕ → List Variant
   variantsOn r p n = variantsFrom (t .starts) (t .ends) (t .sizes) (t .negatives) (t .counts) (t .letters) r p n
@@ -80,6 +81,13 @@ module _ (t : Lent) (a : Agreed t) where
   abbrev ps : List Part
   ps = partsOn 0 (sum (t .counts)) (length (t .partSizes))
 
+  abbrev hs : List (List Part)
+  hs = cutAt 0 (t .breaks) ps
+
+  -- the haplotypes, one behind the other, are the parts
+  all-parts : flatten hs ≡ ps
+  all-parts = flat-cut 0 (t .breaks) ps
+
   long-variants : (n r p : ℕ) → length (variantsOn r p n) ≡ n
   unfolding variantsFrom
   long-variants zero r p = refl
@@ -89,6 +97,9 @@ module _ (t : Lent) (a : Agreed t) where
   unfolding partsFrom
   long-parts zero r p = refl
   long-parts (suc n) r p = ap suc (long-parts n (suc r) (p + getD (t .partCounts) r 0))
+
+  breaks-are : breaksOf hs ≡ t .breaks
+  breaks-are = breaks-back (t .breaks) ps (rw (long-parts (length (t .partSizes)) 0 (sum (t .counts))) (a .breaks))
 
   starts-back : map (λ (x : Variant). x .start) vs ≡ t .starts
   unfolding variantsFrom
@@ -115,19 +126,22 @@ module _ (t : Lent) (a : Agreed t) where
   letter-counts-back = lengths-back (t .counts) (t .letters) (λ r p n. map (λ (x : Variant). length (x .letters)) (variantsOn r p n)) (λ r p. refl) (λ r p n. refl)
       (length (t .starts)) 0 0 (let e = a .counts in omega arith) (let e = a .letters in omega arith)
 
-  part-sizes-back : map (λ (x : Part). x .size) ps ≡ t .partSizes
+  part-sizes-back : map (λ (x : Part). x .size) (flatten hs) ≡ t .partSizes
   unfolding partsFrom
-  part-sizes-back = field-back (t .partCounts) (pos 0) (t .partSizes) (λ r p n. map (λ (x : Part). x .size) (partsOn r p n)) (λ r p. refl) (λ r p n. refl)
+  part-sizes-back = ap (map (λ (x : Part). x .size)) all-parts
+      ∙ field-back (t .partCounts) (pos 0) (t .partSizes) (λ r p n. map (λ (x : Part). x .size) (partsOn r p n)) (λ r p. refl) (λ r p n. refl)
       (length (t .partSizes)) 0 (sum (t .counts)) (omega arith)
 
-  part-negatives-back : map (λ (x : Part). x .negative) ps ≡ t .partNegatives
+  part-negatives-back : map (λ (x : Part). x .negative) (flatten hs) ≡ t .partNegatives
   unfolding partsFrom
-  part-negatives-back = field-back (t .partCounts) false (t .partNegatives) (λ r p n. map (λ (x : Part). x .negative) (partsOn r p n)) (λ r p. refl) (λ r p n. refl)
+  part-negatives-back = ap (map (λ (x : Part). x .negative)) all-parts
+      ∙ field-back (t .partCounts) false (t .partNegatives) (λ r p n. map (λ (x : Part). x .negative) (partsOn r p n)) (λ r p. refl) (λ r p n. refl)
       (length (t .partSizes)) 0 (sum (t .counts)) (let e = a .partNegatives in omega arith)
 
-  part-letter-counts-back : map (λ (x : Part). length (x .letters)) ps ≡ t .partCounts
+  part-letter-counts-back : map (λ (x : Part). length (x .letters)) (flatten hs) ≡ t .partCounts
   unfolding partsFrom
-  part-letter-counts-back = lengths-back (t .partCounts) (t .letters) (λ r p n. map (λ (x : Part). length (x .letters)) (partsOn r p n)) (λ r p. refl) (λ r p n. refl)
+  part-letter-counts-back = ap (map (λ (x : Part). length (x .letters))) all-parts
+      ∙ lengths-back (t .partCounts) (t .letters) (λ r p n. map (λ (x : Part). length (x .letters)) (partsOn r p n)) (λ r p. refl) (λ r p n. refl)
       (length (t .partSizes)) 0 (sum (t .counts)) (let e = a .partCounts in omega arith) (let e = a .letters in omega arith)
 
   variant-letters : variantLetters vs ++ drop (0 + sum (t .counts)) (t .letters) ≡ t .letters
@@ -140,12 +154,12 @@ module _ (t : Lent) (a : Agreed t) where
   part-letters = letters-and-rest (t .partCounts) (t .letters) (λ r p n. partLetters (partsOn r p n)) (λ r p. refl) (λ r p n. refl)
       (length (t .partSizes)) 0 (sum (t .counts)) (let e = a .partCounts in omega arith)
 
-  all-letters : variantLetters vs ++ partLetters ps ≡ t .letters
+  all-letters : variantLetters vs ++ partLetters (flatten hs) ≡ t .letters
   all-letters =
       let z : 0 + sum (t .counts) ≡ sum (t .counts) = omega arith in
       let none : drop (sum (t .counts) + sum (t .partCounts)) (t .letters) ≡ [] = rw (a .letters, drop-length (t .letters)) in
       let last : partLetters ps ≡ drop (sum (t .counts)) (t .letters) = sym (append-nil (partLetters ps)) ∙ rw none at part-letters in
-      rw last (rw z at variant-letters)
+      rw (all-parts, last) (rw z at variant-letters)
 
 pub slices-back : (s : Settings) (t u : Lent) → agree t ≡ true → lentWith (jobFrom s t) u ≡ laidOver u t
 unfolding lentWith jobFrom laidOver
@@ -160,6 +174,7 @@ slices-back s t u h =
       partSizes = placed (u .partSizes) (part-sizes-back t a i);
       partNegatives = placed (u .partNegatives) (part-negatives-back t a i);
       partCounts = placed (u .partCounts) (part-letter-counts-back t a i);
+      breaks = placed (u .breaks) (breaks-are t a i);
       letters = placed (u .letters) (all-letters t a i);
     }
 
@@ -167,8 +182,10 @@ pub counts-back : (s : Settings) (t : Lent) → agree t ≡ true → jobCounts (
 unfolding jobCounts jobFrom lentCounts
 counts-back s t h =
     let a = agreed t h in
+    let all-long = ap length (all-parts t a) ∙ long-parts t a (length (t .partSizes)) 0 (sum (t .counts)) in
     λ i. record {
       variants = long-variants t a (length (t .starts)) 0 0 i;
-      parts = long-parts t a (length (t .partSizes)) 0 (sum (t .counts)) i;
+      parts = all-long i;
+      breaks = length (breaks-are t a i);
       letters = length (all-letters t a i);
     }

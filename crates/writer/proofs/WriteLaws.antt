@@ -146,19 +146,19 @@ module _ (xs ys : List ℕ) (have : ℕ) where
         zero-or zero = inl refl
         zero-or (suc m) = inr (omega arith)
 
--- ---- the room behind settings, variants, parts and end
-module _ (a b room : ℕ) where
-  pub spare-none : room < 42 → Short ≡ leftOf (42 + (a + b)) room
-  spare-none h = left-less 42 (a + b) room h
+-- ---- the room behind variants and parts, and the least that a job takes without them
+module _ (least a b room : ℕ) where
+  pub spare-none : room < least → Short ≡ leftOf (least + (a + b)) room
+  spare-none h = left-less least (a + b) room h
 
-  module _ (h : 42 ≤ room) where
-    pub spare-short : Short ≡ leftOf a (room - 42) → Short ≡ leftOf (42 + (a + b)) room
-    spare-short e = left-less a b (room - 42) (short-had _ _ e) ∙ left-take 42 (a + b) room h
+  module _ (h : least ≤ room) where
+    pub spare-short : Short ≡ leftOf a (room - least) → Short ≡ leftOf (least + (a + b)) room
+    spare-short e = left-less a b (room - least) (short-had _ _ e) ∙ left-take least (a + b) room h
 
-    pub spare-enough : (n : ℕ) (r : Left) → Enough n ≡ leftOf a (room - 42) → r ≡ leftOf b n → r ≡ leftOf (42 + (a + b)) room
+    pub spare-enough : (n : ℕ) (r : Left) → Enough n ≡ leftOf a (room - least) → r ≡ leftOf b n → r ≡ leftOf (least + (a + b)) room
     spare-enough n r e g =
         let f = enough-had _ _ _ e in
-        g ∙ ap (leftOf b) (f .is) ∙ left-take a b (room - 42) (f .fits) ∙ left-take 42 (a + b) room h
+        g ∙ ap (leftOf b) (f .is) ∙ left-take a b (room - least) (f .fits) ∙ left-take least (a + b) room h
 
 -- ---- a letters record
 pub long-padded : (l : List ℕ) → length (padded l) ≡ 16

@@ -1,4 +1,4 @@
--- What a job's numbers are as values of their types, with at most 131,072 letters in a sequence: every job that the writer accepts is such a one.
+-- What a job's numbers are as values of their types, with at most 131,072 letters in a sequence and 1 to 16 haplotypes: every job that the writer accepts is such a one.
 use Prim.Native.Nat.{ℕ, _≤_, _<_, _^_}
 use mathlib.Core.List.{List, [], _∷_}
 use lib.Dec.{T}
@@ -40,10 +40,16 @@ abbrev pub PartsHold : List Part → Type 0
 PartsHold [] = Unit {0}
 PartsHold (x ∷ xs) = PartHolds x × PartsHold xs
 
+abbrev pub HaplotypesHold : List (List Part) → Type 0
+HaplotypesHold [] = Unit {0}
+HaplotypesHold (xs ∷ rest) = PartsHold xs × HaplotypesHold rest
+
 pub record JobHolds (job : Job) : Type 0 where
   pub settings : SettingsHold (job .settings)
   pub variants : VariantsHold (job .variants)
-  pub parts : PartsHold (job .parts)
+  pub haplotypes : HaplotypesHold (job .haplotypes)
+  pub some : 1 ≤ length (job .haplotypes)
+  pub few : length (job .haplotypes) ≤ 16
 
 -- the lent slices, as values of their types
 pub record LentHolds (t : Lent) : Type 0 where

@@ -12,8 +12,8 @@ use Rattle.form.specs.Lent.{lent}
 use Rattle.writer.specs.Writing.{jobFrom, writingOf, outAfter}
 use Rattle.writer.specs.declared.Writing.{Writing}
 
-abbrev pub WriteJobPromise : Settings → List ℕ → List ℕ → List ℤ → List Bool → List ℕ → List ℤ → List Bool → List ℕ → List ℕ → List ℕ
+abbrev pub WriteJobPromise : Settings → List ℕ → List ℕ → List ℤ → List Bool → List ℕ → List ℤ → List Bool → List ℕ → List ℕ → List ℕ → List ℕ
     → List ℕ → Writing → Type 0
-WriteJobPromise settings starts ends sizes negatives letterCounts partSizes partNegatives partLetterCounts letters out out' r =
-    let t = lent starts ends sizes negatives letterCounts partSizes partNegatives partLetterCounts letters in
+WriteJobPromise settings starts ends sizes negatives letterCounts partSizes partNegatives partLetterCounts breaks letters out out' r =
+    let t = lent starts ends sizes negatives letterCounts partSizes partNegatives partLetterCounts breaks letters in
     (r ≡ writingOf settings t (length out)) × (out' ≡ outAfter r (jobBytes (jobFrom settings t)) out)

@@ -4,14 +4,14 @@ use mathlib.Core.Path.{_≡_}
 use mathlib.Core.List.{List, [], _∷_}
 use mathlib.Core.Bool.{Bool, true, cond}
 use lib.IntN.{ℤ}
-use lib.ListN.{length}
+use lib.ListN.{length, drop}
 use lib.Seq.{sets}
 use lib.Dec.{leb, eqb}
 use Rattle.params.specs.declared.Settings.{Settings}
 use Rattle.form.specs.Form.{lettersKind, lettersLen, kindOf, bodyLen}
-use Rattle.form.specs.Job.{recordsFor, variantsBytes, partsBytes, jobBytes}
+use Rattle.form.specs.Job.{recordsFor, variantsBytes, partsBytes, haplotypesBytes, jobBytes}
 use Rattle.form.specs.Lent.{Lent, sum}
-use Rattle.writer.specs.Writing.{variantsFrom, partsFrom, agree, jobFrom}
+use Rattle.writer.specs.Writing.{variantsFrom, partsFrom, cutAt, inOrder, agree, jobFrom}
 use Rattle.writer.specs.declared.Left.{Left}
 use Rattle.writer.specs.declared.Left.the-variants.{Short, Enough}
 
@@ -36,11 +36,22 @@ pub record VariantsFit (starts ends : List ℕ) (sizes : List ℤ) (negatives : 
   pub letters-are : sum counts ≤ length letters
   pub fits : at + length (variantsBytes (variantsFrom starts ends sizes negatives counts letters 0 0 (length starts))) ≤ room
 
-pub record PartsFit (sizes : List ℤ) (negatives : List Bool) (counts letters : List ℕ) (from at room : ℕ) : Type 0 where
+-- the parts of the rows from `first` up to `end`, whose letters begin at `from` and go up to the last with those of the rows behind them
+pub record PartsFit (sizes : List ℤ) (negatives : List Bool) (counts letters : List ℕ) (from first end at room : ℕ) : Type 0 where
   pub negatives-are : length negatives ≡ length sizes
   pub counts-are : length counts ≡ length sizes
-  pub letters-are : from + sum counts ≤ length letters
-  pub fits : at + length (partsBytes (partsFrom sizes negatives counts letters 0 from (length sizes))) ≤ room
+  pub letters-are : from + sum (drop first counts) ≡ length letters
+  pub first-in : first ≤ end
+  pub end-in : end ≤ length sizes
+  pub fits : at + length (partsBytes (partsFrom sizes negatives counts letters first from (end - first))) ≤ room
+
+-- all parts, cut into haplotypes
+pub record HaplotypesFit (sizes : List ℤ) (negatives : List Bool) (counts letters : List ℕ) (from : ℕ) (breaks : List ℕ) (at room : ℕ) : Type 0 where
+  pub negatives-are : length negatives ≡ length sizes
+  pub counts-are : length counts ≡ length sizes
+  pub letters-are : from + sum counts ≡ length letters
+  pub breaks-are : inOrder (length sizes) 0 breaks ≡ true
+  pub fits : at + length (haplotypesBytes (cutAt 0 breaks (partsFrom sizes negatives counts letters 0 from (length sizes)))) ≤ room
 
 -- xs stand in u from position at on, and r is behind them
 pub record Put (t u : List ℕ) (at r : ℕ) (xs : List ℕ) : Type 0 where

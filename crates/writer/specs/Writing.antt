@@ -1,12 +1,13 @@
--- Document 01, "Job form": the job that nine lent slices hold, and what writing it answers.
-use Prim.Native.Nat.{ℕ, zero, suc, _+_}
+-- Document 01, "Job form", and change request P1: the job that ten lent slices hold, and what writing it answers.
+use Prim.Native.Nat.{ℕ, zero, suc, _+_, _-_}
 use mathlib.Core.List.{List, [], _∷_}
-use mathlib.Core.Bool.{Bool, false, not, _&&_, _||_, cond}
+use mathlib.Core.Bool.{Bool, true, false, not, _&&_, _||_, cond}
 use lib.IntN.{ℤ, pos}
-use lib.ListN.{length, getD}
+use lib.ListN.{length, getD, take, drop}
 use lib.Seq.{slice}
-use lib.Dec.{eqb, ltb}
+use lib.Dec.{eqb, leb, ltb}
 use Rattle.params.specs.declared.Settings.{Settings}
+use Rattle.form.specs.Form.{mostBreaks}
 use Rattle.form.specs.Job.{Variant, Part, Job, jobBytes}
 use Rattle.metrics.specs.Placed.{placed}
 use Rattle.form.specs.Lent.{Lent, sum}
@@ -32,12 +33,17 @@ partsFrom sizes negatives counts letters r at (suc n) = record {
   letters = slice at (at + getD counts r 0) letters;
 } ∷ partsFrom sizes negatives counts letters (suc r) (at + getD counts r 0) n
 
+-- parts cut into haplotypes: a break says how many parts stand before the next, and `at` parts stand before these
+unfoldable pub cutAt : ℕ → List ℕ → List Part → List (List Part)
+cutAt at [] parts = parts ∷ []
+cutAt at (b ∷ breaks) parts = take (b - at) parts ∷ cutAt b breaks (drop (b - at) parts)
+
 -- V is the number of starts, m the number of part sizes
 unfoldable pub jobFrom : Settings → Lent → Job
 jobFrom s t = record {
   settings = s;
   variants = variantsFrom (t .starts) (t .ends) (t .sizes) (t .negatives) (t .counts) (t .letters) 0 0 (length (t .starts));
-  parts = partsFrom (t .partSizes) (t .partNegatives) (t .partCounts) (t .letters) 0 (sum (t .counts)) (length (t .partSizes));
+  haplotypes = cutAt 0 (t .breaks) (partsFrom (t .partSizes) (t .partNegatives) (t .partCounts) (t .letters) 0 (sum (t .counts)) (length (t .partSizes)));
 }
 
 unfoldable pub fourAgree : ℕ → ℕ → ℕ → ℕ → ℕ → Bool
@@ -46,23 +52,30 @@ fourAgree n a b c d = eqb a n && (eqb b n && (eqb c n && eqb d n))
 unfoldable pub twoAgree : ℕ → ℕ → ℕ → Bool
 twoAgree n a b = eqb a n && eqb b n
 
--- rows that agree with V and m, and as many letters as the counts say
+-- breaks of which none is below the one before (the first: below `low`) or over m
+unfoldable pub inOrder : ℕ → ℕ → List ℕ → Bool
+inOrder m low [] = true
+inOrder m low (b ∷ breaks) = leb low b && (leb b m && inOrder m b breaks)
+
+-- rows that agree with V and m, as many letters as the counts say, and breaks in order
 abbrev pub agree : Lent → Bool
 agree t =
     fourAgree (length (t .starts)) (length (t .ends)) (length (t .sizes)) (length (t .negatives)) (length (t .counts))
     && (twoAgree (length (t .partSizes)) (length (t .partNegatives)) (length (t .partCounts))
-    && eqb (sum (t .counts) + sum (t .partCounts)) (length (t .letters)))
+    && (eqb (sum (t .counts) + sum (t .partCounts)) (length (t .letters))
+    && inOrder (length (t .partSizes)) 0 (t .breaks)))
 
 unfoldable pub anyOver : List ℕ → Bool
 anyOver [] = false
 anyOver (n ∷ ns) = ltb 131072 n || anyOver ns
 
--- refused by 6, 13 and then 30; else the number of bytes written
+-- refused by 27, 6, 13 and then 30; else the number of bytes written
 unfoldable pub writingOf : Settings → Lent → ℕ → Writing
 writingOf s t room =
-    cond (not (agree t)) (Refused 6)
+    cond (ltb mostBreaks (length (t .breaks))) (Refused 27)
+    (cond (not (agree t)) (Refused 6)
     (cond (anyOver (t .counts) || anyOver (t .partCounts)) (Refused 13)
-    (cond (ltb room (length (jobBytes (jobFrom s t)))) (Refused 30) (Wrote (length (jobBytes (jobFrom s t))))))
+    (cond (ltb room (length (jobBytes (jobFrom s t)))) (Refused 30) (Wrote (length (jobBytes (jobFrom s t)))))))
 
 -- what the lent room holds after the answer: the bytes at the front, or what it held
 unfoldable pub outAfter : Writing → List ℕ → List ℕ → List ℕ

@@ -8,7 +8,9 @@ use form::records::LEAST_JOB;
 use form::records::LETTERS;
 use form::records::LETTERS_BODY;
 use form::records::LETTERS_RECORD;
+use form::records::MOST_BREAKS;
 use form::records::MOST_LETTERS;
+use form::records::NEXT;
 use form::records::PART;
 use form::records::PART_RECORD;
 use form::records::SETTINGS;
@@ -20,6 +22,7 @@ use form::records::kind_of;
 use form::settings::write_settings;
 use metrics::refusals::BAD_LENGTHS;
 use metrics::refusals::LITTLE_ROOM;
+use metrics::refusals::TOO_MANY_HAPLOTYPES;
 use metrics::refusals::TOO_MANY_LETTERS;
 use params::Settings;
 ghost use mathlib.Core.Path.{_≡_};
@@ -27,13 +30,13 @@ ghost use mathlib.Core.List.{_∷_};
 ghost use Prim.Native.Nat.{_≤_, _<_, _+_, _^_};
 ghost use Prim.Native.Nat.{suc, _*_, _-_};
 ghost use lib.Dec.{eqb};
-ghost use lib.ListN.{length, take, getD};
+ghost use lib.ListN.{length, take, drop, getD};
 ghost use lib.Seq.{sets, slice};
-ghost use Rattle.form.specs.Form.{settingsLen, variantKind, partKind, lettersKind, variantLen, partLen, lettersLen};
-ghost use Rattle.form.specs.Job.{padded, recordsFor, sequenceBytes, partBody, variantBody, variantsBytes, partsBytes, jobBytes};
+ghost use Rattle.form.specs.Form.{settingsLen, mostBreaks, variantKind, partKind, lettersKind, variantLen, partLen, lettersLen};
+ghost use Rattle.form.specs.Job.{padded, recordsFor, sequenceBytes, partBody, variantBody, variantsBytes, partsBytes, haplotypesBytes, jobBytes};
 ghost use Rattle.form.specs.Lent.{lent, sum};
-ghost use Rattle.writer.specs.Writing.{anyOver, fourAgree, twoAgree, variantsFrom, partsFrom, jobFrom};
-ghost use Rattle.writer.specs.Steps.{costOf, total, leftOf, VariantsFit, PartsFit, Put, JobFits};
+ghost use Rattle.writer.specs.Writing.{anyOver, fourAgree, twoAgree, inOrder, variantsFrom, partsFrom, cutAt, jobFrom};
+ghost use Rattle.writer.specs.Steps.{costOf, total, leftOf, VariantsFit, PartsFit, HaplotypesFit, Put, JobFits};
 ghost use Rattle.writer.specs.Promises.{WriteJobPromise};
 
 pub enum Writing {
@@ -120,14 +123,35 @@ fn letters_agree(counts: &[u32], parts: &[u32], have: usize) -> bool
     }
 }
 
-// What is left of the room behind the settings, the variants, the parts and the end.
-fn spare(counts: &[u32], parts: &[u32], room: usize) -> Left
-    ensures { λ r. ⌜ r ≡ leftOf (suc (suc settingsLen) + (total variantKind (now (counts .entry)) + total partKind (now (parts .entry)))) room ⌝ }
+fn breaks_agree(m: usize, breaks: &[u64]) -> bool
+    ensures { λ r. ⌜ r ≡ inOrder m 0 (now (breaks .entry)) ⌝ }
 {
-    if room < LEAST_JOB {
+    let mut low = 0usize;
+    let mut i = 0usize;
+    while i < breaks.len() {
+        let b = breaks[i] as usize;
+        if b < low {
+            return false;
+        }
+        if m < b {
+            return false;
+        }
+        low = b;
+        i += 1;
+    }
+    true
+}
+
+// What is left of the room behind the settings, the variants, the parts, the haplotypes' own records and the end.
+fn spare(counts: &[u32], parts: &[u32], breaks: usize, room: usize) -> Left
+    requires { ⌜ breaks ≤ mostBreaks ⌝ }
+    ensures { λ r. ⌜ r ≡ leftOf (suc (suc settingsLen) + breaks + (total variantKind (now (counts .entry)) + total partKind (now (parts .entry)))) room ⌝ }
+{
+    let least = LEAST_JOB + breaks;
+    if room < least {
         return Left::Short;
     }
-    let first = left_after(VARIANT, counts, room - LEAST_JOB);
+    let first = left_after(VARIANT, counts, room - least);
     match first {
         Left::Short => Left::Short,
         Left::Enough(n) => left_after(PART, parts, n),
@@ -254,6 +278,7 @@ fn write_variants(
     Reached { at: a, letter: p }
 }
 
+// The parts of the rows from `first` up to `end`, whose letters begin at `from`.
 fn write_parts(
     out: &mut [u8],
     at: usize,
@@ -262,23 +287,58 @@ fn write_parts(
     counts: &[u32],
     letters: &[u8],
     from: usize,
+    first: usize,
+    end: usize,
+) -> Reached
+    requires { ⌜ PartsFit (now sizes) (now negatives) (now counts) (now letters) from first end at (length (now out)) ⌝ }
+    ensures rows { λ r. ⌜ Put (now (out .entry)) (now (out .exit)) at (r .at) (partsBytes (partsFrom (now (sizes .entry)) (now (negatives .entry))
+        (now (counts .entry)) (now (letters .entry)) first from (end - first))) ⌝ }
+    ensures letter { λ r. ⌜ r .letter + sum (drop end (now (counts .entry))) ≡ length (now (letters .entry)) ⌝ }
+{
+    let mut a = at;
+    let mut p = from;
+    let mut r = first;
+    while r < end {
+        let count = counts[r];
+        let stop = p + count as usize;
+        write_part(out, a, sizes[r], negatives[r], count);
+        a = write_sequence(out, a + PART_RECORD, letters, p, stop);
+        p = stop;
+        r += 1;
+    }
+    Reached { at: a, letter: p }
+}
+
+// All parts, each haplotype's but the first behind a record of its own. Returns the position behind them.
+fn write_haplotypes(
+    out: &mut [u8],
+    at: usize,
+    sizes: &[i32],
+    negatives: &[bool],
+    counts: &[u32],
+    breaks: &[u64],
+    letters: &[u8],
+    from: usize,
 ) -> usize
-    requires { ⌜ PartsFit (now sizes) (now negatives) (now counts) (now letters) from at (length (now out)) ⌝ }
-    ensures { λ r. ⌜ Put (now (out .entry)) (now (out .exit)) at r (partsBytes (partsFrom (now (sizes .entry)) (now (negatives .entry))
-        (now (counts .entry)) (now (letters .entry)) 0 from (length (now (sizes .entry))))) ⌝ }
+    requires { ⌜ HaplotypesFit (now sizes) (now negatives) (now counts) (now letters) from (now breaks) at (length (now out)) ⌝ }
+    ensures { λ r. ⌜ Put (now (out .entry)) (now (out .exit)) at r (haplotypesBytes (cutAt 0 (now (breaks .entry)) (partsFrom (now (sizes .entry))
+        (now (negatives .entry)) (now (counts .entry)) (now (letters .entry)) 0 from (length (now (sizes .entry)))))) ⌝ }
 {
     let mut a = at;
     let mut p = from;
     let mut r = 0usize;
-    while r < sizes.len() {
-        let count = counts[r];
-        let end = p + count as usize;
-        write_part(out, a, sizes[r], negatives[r], count);
-        a = write_sequence(out, a + PART_RECORD, letters, p, end);
-        p = end;
-        r += 1;
+    let mut h = 0usize;
+    while h < breaks.len() {
+        let end = breaks[h] as usize;
+        let done = write_parts(out, a, sizes, negatives, counts, letters, p, r, end);
+        put_u8(out, done.at, NEXT);
+        a = done.at + 1;
+        p = done.letter;
+        r = end;
+        h += 1;
     }
-    a
+    let last = write_parts(out, a, sizes, negatives, counts, letters, p, r, sizes.len());
+    last.at
 }
 
 fn lay_job(
@@ -291,14 +351,15 @@ fn lay_job(
     part_sizes: &[i32],
     part_negatives: &[bool],
     part_letter_counts: &[u32],
+    breaks: &[u64],
     letters: &[u8],
     out: &mut [u8],
 ) -> usize
     requires { ⌜ JobFits settings (lent (now starts) (now ends) (now sizes) (now negatives) (now «letter_counts»)
-        (now «part_sizes») (now «part_negatives») (now «part_letter_counts») (now letters)) (length (now out)) ⌝ }
+        (now «part_sizes») (now «part_negatives») (now «part_letter_counts») (now breaks) (now letters)) (length (now out)) ⌝ }
     ensures { λ r. ⌜ Put (now (out .entry)) (now (out .exit)) 0 r (jobBytes (jobFrom settings (lent
         (now (starts .entry)) (now (ends .entry)) (now (sizes .entry)) (now (negatives .entry)) (now («letter_counts» .entry))
-        (now («part_sizes» .entry)) (now («part_negatives» .entry)) (now («part_letter_counts» .entry)) (now (letters .entry))))) ⌝ }
+        (now («part_sizes» .entry)) (now («part_negatives» .entry)) (now («part_letter_counts» .entry)) (now (breaks .entry)) (now (letters .entry))))) ⌝ }
 {
     put_u8(out, 0, SETTINGS);
     write_settings(out, 1, settings);
@@ -312,12 +373,13 @@ fn lay_job(
         letter_counts,
         letters,
     );
-    let at = write_parts(
+    let at = write_haplotypes(
         out,
         v.at,
         part_sizes,
         part_negatives,
         part_letter_counts,
+        breaks,
         letters,
         v.letter,
     );
@@ -325,7 +387,7 @@ fn lay_job(
     at + 1
 }
 
-// The job that the slices hold, written at the front of `out`, or refused by 6, 13 or 30 with nothing written.
+// The job that the slices hold, written at the front of `out`, or refused by 27, 6, 13 or 30 with nothing written.
 pub fn write_job(
     settings: Settings,
     starts: &[u64],
@@ -336,12 +398,16 @@ pub fn write_job(
     part_sizes: &[i32],
     part_negatives: &[bool],
     part_letter_counts: &[u32],
+    breaks: &[u64],
     letters: &[u8],
     out: &mut [u8],
 ) -> Writing
     ensures { λ r. ⌜ WriteJobPromise settings (now (starts .entry)) (now (ends .entry)) (now (sizes .entry)) (now (negatives .entry)) (now («letter_counts» .entry))
-        (now («part_sizes» .entry)) (now («part_negatives» .entry)) (now («part_letter_counts» .entry)) (now (letters .entry)) (now (out .entry)) (now (out .exit)) r ⌝ }
+        (now («part_sizes» .entry)) (now («part_negatives» .entry)) (now («part_letter_counts» .entry)) (now (breaks .entry)) (now (letters .entry)) (now (out .entry)) (now (out .exit)) r ⌝ }
 {
+    if MOST_BREAKS < breaks.len() {
+        return Writing::Refused(TOO_MANY_HAPLOTYPES);
+    }
     if !rows_agree(
         starts.len(),
         ends.len(),
@@ -361,13 +427,16 @@ pub fn write_job(
     if !letters_agree(letter_counts, part_letter_counts, letters.len()) {
         return Writing::Refused(BAD_LENGTHS);
     }
+    if !breaks_agree(part_sizes.len(), breaks) {
+        return Writing::Refused(BAD_LENGTHS);
+    }
     if any_over(letter_counts) {
         return Writing::Refused(TOO_MANY_LETTERS);
     }
     if any_over(part_letter_counts) {
         return Writing::Refused(TOO_MANY_LETTERS);
     }
-    let room = spare(letter_counts, part_letter_counts, out.len());
+    let room = spare(letter_counts, part_letter_counts, breaks.len(), out.len());
     match room {
         Left::Short => Writing::Refused(LITTLE_ROOM),
         Left::Enough(n) => Writing::Wrote(lay_job(
@@ -380,6 +449,7 @@ pub fn write_job(
             part_sizes,
             part_negatives,
             part_letter_counts,
+            breaks,
             letters,
             out,
         )),

@@ -2,7 +2,7 @@
 use super::{left_out, target_word};
 use crate::model::Sheet;
 use crate::refusals::Refusal;
-use crate::search::{used_parts, without_thresholds};
+use crate::search::{used_parts, without_thresholds, Own};
 use ndigomarr::{Answer, Target};
 use serde::Serialize;
 
@@ -45,6 +45,8 @@ struct Document<'a> {
     answer: Option<Found<'a>>,
     /// The best path with both thresholds at 0, where nothing was found.
     without_thresholds: Option<Found<'a>>,
+    /// Null where the sheet names none.
+    haplotype: Option<&'a str>,
 }
 
 fn float(value: f32) -> Float {
@@ -71,7 +73,8 @@ fn found<'a>(sheet: &'a Sheet, answer: &Answer) -> Found<'a> {
     }
 }
 
-pub fn document(file: &str, sheet: &Sheet, answer: &Result<Answer, Vec<Refusal>>) -> String {
+/// Of a haplotype in a sheet of its own.
+pub fn document(file: &str, sheet: &Sheet, answer: &Own) -> String {
     let nothing = answer.as_ref().is_ok_and(|answer| answer.target == Target::Nothing);
     let free = if nothing { without_thresholds(sheet) } else { None };
     let reasons = answer.as_ref().err().map_or(&[][..], |reasons| &reasons[..]);
@@ -81,6 +84,7 @@ pub fn document(file: &str, sheet: &Sheet, answer: &Result<Answer, Vec<Refusal>>
         reasons: reasons.iter().map(Refusal::to_string).collect(),
         answer: answer.as_ref().ok().map(|answer| found(sheet, answer)),
         without_thresholds: free.map(|free| found(sheet, &free)),
+        haplotype: sheet.haplotype(),
     };
     serde_json::to_string(&document).map_or_else(|fault| format!("{{\"error\":\"{fault}\"}}\n"), |text| text + "\n")
 }

@@ -2,7 +2,7 @@
 use crate::float;
 use crate::model::{counted, Sheet, MAXPATHS, SEQSIM, SIZESIM};
 use crate::refusals::Refusal;
-use crate::search::{used_parts, without_thresholds};
+use crate::search::{used_parts, without_thresholds, Own};
 use crate::warnings::{self, Warning};
 use ndigomarr::{Answer, Target};
 
@@ -81,7 +81,8 @@ fn no_path(sheet: &Sheet, answer: &Answer) -> String {
     let settings = sheet.settings.to_library();
     let other = "the signs of the sizes differ, or the penalties take all";
     if sheet.parts.is_empty() && settings.pileupmax > 0 {
-        return "the sheet has no parts, so there is no part list that a path could match".into();
+        let which = if sheet.haplotype().is_some() { "haplotype" } else { "sheet" };
+        return format!("the {which} has no parts, so there is no part list that a path could match");
     }
     if sheet.one_to_one() {
         return format!("even with sizesim and seqsim at 0 no row is a candidate: one needs seqsim above 0 and a score above 0, and here the letters share nothing, {other}");
@@ -112,15 +113,22 @@ pub fn why(sheet: &Sheet, answer: &Answer) -> Vec<String> {
     lines
 }
 
-fn titled(title: &str, lines: Vec<String>) -> Vec<(String, String)> {
+fn titled(title: &str, lines: Vec<String>) -> Lines {
     lines.into_iter().enumerate().map(|(at, words)| (if at == 0 { title.into() } else { String::new() }, words)).collect()
 }
 
-/// A search that stopped early is said first. Notes and warnings stand above the path.
-pub fn text(sheet: &Sheet, answer: &Answer, notes: &[String]) -> String {
+/// A title and its words, each line of them.
+type Lines = Vec<(String, String)>;
+
+fn printed(lines: &Lines) -> String {
+    lines.iter().map(|(title, words)| format!("{title:8}{words}\n")).collect()
+}
+
+/// One haplotype's answer, in a sheet of its own. A search that stopped early is said first; what stands above the path comes then.
+fn block(sheet: &Sheet, answer: &Answer, above: Lines) -> String {
     let search = titled("search", vec![search_words(sheet, answer)]);
     let mut lines = if answer.complete { vec![] } else { search.clone() };
-    lines.extend(above(notes, &warnings::of_rows(sheet)));
+    lines.extend(above);
     lines.extend(titled("path", path_lines(sheet, answer)));
     if answer.target == Target::Nothing {
         lines.extend(titled("why", why(sheet, answer)));
@@ -132,17 +140,35 @@ pub fn text(sheet: &Sheet, answer: &Answer, notes: &[String]) -> String {
         lines.extend(search);
     }
     lines.extend(titled("ties", vec![tie_words(sheet)]));
-    lines.iter().map(|(title, words)| format!("{title:8}{words}\n")).collect()
+    printed(&lines)
 }
 
-fn above(notes: &[String], warnings: &[Warning]) -> Vec<(String, String)> {
+/// One answer with notes and warnings above its path; of several each under its haplotype's name, with notes and warnings above all.
+pub fn text(sheet: &Sheet, answers: &[Own], notes: &[String]) -> String {
+    let above = above(notes, &warnings::of_rows(sheet));
+    let each = sheet.each();
+    if let ([Ok(answer)], [own]) = (answers, &each[..]) {
+        return block(own, answer, above);
+    }
+    let told = answers.iter().zip(&each).map(|(answer, own)| {
+        let words = match answer {
+            Ok(answer) => block(own, answer, vec![]),
+            Err(reasons) => reasons.iter().map(|reason| format!("{reason}\n")).collect(),
+        };
+        format!("haplotype {}\n{words}", own.haplotype().unwrap_or_default())
+    });
+    let above = Some(printed(&above)).filter(|above| !above.is_empty());
+    above.into_iter().chain(told).collect::<Vec<_>>().join("\n")
+}
+
+fn above(notes: &[String], warnings: &[Warning]) -> Lines {
     let notes = notes.iter().map(|note| ("note".to_string(), note.clone()));
     notes.chain(warnings.iter().map(|warning| ("warning".to_string(), warning.to_string()))).collect()
 }
 
 /// A refusal: every reason, with notes and warnings above.
 pub fn refused(sheet: &Sheet, reasons: &[Refusal], notes: &[String]) -> String {
-    let mut text: String = above(notes, &warnings::of_rows(sheet)).iter().map(|(title, words)| format!("{title:8}{words}\n")).collect();
+    let mut text = printed(&above(notes, &warnings::of_rows(sheet)));
     for reason in reasons {
         text += &format!("{reason}\n");
     }

@@ -2,12 +2,11 @@
 use super::{left_out, target_word};
 use crate::float;
 use crate::model::Sheet;
-use crate::refusals::Refusal;
-use ndigomarr::Answer;
+use crate::search::Own;
 
-pub const TABLE_HEADINGS: [&str; 15] = [
+pub const TABLE_HEADINGS: [&str; 16] = [
     "file", "refused", "names", "rows", "records", "score", "score_bits", "sizesim", "sizesim_bits", "seqsim", "seqsim_bits", "target", "left_out", "scored",
-    "complete",
+    "complete", "haplotype",
 ];
 
 fn joined<T: ToString>(values: impl Iterator<Item = T>) -> String {
@@ -23,14 +22,15 @@ fn both(value: f32) -> [String; 2] {
     [float::text(value.to_bits()), format!("{:08x}", value.to_bits())]
 }
 
-/// The cells under the headings; a refusal fills the first two only.
-pub fn table_row(file: &str, sheet: &Sheet, answer: &Result<Answer, Vec<Refusal>>) -> Vec<String> {
+/// The cells under the headings, of a haplotype in a sheet of its own; a refusal fills the first two and the haplotype only.
+pub fn table_row(file: &str, sheet: &Sheet, answer: &Own) -> Vec<String> {
     let answer = match answer {
         Ok(answer) => answer,
         Err(reasons) => {
             let mut cells = vec![String::new(); TABLE_HEADINGS.len()];
             cells[0] = file.into();
             cells[1] = reasons.first().map_or(String::new(), |reason| reason.number.to_string());
+            cells[15] = sheet.haplotype().unwrap_or_default().into();
             return cells;
         }
     };
@@ -39,6 +39,6 @@ pub fn table_row(file: &str, sheet: &Sheet, answer: &Result<Answer, Vec<Refusal>
     cells.extend([answer.score, answer.sizesim, answer.seqsim].into_iter().flat_map(both));
     cells.push(target_word(answer).into());
     cells.push(left_out(answer).map_or(String::new(), |parts| parts.to_string()));
-    cells.extend([answer.scored.to_string(), if answer.complete { "yes" } else { "no" }.into()]);
+    cells.extend([answer.scored.to_string(), if answer.complete { "yes" } else { "no" }.into(), sheet.haplotype().unwrap_or_default().into()]);
     cells
 }

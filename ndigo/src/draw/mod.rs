@@ -6,8 +6,8 @@ mod svg;
 
 use crate::float;
 use crate::model::{counted, Sheet};
-use crate::refusals::{words, Refusal};
-use crate::search::used_parts;
+use crate::refusals::words;
+use crate::search::{used_parts, Own};
 use ndigomarr::{Answer, Target};
 
 /// What is known of a part after a search.
@@ -63,17 +63,24 @@ fn uses(sheet: &Sheet, answer: &Answer) -> Vec<Use> {
     }
 }
 
-/// The picture of an answer, or of a sheet that is refused.
-pub fn answered(sheet: &Sheet, title: &str, answer: &Result<Answer, Vec<Refusal>>) -> String {
+/// The picture of one haplotype's answer, or of its refusal.
+fn of_one(sheet: &Sheet, title: &str, answer: &Own) -> svg::Picture {
+    let title = sheet.haplotype().map_or(title.into(), |name| format!("{title}, haplotype {name}"));
     let marks = match answer {
-        Ok(answer) => Marks { title: title.into(), caption: caption(sheet, answer), rows: answer.rows.clone(), parts: uses(sheet, answer) },
+        Ok(answer) => Marks { title, caption: caption(sheet, answer), rows: answer.rows.clone(), parts: uses(sheet, answer) },
         Err(reasons) => {
             let number = reasons.first().map_or(0, |reason| reason.number);
             let caption = format!("No path: refused {number}, {}.", words(number));
-            Marks { title: title.into(), caption, rows: vec![], parts: vec![Use::Unknown; sheet.parts.len()] }
+            Marks { title, caption, rows: vec![], parts: vec![Use::Unknown; sheet.parts.len()] }
         }
     };
-    panels::picture(sheet, &marks).svg()
+    panels::picture(sheet, &marks)
+}
+
+/// The haplotypes' pictures, each in a sheet of its own, one below the other.
+pub fn answered(each: &[Sheet], title: &str, answers: &[Own]) -> String {
+    let pictures: Vec<svg::Picture> = each.iter().zip(answers).map(|(own, answer)| of_one(own, title, answer)).collect();
+    svg::below_each_other(&pictures)
 }
 
 /// The picture with rows marked by hand.

@@ -118,14 +118,35 @@ impl Picture {
         self.shapes.iter().filter_map(|shape| if let Shape::Label(label) = shape { Some(label) } else { None }).collect()
     }
 
-    pub fn svg(&self) -> String {
-        let (width, height) = (self.width, self.height);
-        let shapes: String = self.shapes.iter().map(|shape| element(shape) + "\n").collect();
-        format!(
-            "<?xml version=\"1.0\" encoding=\"UTF-8\"?>\n<svg xmlns=\"http://www.w3.org/2000/svg\" width=\"{width:.0}\" height=\"{height:.0}\" \
-             viewBox=\"0 0 {width:.0} {height:.0}\">\n<style>{STYLE}</style><defs>{HATCH}</defs>\n{shapes}</svg>\n"
-        )
+    fn elements(&self) -> String {
+        self.shapes.iter().map(|shape| element(shape) + "\n").collect()
     }
+
+    pub fn svg(&self) -> String {
+        document(self.width, self.height, &self.elements())
+    }
+}
+
+fn document(width: f64, height: f64, elements: &str) -> String {
+    format!(
+        "<?xml version=\"1.0\" encoding=\"UTF-8\"?>\n<svg xmlns=\"http://www.w3.org/2000/svg\" width=\"{width:.0}\" height=\"{height:.0}\" \
+         viewBox=\"0 0 {width:.0} {height:.0}\">\n<style>{STYLE}</style><defs>{HATCH}</defs>\n{elements}</svg>\n"
+    )
+}
+
+/// Several pictures as one, each below the one before it.
+pub fn below_each_other(pictures: &[Picture]) -> String {
+    if let [one] = pictures {
+        return one.svg();
+    }
+    let width = pictures.iter().map(|picture| picture.width).fold(0.0, f64::max);
+    let mut height = 0.0;
+    let mut elements = format!("<rect width=\"{width:.0}\" height=\"{:.0}\" class=\"page\"/>\n", pictures.iter().map(|picture| picture.height).sum::<f64>());
+    for picture in pictures {
+        elements += &format!("<g transform=\"translate(0 {height:.0})\">\n{}</g>\n", picture.elements());
+        height += picture.height.round();
+    }
+    document(width, height, &elements)
 }
 
 fn escaped(words: &str) -> String {

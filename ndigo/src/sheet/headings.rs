@@ -16,7 +16,7 @@ const PART: usize = 2;
 pub const SECTIONS: [Section; 3] = [
     Section { word: "setting", needed: &["value"], optional: &["remark"] },
     Section { word: "variant", needed: &["start", "end", "size", "letters"], optional: &["record", "negative", "remark"] },
-    Section { word: "part", needed: &["size", "letters"], optional: &["negative", "remark"] },
+    Section { word: "part", needed: &["size", "letters"], optional: &["haplotype", "negative", "remark"] },
 ];
 
 impl Section {

@@ -4,7 +4,7 @@ use super::headings::{nearest, Heading, SECTIONS, SETTING, VARIANT};
 use super::split::{self, Delimiter};
 use super::Read;
 use crate::fault::Fault;
-use crate::model::{counted, place_of, Kind, Sequence, Variant, SETTINGS};
+use crate::model::{counted, place_of, Haplotype, Kind, Sequence, Variant, SETTINGS};
 use std::collections::HashMap;
 
 /// The reader's state between lines.
@@ -21,6 +21,9 @@ struct Reader {
     commas: Vec<String>,
     names: [HashMap<String, usize>; 3],
     records: HashMap<u32, (String, usize)>,
+    /// The haplotypes in the order in which they are first named, and the parts with the place of theirs.
+    haplotypes: Vec<String>,
+    parts: Vec<(usize, Sequence)>,
 }
 
 /// One line under a heading.
@@ -263,10 +266,46 @@ impl Reader {
         }
     }
 
+    /// The place of the row's haplotype, 0 on a sheet that names none; none where it is a fault.
+    fn haplotype(&mut self, row: &Row) -> Option<usize> {
+        if !row.has("haplotype") {
+            return Some(0);
+        }
+        let name = row.text("haplotype");
+        if name.is_empty() {
+            return self.kept(row, "haplotype", wrong("the haplotype is missing", "write its name for every part, or leave the whole column out"));
+        }
+        if name.chars().any(char::is_control) {
+            let what = format!("the name \"{}\" holds a character that cannot be printed", name.escape_debug());
+            return self.kept(row, "haplotype", wrong(what, "write it without"));
+        }
+        let place = self.haplotypes.iter().position(|known| known == name);
+        Some(place.unwrap_or_else(|| {
+            self.haplotypes.push(name.to_string());
+            self.haplotypes.len() - 1
+        }))
+    }
+
     fn part(&mut self, row: &Row) {
+        let haplotype = self.haplotype(row);
+        // a row that names a haplotype and nothing else is a haplotype of no parts, or says where it stands
+        let alone = row.heading.column("haplotype").is_some_and(|column| row.cells.iter().enumerate().all(|(at, cell)| at == column || cell.is_empty()));
+        if alone && haplotype.is_some() {
+            return;
+        }
         let name = self.name(row);
         let part = self.sequence(row, name);
-        self.read.sheet.parts.extend(part);
+        self.parts.extend(haplotype.zip(part));
+    }
+
+    /// The parts one haplotype's behind the other's, each as they stood.
+    fn lay_parts(&mut self) {
+        self.parts.sort_by_key(|(haplotype, _)| *haplotype);
+        for (place, name) in self.haplotypes.iter().enumerate() {
+            let end = self.parts.partition_point(|(haplotype, _)| *haplotype <= place);
+            self.read.sheet.haplotypes.push(Haplotype { name: name.clone(), end });
+        }
+        self.read.sheet.parts = self.parts.drain(..).map(|(_, part)| part).collect();
     }
 
     fn setting(&mut self, row: &Row) {
@@ -310,6 +349,7 @@ impl Reader {
     }
 
     fn finish(mut self) -> Read {
+        self.lay_parts();
         if self.begun.iter().all(Option::is_none) && self.read.faults.is_empty() {
             self.no_heading();
         } else if let [(first, text), rest @ ..] = &self.above[..] {

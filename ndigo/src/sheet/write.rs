@@ -37,11 +37,19 @@ fn variant_rows(sheet: &Sheet) -> Vec<Vec<String>> {
 
 fn part_rows(sheet: &Sheet) -> Vec<Vec<String>> {
     let unusual = !sheet.parts.iter().all(sign_tells);
-    let mut rows = vec![headings(&["part", "size", "letters"], unusual)];
-    for part in &sheet.parts {
-        let mut cells = vec![part.name.clone()];
-        cells.extend(tail(part, unusual));
-        rows.push(cells);
+    let named = !sheet.haplotypes.is_empty();
+    let mut rows = vec![headings(if named { &["part", "haplotype", "size", "letters"] } else { &["part", "size", "letters"] }, unusual)];
+    for (place, parts) in sheet.part_lists().into_iter().enumerate() {
+        let name = sheet.haplotypes.get(place).map(|haplotype| haplotype.name.clone());
+        if let Some(name) = name.clone().filter(|_| parts.is_empty()) {
+            rows.push(vec![String::new(), name]);
+        }
+        for part in parts {
+            let mut cells = vec![part.name.clone()];
+            cells.extend(name.clone());
+            cells.extend(tail(part, unusual));
+            rows.push(cells);
+        }
     }
     rows
 }

@@ -153,15 +153,15 @@ fn refusals_in_words() {
 #[test]
 fn tables_and_documents_have_stable_names() {
     let table = ask("answer", NUMBERED, &["--tsv"]).text();
-    assert_eq!(table, "file\trefused\tnames\trows\trecords\tscore\tscore_bits\tsizesim\tsizesim_bits\tseqsim\tseqsim_bits\ttarget\tleft_out\tscored\tcomplete\n\
-                       standard input\t\tB\t1\t98\t1\t3f800000\t1\t3f800000\t1\t3f800000\twhole\t0\t4\tyes\n");
+    assert_eq!(table, "file\trefused\tnames\trows\trecords\tscore\tscore_bits\tsizesim\tsizesim_bits\tseqsim\tseqsim_bits\ttarget\tleft_out\tscored\tcomplete\thaplotype\n\
+                       standard input\t\tB\t1\t98\t1\t3f800000\t1\t3f800000\t1\t3f800000\twhole\t0\t4\tyes\t\n");
     let document = ask("answer", NUMBERED, &["--json"]).text();
     assert_eq!(document, "{\"file\":\"standard input\",\"refused\":null,\"reasons\":[],\"answer\":{\"path\":[{\"name\":\"B\",\"row\":1,\"record\":98,\"start\":30,\"end\":30,\
                           \"size\":5,\"line\":3}],\"score\":{\"decimal\":1.0,\"bits\":\"3f800000\"},\"sizesim\":{\"decimal\":1.0,\"bits\":\"3f800000\"},\
                           \"seqsim\":{\"decimal\":1.0,\"bits\":\"3f800000\"},\"target\":\"whole\",\"left_out\":0,\"used_parts\":[\"P\"],\"scored\":4,\"complete\":true},\
-                          \"without_thresholds\":null}\n");
+                          \"without_thresholds\":null,\"haplotype\":null}\n");
     let refused = ask("answer", format!("{GOOD}setting\tvalue\nk\t0\n"), &["--tsv"]);
-    assert_eq!((refused.status, refused.text().lines().nth(1).unwrap()), (1, &*format!("standard input\t1{}", "\t".repeat(13))));
+    assert_eq!((refused.status, refused.text().lines().nth(1).unwrap()), (1, &*format!("standard input\t1{}", "\t".repeat(14))));
     // a name with a comma is one name
     let comma = ask("answer", NUMBERED.replace("B\t98", "\"B, the \"\"old\"\"\"\t98"), &["--tsv"]).text();
     let mut cells = csv::ReaderBuilder::new().delimiter(b'\t').from_reader(comma.as_bytes());

@@ -43,6 +43,13 @@ const ANSWERS: [(&str, Lines); 12] = [
     ("worked-example", Ok(("0", ONE, ONE, ONE, true, 4, true))),
 ];
 
+/// The same of each haplotype, of an example that has several.
+const OF_SEVERAL: [(&str, [Lines; 2]); 1] = [
+    // Anna's reads are the first dive's. Ben's is Reef-C, of the 12 chains: size -6 and the same letters, so both similarities are 1.0;
+    // Reef-B has its size and other letters (no window of four in common, so its seqsim is 0).
+    ("two-divers", [Ok(("0 3", ONE, ONE, ONE, true, 12, true)), Ok(("2", ONE, ONE, ONE, true, 12, true))]),
+];
+
 /// The program's text: a job of this form has its row numbers as record numbers.
 fn program_text(lines: &Lines) -> String {
     let yes = |flag: bool| if flag { "yes" } else { "no" };
@@ -80,25 +87,42 @@ fn run_program(program: &PathBuf, job: Vec<u8>) -> String {
 
 #[test]
 fn every_example_has_its_answer() {
-    assert_eq!(ANSWERS.map(|(name, _)| name.to_string()).to_vec(), example_names());
+    let mut names: Vec<&str> = ANSWERS.iter().map(|(name, _)| *name).chain(OF_SEVERAL.iter().map(|(name, _)| *name)).collect();
+    names.sort_unstable();
+    assert_eq!(names, example_names());
+}
+
+fn assert_answered(name: &str, document: &serde_json::Value, lines: &Lines) {
+    match *lines {
+        Err(number) => assert_eq!(document["refused"], number, "{name}"),
+        Ok((rows, score, sizesim, seqsim, full, scored, complete)) => {
+            let answer = &document["answer"];
+            let found: Vec<String> = answer["path"].as_array().unwrap().iter().map(|row| row["row"].to_string()).collect();
+            assert_eq!(found.join(" "), rows, "{name}");
+            let bits = ["score", "sizesim", "seqsim"].map(|field| u32::from_str_radix(answer[field]["bits"].as_str().unwrap(), 16).unwrap());
+            assert_eq!((bits, answer["target"] == "whole", answer["scored"].as_u64()), ([score, sizesim, seqsim], full, Some(scored.into())), "{name}");
+            assert_eq!(answer["complete"], complete, "{name}");
+        }
+    }
+}
+
+/// One object on a line for each haplotype.
+fn documents(outcome: &Outcome) -> Vec<serde_json::Value> {
+    outcome.text().lines().map(|line| serde_json::from_str(line).unwrap()).collect()
 }
 
 #[test]
 fn answers() {
     for (name, lines) in ANSWERS {
         let outcome = ask("answer", example(name), &["--json"]);
-        let document: serde_json::Value = serde_json::from_slice(&outcome.out).unwrap();
-        match lines {
-            Err(number) => assert_eq!((outcome.status, &document["refused"]), (1, &number.into()), "{name}"),
-            Ok((rows, score, sizesim, seqsim, full, scored, complete)) => {
-                let answer = &document["answer"];
-                let found: Vec<String> = answer["path"].as_array().unwrap().iter().map(|row| row["row"].to_string()).collect();
-                assert_eq!((outcome.status, found.join(" ").as_str()), (0, rows), "{name}");
-                let bits = ["score", "sizesim", "seqsim"].map(|field| u32::from_str_radix(answer[field]["bits"].as_str().unwrap(), 16).unwrap());
-                assert_eq!((bits, answer["target"] == "whole", answer["scored"].as_u64()), ([score, sizesim, seqsim], full, Some(scored.into())), "{name}");
-                assert_eq!(answer["complete"], complete, "{name}");
-            }
-        }
+        assert_eq!(outcome.status, i32::from(lines.is_err()), "{name}");
+        let [document] = &documents(&outcome)[..] else { panic!("{name}: {}", outcome.text()) };
+        assert_answered(name, document, &lines);
+    }
+    for (name, each) in OF_SEVERAL {
+        let documents = documents(&ask("answer", example(name), &["--json"]));
+        assert_eq!(documents.len(), each.len(), "{name}");
+        documents.iter().zip(&each).for_each(|(document, lines)| assert_answered(name, document, lines));
     }
 }
 
@@ -110,6 +134,10 @@ fn the_program_answers_alike() {
         assert_eq!(run_program(&program, made.clone()), program_text(&lines), "{name}");
         let again = job(ask("show", made, &[]).out);
         assert_eq!(run_program(&program, again), program_text(&lines), "{name}");
+    }
+    for (name, each) in OF_SEVERAL {
+        let blocks: String = each.iter().enumerate().map(|(place, lines)| format!("hap {place}\n{}", program_text(lines))).collect();
+        assert_eq!(run_program(&program, within_63(job(example(name)))), blocks, "{name}");
     }
 }
 
@@ -144,7 +172,7 @@ fn printed(command: &str) -> Option<String> {
 
 #[test]
 fn the_pages_print_what_the_commands_print() {
-    for (page, count) in [("docs/FIRST-WEEK.md", 9), ("docs/COORDINATES.md", 2)] {
+    for (page, count) in [("docs/FIRST-WEEK.md", 10), ("docs/COORDINATES.md", 4)] {
         let blocks = blocks(page, "$ ");
         assert_eq!(blocks.len(), count, "{page}");
         for block in blocks {

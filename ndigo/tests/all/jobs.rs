@@ -1,6 +1,6 @@
 //! The job form: bytes, there and back, and the proved writer's.
 use crate::common::*;
-use ndigo::model::{Sequence, Settings, Sheet, Variant};
+use ndigo::model::{Haplotype, Sequence, Settings, Sheet, Variant};
 use proptest::prelude::*;
 
 fn bytes(hex: &str) -> Vec<u8> {
@@ -162,7 +162,17 @@ fn any_sheet() -> impl Strategy<Value = Sheet> {
     });
     let variants = (0usize..70).prop_flat_map(|count| (0..count).map(variant).collect::<Vec<_>>());
     let parts = (0usize..9).prop_flat_map(|count| (0..count).map(|part| sequence(format!("part-{part}"))).collect::<Vec<_>>());
-    (settings, variants, parts).prop_map(|(settings, variants, parts)| Sheet { settings, variants, parts })
+    // how many parts stand before each haplotype but the first; none where there is one
+    let breaks = proptest::collection::vec(0usize..9, 0..16);
+    (settings, variants, parts, breaks).prop_map(|(settings, variants, parts, mut breaks)| {
+        breaks.iter_mut().for_each(|place| *place = (*place).min(parts.len()));
+        breaks.sort_unstable();
+        if !breaks.is_empty() {
+            breaks.push(parts.len());
+        }
+        let haplotypes = breaks.into_iter().enumerate().map(|(place, end)| Haplotype { name: format!("hap-{place}"), end }).collect();
+        Sheet { settings, variants, parts, haplotypes }
+    })
 }
 
 proptest! {
@@ -180,7 +190,7 @@ proptest! {
     }
 
     #[test]
-    fn any_bytes_are_read_or_refused(data in proptest::collection::vec(0u8..6, 0..300)) {
+    fn any_bytes_are_read_or_refused(data in proptest::collection::vec(0u8..7, 0..300)) {
         if let Ok(sheet) = ndigo::job::read(&data) {
             prop_assert_eq!(ndigo::job::written(&sheet), data);
         }

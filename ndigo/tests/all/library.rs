@@ -1,9 +1,15 @@
 //! What ndigo tells beforehand, and what it finds out afterwards, held to the library over random sheets.
 use ndigo::model::{Sequence, Settings, Sheet, Variant};
 use ndigo::refusals;
-use ndigo::search::{answer, foretold, refused, used_parts, Foretold};
-use ndigomarr::Target;
+use ndigo::refusals::Refusal;
+use ndigo::search::{answers, foretold, refused, used_parts, Foretold};
+use ndigomarr::{Answer, Target};
 use proptest::prelude::*;
+
+/// The answer of a sheet of one haplotype.
+fn answer(sheet: &Sheet) -> Result<Answer, Vec<Refusal>> {
+    answers(sheet)?.remove(0)
+}
 
 fn sequence(name: String, size: i32, letters: &str) -> Sequence {
     Sequence { name, size, negative: size < 0, letters: letters.as_bytes().to_vec(), line: 0 }
@@ -27,7 +33,7 @@ fn with_parts(variants: Vec<Variant>, chosen: &[bool], noise: &str) -> Sheet {
     let mut parts: Vec<Sequence> = variants.iter().zip(chosen).filter(|(_, chosen)| **chosen).take(5).map(|(variant, _)| variant.sequence.clone()).collect();
     parts.insert(parts.len() / 2, sequence("noise".into(), noise.len() as i32, noise));
     let settings = ndigomarr::Settings { k: 2, minkfreq: 1, sizesim: 0.5, seqsim: 0.5, fpenalty: 0.0625, ..Default::default() };
-    Sheet { settings: Settings::of_library(&settings), variants, parts }
+    Sheet { settings: Settings::of_library(&settings), variants, parts, haplotypes: vec![] }
 }
 
 /// Values around every limit: often accepted, often refused.
@@ -96,6 +102,7 @@ proptest! {
             settings: Settings::of_library(&settings),
             variants: found.rows.iter().map(|&row| sheet.variants[row].clone()).collect(),
             parts: used.iter().map(|&part| sheet.parts[part].clone()).collect(),
+            haplotypes: vec![],
         };
         if !alone.variants.is_empty() {
             let again = answer(&alone).expect("within all limits");

@@ -1,7 +1,9 @@
 //! ndigo as from the command line. A module for each idea.
 mod answers;
+mod bed;
 mod common;
 mod examples;
+mod haplotypes;
 mod jobs;
 mod library;
 mod messages;

@@ -1,12 +1,11 @@
--- The number, the rows, their records and the queue are those of the library call's own promise, and the report is that of its answer, whose
--- target's number fits. The settings that the code makes of the words are answered as the words' own are.
+-- The number, the rows, their records and the queue are those of the library call's own promise, and the report is that of its answer.
+-- The settings that the code makes of the words are answered as the words' own are.
 use mathlib.Core.Path.{ap, _∙_}
 use borrow.Author.Needs.{needs}
 use Rattle.metrics.specs.Placed.{placed}
 use Rattle.capi.proofs.nd_apply_haplotype.Statement.{statement}
 use Rattle.capi.proofs.nd_apply_haplotype.Tie as tie
-use Rattle.capi.specs.Report.{reportOf}
-use Rattle.capi.proofs.TargetLaws.{target-within}
+use Rattle.kplib.specs.Report.{reportOf}
 use Rattle.capi.proofs.HeldLaws.{held-alike}
 
 -- the search, before the lent slices come back
@@ -24,7 +23,7 @@ apply-numbered-requires : tie.Need-apply-numbered-requires
 apply-numbered-requires c κs = search needs
 
 put-report-requires : tie.Need-put-report-requires
-put-report-requires c κs = rw (searched c .apply-numbered .ensures .0) (target-within _)
+put-report-requires c κs = search needs
 
 same-length : tie.Need-same-length
 same-length c = search needs

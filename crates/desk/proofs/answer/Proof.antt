@@ -19,7 +19,7 @@ put-refused-requires c κs = search needs
 returns : tie.Need-returns
 returns c =
     let t = long c in let i = now (t .before .before .args .input) in
-    printed-placed (printed-as (printed-refused _ (c .put-refused .ensures)) (desk-long i (t .if1 .taken))) (omega arith)
+    printed-placed (printed-as (printed-refused {most = 7488} _ (omega arith) (c .put-refused .ensures)) (desk-long i (t .if1 .taken))) (omega arith)
 
 answer-read-requires : tie.Need-answer-read-requires
 answer-read-requires c κs = search needs

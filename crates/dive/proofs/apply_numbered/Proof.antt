@@ -3,7 +3,6 @@
 use mathlib.Core.Path.{_≡_, refl, sym, _∙_}
 use lib.ListN.{length}
 use denote.Ref.{now}
-use Rattle.params.specs.Numbers.{firstFault}
 use Rattle.dive.specs.Numbered.{Numbered}
 use Rattle.dive.specs.NumberChecks.{numberFault}
 use Rattle.dive.specs.Promises.{numberedLent}
@@ -23,9 +22,6 @@ lent c =
 abbrev begin : tie.After-number-fault → tie.Start
 begin c = c .before .before .before .before .before .before .before .before
 
-abbrev numbered : tie.After-call-fault → tie.After-number-fault
-numbered c = c .before .before .before
-
 abbrev answered : tie.After-put-records-arg2 → tie.After-apply-haplotype
 answered c = c .before .before .before .before .before .before .before .before .before
 
@@ -35,12 +31,8 @@ passing c = c .before .before .before .before
 abbrev put : tie.After-slice-known8 → tie.After-put-records
 put c = c .before .before
 
--- what the call's own checks found
-other : (c : tie.After-call-fault) → c .call-fault .result ≡ firstFault (lent (begin (numbered c)) .call)
-other c = rw (c .before .queue-room .ensures) at (c .call-fault .ensures)
-
 -- the numbers are not refused
-good : (c : tie.Else1) → numberFault (length (now (begin (c .before) .args .starts))) (now (begin (c .before) .args .numbers)) (length (now (begin (c .before) .args .records))) ≡ 0
+good : (c : tie.Else1) → numberFault (length (now (begin (c .before) .args .starts))) 1 (now (begin (c .before) .args .numbers)) (length (now (begin (c .before) .args .records))) ≡ 0
 good c = sym (c .before .number-fault .ensures) ∙ c .if1 .left
 
 number-fault-requires : tie.Need-number-fault-requires
@@ -49,22 +41,20 @@ number-fault-requires c κs = search needs
 queue-room-requires : tie.Need-queue-room-requires
 queue-room-requires c κs = search needs
 
-call-fault-requires : tie.Need-call-fault-requires
-call-fault-requires c κs = search needs
-
-earlier-requires : tie.Need-earlier-requires
-earlier-requires c κs = search needs
+numbered-fault-requires : tie.Need-numbered-fault-requires
+numbered-fault-requires c κs = search needs
 
 refused-requires : tie.Need-refused-requires
 refused-requires c κs = search needs
 
 returns : tie.Need-returns
 returns c =
-    let called = c .before .before in
-    let m = numbered called in
+    let asked = c .before in
+    let taken = asked .before .before in
+    let m = taken .before in
     let b = begin m in
-    let h = refused-numbered (lent b) (now (b .args .rows)) (now (b .args .records)) (m .number-fault .ensures) (called .before .before .if1 .taken) (other called)
-    (c .before .earlier .ensures) (c .refused .ensures) in
+    let fault = rw (asked .before .queue-room .ensures) at (asked .numbered-fault .ensures) in
+    let h = refused-numbered (lent b) (now (b .args .rows)) (now (b .args .records)) (m .number-fault .ensures) (taken .if1 .taken) fault (c .refused .ensures) in
     (h .0, (h .1 .0, (h .1 .1, (λ _. refl, λ _. refl))))
 
 apply-haplotype-requires : tie.Need-apply-haplotype-requires
@@ -106,8 +96,7 @@ apply-numbered-spec =
     (tie.spec
     number-fault-requires
     queue-room-requires
-    call-fault-requires
-    earlier-requires
+    numbered-fault-requires
     refused-requires
     returns
     apply-haplotype-requires

@@ -11,14 +11,14 @@ use Rattle.form.specs.declared.records.Scan.the-variants.{Good}
 use Rattle.form.specs.Form.{run, outset}
 use Rattle.form.specs.Lent.{Lent, lent}
 use Rattle.form.proofs.CountLaws.{scan-is}
-use Rattle.reader.proofs.ReadLaws.{rowsRoom, partsRoom, read-refused, settings-there, crowded-rows, crowded-parts, crowded-letters, read-job}
+use Rattle.reader.proofs.ReadLaws.{rowsRoom, partsRoom, read-refused, settings-there, crowded-rows, crowded-parts, crowded-breaks, crowded-letters, read-job}
 use borrow.Author.Needs.{needs}
 use Rattle.reader.proofs.read_job.Statement.{statement}
 use Rattle.reader.proofs.read_job.Tie as tie
 
 -- the form is in good order
 abbrev begin : tie.After-found2 → tie.Start
-begin c = c .before .before .before .before .before .before .before .before .before .before .before
+begin c = c .before .before .before .before .before .before .before .before .before .before .before .before
 
 abbrev counts : tie.After-found2 → Counts
 counts c = c .found2 .given .0 .0
@@ -30,7 +30,7 @@ good c = scan-is _ ∙ sym (c .before .before .scan .ensures) ∙ c .found2 .giv
 abbrev slices : tie.Start → Lent
 slices s =
     lent (now (s .args .starts)) (now (s .args .ends)) (now (s .args .sizes)) (now (s .args .negatives)) (now (s .args .letter-counts))
-    (now (s .args .part-sizes)) (now (s .args .part-negatives)) (now (s .args .part-letter-counts)) (now (s .args .letters))
+    (now (s .args .part-sizes)) (now (s .args .part-negatives)) (now (s .args .part-letter-counts)) (now (s .args .breaks)) (now (s .args .letters))
 
 abbrev found1 : tie.Else1 → tie.After-found2
 found1 c = c .before .before .before
@@ -45,20 +45,20 @@ parts-room : (c : tie.Else2) → partsRoom (counts (found2 c)) (slices (begin (f
 parts-room c = sym (c .before .parts-fit .ensures) ∙ not-false _ (c .if2 .left)
 
 -- all is checked
-abbrev found : tie.Else3 → tie.After-found2
-found c = found2 (c .before .before)
+abbrev found : tie.Else4 → tie.After-found2
+found c = found2 (c .before .before .before .before)
 
-settings : (c : tie.Else3) → 41 ≤ length (now (begin (found c) .args .bytes))
+settings : (c : tie.Else4) → 41 ≤ length (now (begin (found c) .args .bytes))
 settings c = settings-there _ (good (found c))
 
-abbrev checked : tie.After-read-settings → tie.Else3
+abbrev checked : tie.After-read-settings → tie.Else4
 checked c = c .before .before
 
 abbrev head-read : tie.After-fill → tie.After-read-settings
-head-read c = c .before .before .before .before .before .before .before .before .before .before
+head-read c = c .before .before .before .before .before .before .before .before .before .before .before
 
-abbrev filled : tie.After-slice-known14 → tie.After-fill
-filled c = c .before .before .before .before .before .before .before .before .before .before .before .before .before .before .before .before
+abbrev filled : tie.After-slice-known16 → tie.After-fill
+filled c = c .before .before .before .before .before .before .before .before .before .before .before .before .before .before .before .before .before .before
 
 scan-requires : tie.Need-scan-requires
 scan-requires c κs = search needs
@@ -86,7 +86,12 @@ returns-2 c =
 returns-3 : tie.Need-returns-3
 returns-3 c =
     let p = c .before .before in
-    crowded-letters _ (good (found2 p)) _ (rows-room (p .before .before)) (parts-room p) (c .if3 .taken)
+    crowded-breaks _ (good (found2 p)) _ (rows-room (p .before .before)) (parts-room p) (c .if3 .taken)
+
+returns-4 : tie.Need-returns-4
+returns-4 c =
+    let b = c .before .before in let p = b .before .before in
+    crowded-letters _ (good (found2 p)) _ (rows-room (p .before .before)) (parts-room p) (b .if3 .left) (c .if4 .taken)
 
 sub-read-settings : tie.Need-sub-read-settings
 sub-read-settings c = let h = settings c in omega arith
@@ -103,8 +108,8 @@ read-settings-requires c κs = search needs
 fill-requires : tie.Need-fill-requires
 fill-requires c κs = search needs
 
-returns-4 : tie.Need-returns-4
-returns-4 c = read-refused _ _ (scan-is _ ∙ sym (c .before .before .before .scan .ensures) ∙ c .before .found .given .1)
+returns-5 : tie.Need-returns-5
+returns-5 c = read-refused _ _ (scan-is _ ∙ sym (c .before .before .before .scan .ensures) ∙ c .before .found .given .1)
 
 same-length : tie.Need-same-length
 same-length c = search needs
@@ -133,18 +138,22 @@ same-length-8 c = search needs
 same-length-9 : tie.Need-same-length-9
 same-length-9 c = search needs
 
-returns-5 : tie.Need-returns-5
-returns-5 c =
+same-length-10 : tie.Need-same-length-10
+same-length-10 c = search needs
+
+returns-6 : tie.Need-returns-6
+returns-6 c =
     let f = filled c in
     let h = head-read f in
     let k = checked h in
-    let p = k .before .before in
-    read-job _ (good (found k)) _ (rows-room (p .before .before)) (parts-room p) (k .if3 .left) _ (f .fill .ensures .0) (f .fill .ensures .1 .0)
-    (f .fill .ensures .1 .1) _ (h .read-settings .ensures)
+    let b = k .before .before in
+    let p = b .before .before in
+    read-job _ (good (found k)) _ (rows-room (p .before .before)) (parts-room p) (b .if3 .left) (k .if4 .left) _ (f .fill .ensures .0) (f .fill .ensures .1 .0)
+    (f .fill .ensures .1 .1 .0) (f .fill .ensures .1 .1 .1) _ (h .read-settings .ensures)
 
 pub read-job-spec : {M : Type 1} → statement M
 read-job-spec =
     tie.close
-    (tie.spec scan-requires enum-known-found enum-known-found-2 rows-fit-requires returns parts-fit-requires returns-2 returns-3
-    sub-read-settings part-read-settings-start part-read-settings-end read-settings-requires fill-requires returns-4 same-length same-length-2 same-length-3 same-length-4 same-length-5 same-length-6 same-length-7 same-length-8
-    same-length-9 returns-5)
+    (tie.spec scan-requires enum-known-found enum-known-found-2 rows-fit-requires returns parts-fit-requires returns-2 returns-3 returns-4
+    sub-read-settings part-read-settings-start part-read-settings-end read-settings-requires fill-requires returns-5 same-length same-length-2 same-length-3 same-length-4 same-length-5 same-length-6
+    same-length-7 same-length-8 same-length-9 same-length-10 returns-6)

@@ -1,5 +1,8 @@
-//! An answer and its lines.
-use crate::rules::DOCUMENT;
+//! An answer, its lines and the words of its report.
+use crate::rules::{Rules, DOCUMENT};
+
+/// A refusal's number and the seven words of document 01's answer: how many rows, the target's number, score, sizesim, seqsim, count, complete.
+pub type Report = [u32; 8];
 
 #[derive(Clone, Copy, Debug, PartialEq, Eq)]
 pub enum Target {
@@ -52,6 +55,15 @@ impl Answer {
         lines.iter().map(|&word| format!("{word}{}\n", self.after(word))).collect()
     }
 
+    pub fn report(&self) -> Report {
+        let target = match self.target {
+            Target::Nothing => 0,
+            Target::Whole => 1,
+            Target::Partial(left_out) => left_out + 1,
+        };
+        [self.refusal, self.rows.len() as u32, target, self.score, self.sizesim, self.seqsim, self.scored, self.complete as u32]
+    }
+
     /// What stands in its line after a word.
     fn after(&self, word: &str) -> String {
         let list = |numbers: &[u32]| numbers.iter().map(|number| format!(" {number}")).collect();
@@ -69,4 +81,10 @@ impl Answer {
             _ => unreachable!("no line of an answer: {word}"),
         }
     }
+}
+
+/// What the program prints for the answer to the whole job, or for one to each of several haplotypes.
+pub fn text(rules: &Rules, answers: &[Answer]) -> String {
+    let hap = |at: usize| if rules.hap_lines_stand(answers.len()) { format!("hap {}\n", rules.hap_number(at)) } else { String::new() };
+    answers.iter().enumerate().map(|(at, answer)| hap(at) + &answer.text_in(rules.lines())).collect()
 }

@@ -1,5 +1,5 @@
-//! A job as the library is asked it: flat slices and lent room, and the refusals 1 to 12 and 14 in the table's order.
-use crate::job::{Job, Settings};
+//! A haplotype as the library is asked for it: flat slices and lent room, and the refusals 1 to 12 and 14 in the table's order.
+use crate::job::{Job, Part, Settings};
 use crate::rules::Rules;
 use crate::rust;
 
@@ -31,12 +31,13 @@ pub fn queue_need(settings: &Settings, variants: usize) -> usize {
 }
 
 impl Call {
-    /// The features by the Rust's own counter, the rows' own numbers as record numbers. A k that is refused anyway gets no features.
+    /// The job's first haplotype, the features by the Rust's own counter, the rows' own numbers as record numbers. A k that is refused anyway gets no features.
     pub fn of_job(job: &Job) -> Call {
-        Call::of_job_by(job, (0..).take(job.variants.len()).collect(), rust::features)
+        Call::of_parts_by(job, &job.haplotypes[0], (0..).take(job.variants.len()).collect(), rust::features)
     }
 
-    pub fn of_job_by(job: &Job, numbers: Vec<u32>, features: impl Fn(u8, &[u8], bool) -> Vec<i32>) -> Call {
+    /// The job's table and these parts.
+    pub fn of_parts_by(job: &Job, parts: &[Part], numbers: Vec<u32>, features: impl Fn(u8, &[u8], bool) -> Vec<i32>) -> Call {
         let k = job.settings.k;
         let row = |letters: &[u8], negative: bool| match k {
             1..=6 => features(k, letters, negative),
@@ -49,8 +50,8 @@ impl Call {
             sizes: job.variants.iter().map(|v| v.size).collect(),
             features: job.variants.iter().flat_map(|v| row(&v.letters, v.negative)).collect(),
             numbers,
-            part_sizes: job.parts.iter().map(|p| p.size).collect(),
-            part_features: job.parts.iter().flat_map(|p| row(&p.letters, p.negative)).collect(),
+            part_sizes: parts.iter().map(|p| p.size).collect(),
+            part_features: parts.iter().flat_map(|p| row(&p.letters, p.negative)).collect(),
             queue_room: queue_need(&job.settings, job.variants.len()).min(1 << 19),
             answer_room: job.variants.len(),
             record_buffer: vec![0; job.variants.len()],
@@ -95,6 +96,7 @@ impl Call {
             11 => self.searches(rules) && self.queue_room < queue_need(s, v),
             12 => self.answer_room < v || rules.second_is_short(self.record_buffer.len(), v, self.searches(rules)),
             14 => rules.repeats(&self.numbers),
+            27 => rules.count_is_refused(1),
             _ => unreachable!("no refusal of the table: {number}"),
         }
     }

@@ -1,7 +1,8 @@
 //! A job in one line of words, and bytes that are no job as hexadecimal.
 use crate::call::Call;
-use crate::job::{self, Job, Settings};
+use crate::job::{self, Job, Part, Settings};
 use crate::rules::DOCUMENT;
+use crate::several::Several;
 
 fn letters(bytes: &[u8], negative: bool) -> String {
     let shown = match bytes.len() {
@@ -32,9 +33,10 @@ pub fn job(job: &Job) -> String {
         .iter()
         .map(|v| format!("{}-{} size {} {}", v.start, v.end, v.size, letters(&v.letters, v.negative)))
         .collect();
-    let parts: Vec<String> =
-        job.parts.iter().map(|p| format!("size {} {}", p.size, letters(&p.letters, p.negative))).collect();
-    format!("{}; variants [{}]; parts [{}]", settings(&job.settings), variants.join(", "), parts.join(", "))
+    let part = |p: &Part| format!("size {} {}", p.size, letters(&p.letters, p.negative));
+    let list = |parts: &Vec<Part>| format!("parts [{}]", parts.iter().map(part).collect::<Vec<String>>().join(", "));
+    let haplotypes: Vec<String> = job.haplotypes.iter().map(list).collect();
+    format!("{}; variants [{}]; {}", settings(&job.settings), variants.join(", "), haplotypes.join("; next "))
 }
 
 pub fn bytes(bytes: &[u8]) -> String {
@@ -62,5 +64,16 @@ pub fn call(call: &Call) -> String {
         call.queue_room,
         call.answer_room,
         call.record_buffer
+    )
+}
+
+pub fn several(several: &Several) -> String {
+    format!(
+        "{} part ends {:?} feature ends {:?} row buffer {:?} reports {:?}",
+        call(&Call { answer_room: several.row_buffer.len(), ..several.call.clone() }),
+        several.part_ends,
+        several.feature_ends,
+        several.row_buffer,
+        several.reports
     )
 }

@@ -1,11 +1,12 @@
 //! The documents' counting, scoring, search and records once more, in whole numbers and without kanpig's Rust, so that two
 //! independent readings are compared. In the paper's order; what it says in one sentence is asked of `Rules`.
-use crate::answer::{Answer, Target};
+use crate::answer::{self, Answer, Target};
 use crate::call::Call;
 use crate::job::Job;
 use crate::met::Met;
 use crate::program;
 use crate::rules::Rules;
+use crate::several::Several;
 use std::cell::OnceCell;
 use std::collections::BTreeMap;
 
@@ -230,20 +231,41 @@ pub fn record_buffer(rules: &Rules, call: &Call, answer: &Answer) -> Vec<u32> {
     rules.second_after(&call.record_buffer, &answer.records, answer.refusal != 0)
 }
 
-/// The job as a call, its features counted and its record numbers given by the rules.
-pub fn call_of(rules: &Rules, job: &Job) -> Call {
-    Call::of_job_by(job, rules.present_numbers(job.variants.len()), |k, letters, negative| features(rules, k, letters, negative))
+/// The answer to the whole of a call for several haplotypes, or one to each.
+pub fn several_answers(rules: &Rules, several: &Several, met: &mut Met) -> Vec<Answer> {
+    let refusal = several.refusal(rules);
+    if refusal != 0 {
+        let whole = rules.answers_the_whole(refusal, false);
+        return vec![Answer::refused(refusal); if whole { 1 } else { several.count() }];
+    }
+    let own: Vec<Answer> = (0..several.count()).map(|at| call_answer(rules, &several.own(rules, at), met)).collect();
+    let refused = |answer: &Answer| answer.refusal != 0;
+    if let Some(whole) = own.iter().find(|answer| refused(answer) && rules.answers_the_whole(answer.refusal, true)) {
+        return vec![whole.clone()];
+    }
+    let first = own.iter().position(refused).unwrap_or(own.len());
+    own.into_iter().enumerate().filter(|&(at, _)| rules.is_answered(at, first)).map(|(_, answer)| answer).collect()
 }
 
-/// The answer to a program's input.
-pub fn program_answer(rules: &Rules, bytes: &[u8], met: &mut Met) -> Answer {
+/// All haplotypes of the job as a call, its features counted and its record numbers given by the rules.
+fn several_of(rules: &Rules, job: &Job) -> Several {
+    Several::of_job_by(job, rules.present_numbers(job.variants.len()), |k, letters, negative| features(rules, k, letters, negative))
+}
+
+/// The first alone.
+pub fn call_of(rules: &Rules, job: &Job) -> Call {
+    several_of(rules, &job.with_parts(&job.haplotypes[0])).call
+}
+
+/// The answer to the whole of a program's input, or one to each haplotype.
+pub fn program_answers(rules: &Rules, bytes: &[u8], met: &mut Met) -> Vec<Answer> {
     match program::admitted(rules, bytes) {
-        Err(number) => Answer::refused(number),
-        Ok(job) => call_answer(rules, &call_of(rules, &job), met),
+        Err(number) => vec![Answer::refused(number)],
+        Ok(job) => several_answers(rules, &several_of(rules, &job), met),
     }
 }
 
 /// What the program would print by these rules.
 pub fn program_text(rules: &Rules, bytes: &[u8]) -> String {
-    program_answer(rules, bytes, &mut Met::default()).text_in(rules.lines())
+    answer::text(rules, &program_answers(rules, bytes, &mut Met::default()))
 }

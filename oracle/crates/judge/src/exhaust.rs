@@ -85,7 +85,7 @@ pub fn jobs() -> impl Iterator<Item = Job> {
             settings.clone().into_iter().map(move |settings| Job {
                 settings,
                 variants: variants.clone(),
-                parts: parts.clone(),
+                haplotypes: vec![parts.clone()],
             })
         })
     })

@@ -5,6 +5,7 @@ use crate::job::{record_length, shape, Job, Part, Settings, Variant};
 use crate::random::Random;
 use crate::rules::{DOCUMENT, SIZE_LIMIT};
 use crate::rust::chains;
+use crate::several::Several;
 
 /// How large the jobs may be.
 #[derive(Clone, Copy)]
@@ -204,12 +205,7 @@ pub fn job(r: &mut Random, size: Size) -> Job {
         1..=5 => 1 + r.below(size.variants),
         _ => 1 + r.below(6),
     };
-    let m = match r.below(20) {
-        0 => size.parts,
-        1..=4 => r.below(size.parts + 1),
-        5..=6 => r.below(13).min(size.parts),
-        _ => r.below(5),
-    };
+    let m = part_count(r, size);
     let pool = Pool {
         letters: (0..1 + r.below(4)).map(|_| sequence(r, size)).collect(),
         style: r.below(12),
@@ -221,18 +217,32 @@ pub fn job(r: &mut Random, size: Size) -> Job {
             Variant { start, end, size, negative, letters }
         })
         .collect();
-    let mut parts = if r.chance(40) { parts_of_a_chain(r, &variants, m) } else { vec![] };
-    while (parts.len() as u64) < m {
-        let one = part(r, &variants, &parts, &pool, size);
-        parts.push(one);
-    }
-    let mut job = Job { settings: settings(r, v, m, size), variants, parts };
+    let parts = part_list(r, &variants, &pool, m, size);
+    let mut job = Job { settings: settings(r, v, m, size), variants, haplotypes: vec![parts] };
     match r.below(20) {
-        0 | 1 => job.parts.iter_mut().for_each(|p| p.size = 0),
+        0 | 1 => job.haplotypes[0].iter_mut().for_each(|p| p.size = 0),
         2..=8 => loosen(r, &mut job.settings),
         _ => {}
     }
     job
+}
+
+fn part_count(r: &mut Random, size: Size) -> u64 {
+    match r.below(20) {
+        0 => size.parts,
+        1..=4 => r.below(size.parts + 1),
+        5..=6 => r.below(13).min(size.parts),
+        _ => r.below(5),
+    }
+}
+
+fn part_list(r: &mut Random, variants: &[Variant], pool: &Pool, m: u64, size: Size) -> Vec<Part> {
+    let mut parts = if r.chance(40) { parts_of_a_chain(r, variants, m) } else { vec![] };
+    while (parts.len() as u64) < m {
+        let one = part(r, variants, &parts, pool, size);
+        parts.push(one);
+    }
+    parts
 }
 
 /// Some of the rows once more, as parts, in the rows' order or not.
@@ -277,9 +287,8 @@ pub fn job_at_limits(r: &mut Random) -> Job {
             letters: letters.clone(),
         })
         .collect();
-    job.parts = (0..m)
-        .map(|_| Part { size: sign * limit, negative: r.chance(50), letters: letters.clone() })
-        .collect();
+    let part = |_| Part { size: sign * limit, negative: r.chance(50), letters: letters.clone() };
+    job.haplotypes = vec![(0..m).map(part).collect()];
     job
 }
 
@@ -400,6 +409,174 @@ fn number(r: &mut Random, call: &mut Call) {
     call.record_buffer = (0..room).map(|_| r.next() as u32).collect();
 }
 
+/// An accepted job with several haplotypes, now and then one: some without parts, some as one before.
+pub fn several_job(r: &mut Random, size: Size) -> Job {
+    let mut job = job(r, size);
+    let pool = Pool {
+        letters: (0..1 + r.below(4)).map(|_| sequence(r, size)).collect(),
+        style: r.below(12),
+    };
+    let count = match r.below(12) {
+        0 => 1,
+        1 => 16,
+        2..=3 => 1 + r.below(16),
+        _ => 2 + r.below(4),
+    };
+    while (job.haplotypes.len() as u64) < count {
+        let parts = match r.below(10) {
+            0 | 1 => vec![],
+            2 => r.pick(&job.haplotypes),
+            _ => {
+                let m = part_count(r, size);
+                part_list(r, &job.variants, &pool, m, size)
+            }
+        };
+        job.haplotypes.push(parts);
+    }
+    if r.chance(20) {
+        let at = r.below(count) as usize;
+        job.haplotypes.swap(0, at);
+    }
+    job
+}
+
+/// A part of some haplotype over its size, or too many parts for the program or the library, or a seventeenth haplotype.
+fn disturb_haplotypes(r: &mut Random, job: &mut Job) {
+    let one = Part { size: 1, negative: false, letters: b"A".to_vec() };
+    match r.below(12) {
+        0 => job.haplotypes.resize(r.pick(&[17, 17, 18, 30]), vec![one]),
+        1 => job.haplotypes.resize(16, vec![]),
+        2..=3 => {
+            let parts = r.pick(&[8, 9, 64, 65, 65]);
+            let at = r.below(job.haplotypes.len() as u64) as usize;
+            job.haplotypes[at].resize(parts, one);
+        }
+        _ => {
+            let size = r.pick(&[131_072, 131_073, -131_073, i32::MIN]);
+            let most = r.pick(&[20, 50, 100]);
+            for parts in &mut job.haplotypes {
+                if r.chance(most) && parts.len() < 8 {
+                    let at = r.below(parts.len() as u64 + 1) as usize;
+                    parts.insert(at, Part { size, ..one.clone() });
+                }
+            }
+        }
+    }
+}
+
+/// Mostly accepted, then refusals of some haplotypes or of the whole job.
+fn several_job_or_refused(r: &mut Random, size: Size) -> Job {
+    let mut job = several_job(r, size);
+    if r.chance(25) {
+        disturb_haplotypes(r, &mut job);
+    }
+    if r.chance(8) {
+        disturb_job(r, &mut job);
+    }
+    job
+}
+
+/// The program's input with several haplotypes, with faults of the form too.
+pub fn several_input(r: &mut Random) -> Vec<u8> {
+    let mut job = several_job_or_refused(r, PROGRAM);
+    let mut bytes = job.bytes();
+    match r.below(20) {
+        0 => disturb_bytes(r, &mut bytes),
+        1 => disturb_record(r, &mut bytes),
+        2 if r.chance(30) => {
+            // the sixteenth 0x05, where letters are owed or not
+            job.haplotypes.resize(16, vec![]);
+            job.haplotypes[15].push(Part { size: 1, negative: false, letters: b"A".to_vec() });
+            bytes = job.bytes();
+            let last = bytes.len() - 1;
+            bytes.insert(r.pick(&[last, last - record_length(0x04)]), 0x05);
+        }
+        2 => {
+            // one or more 0x05, or the first variant once more, between two records
+            let (at, _) = r.pick(&records(&bytes));
+            let table = Job { variants: job.variants.into_iter().take(1).collect(), haplotypes: vec![vec![]], ..job }.bytes();
+            let variant = table[record_length(0x01)..table.len() - 1].to_vec();
+            bytes.splice(at..at, if r.chance(50) { vec![0x05; r.pick(&[1, 1, 15, 16])] } else { variant });
+        }
+        _ => {}
+    }
+    bytes
+}
+
+/// A library call for several haplotypes; each of at most the given cost.
+pub fn several_call(r: &mut Random, size: Size, budget: u64) -> Several {
+    let mut several = Several::of_job(&several_job_or_refused(r, size));
+    if several.refusal(&DOCUMENT) == 0 {
+        if r.chance(20) {
+            scatter(r, &mut several.call);
+        }
+        let dear = |s: &Several| (0..s.count()).any(|at| cost(&s.own(&DOCUMENT, at)) > budget);
+        while several.call.settings.maxpaths > 3 && dear(&several) {
+            several.call.settings.maxpaths /= 2;
+        }
+        several.call.queue_room = queue_need(&several.call.settings, several.rows()) + r.pick(&[0, 0, 1, 5]);
+    }
+    let refused = several.refusal(&DOCUMENT) != 0;
+    several.call.numbers = different(r, several.rows());
+    if r.chance(if refused { 40 } else { 3 }) {
+        repeat(r, &mut several.call.numbers);
+    }
+    for _ in 0..r.pick(&[0, 0, 0, 1, 1, 2]) {
+        disturb_several(r, &mut several);
+    }
+    lend_buffers(r, &mut several);
+    several
+}
+
+/// What only the library can be asked: ends that do not fit, features over their limit or not enough of them, too little room for the queue.
+fn disturb_several(r: &mut Random, several: &mut Several) {
+    let count = several.count() as u64;
+    let at = if count == 0 { 0 } else { r.below(count) as usize };
+    let (parts, features) = (several.call.part_sizes.len(), several.call.part_features.len());
+    let step = r.pick(&[1, several.call.settings.entries().min(4096) as u64]);
+    match r.below(13) {
+        0 => {
+            (several.part_ends, several.feature_ends) = (vec![], r.pick(&[vec![], vec![0]]));
+            if r.chance(20) {
+                clear_table(&mut several.call);
+            }
+        }
+        1 => drop(several.part_ends.pop()),
+        2 => drop(several.feature_ends.pop()),
+        3 => several.part_ends.push(parts as u64),
+        4 => several.feature_ends.push(features as u64),
+        5 => several.part_ends.iter_mut().skip(at).take(1).for_each(|end| *end = r.pick(&[0, parts as u64, parts as u64 + 1, 70, u64::MAX])),
+        6..=7 => several.feature_ends.iter_mut().skip(at).take(1).for_each(|end| *end += step),
+        8 => several.feature_ends.iter_mut().skip(at).take(1).for_each(|end| *end = end.saturating_sub(step)),
+        9..=10 if features > 0 => {
+            let entry = r.below(features as u64) as usize;
+            several.call.part_features[entry] = r.pick(&[131_073, i32::MIN, i32::MAX]);
+        }
+        11 if !several.call.features.is_empty() => several.call.features[0] = 131_073,
+        12 => several.call.queue_room = several.call.queue_room.saturating_sub(r.pick(&[1, 6, 1000])),
+        _ => several.call.part_sizes.extend(vec![1; r.pick(&[1, 65])]),
+    }
+}
+
+/// The buffers with words of no meaning in them: mostly just enough, now and then one too few or some more.
+fn lend_buffers(r: &mut Random, several: &mut Several) {
+    let (v, count) = (several.rows(), several.count());
+    let mut words = |need: usize| -> Vec<u32> {
+        let length = match r.below(80) {
+            0 => need.saturating_sub(1),
+            1 => r.below(need as u64 + 1) as usize,
+            2 => need.saturating_sub(need / count.max(1)),
+            3..=22 => need + r.pick(&[1, 7, 64]),
+            _ => need,
+        };
+        (0..length).map(|_| r.next() as u32).collect()
+    };
+    several.row_buffer = words(v * count);
+    several.call.record_buffer = words(v * count);
+    several.reports = words(8 * count);
+    several.call.answer_room = several.row_buffer.len();
+}
+
 /// Features that no letters give: any signs, up to the limit.
 fn scatter(r: &mut Random, call: &mut Call) {
     let e = call.settings.entries();
@@ -434,13 +611,15 @@ fn disturb_call(r: &mut Random, call: &mut Call) {
         8 if !call.part_sizes.is_empty() => call.part_features[0] = i32::MAX,
         9 => call.queue_room = 0,
         10 => call.answer_room = 0,
-        _ => {
-            call.starts.clear();
-            call.ends.clear();
-            call.sizes.clear();
-            call.features.clear();
-        }
+        _ => clear_table(call),
     }
+}
+
+fn clear_table(call: &mut Call) {
+    call.starts.clear();
+    call.ends.clear();
+    call.sizes.clear();
+    call.features.clear();
 }
 
 const NOT_FLOATS: [f32; 7] = [f32::NAN, -1.0, -1e-45, 1.000_000_1, 1000.0001, f32::INFINITY, f32::NEG_INFINITY];
@@ -465,14 +644,14 @@ pub fn disturb_job(r: &mut Random, job: &mut Job) {
         11 => job.variants[row].start = job.variants[row].end.saturating_add(1),
         12 if row > 0 => job.variants[row].start = job.variants[row - 1].start.saturating_sub(1),
         13 => job.variants[row].size = r.pick(&[131_073, -131_073, i32::MIN, i32::MAX]),
-        14 if !job.parts.is_empty() => job.parts[0].size = r.pick(&[131_073, i32::MIN]),
+        14 if !job.haplotypes[0].is_empty() => job.haplotypes[0][0].size = r.pick(&[131_073, i32::MIN]),
         15 => {
             let one = job.variants[v - 1].clone();
             job.variants.resize(r.pick(&[17, 65]), one);
         }
         _ => {
             let one = Part { size: 1, negative: false, letters: b"A".to_vec() };
-            job.parts.resize(r.pick(&[9, 65]), one);
+            job.haplotypes[0].resize(r.pick(&[9, 65]), one);
         }
     }
 }
@@ -533,6 +712,7 @@ fn disturb_record(r: &mut Random, bytes: &mut Vec<u8>) {
             0x00 => bytes.push(0),
             0x01 => bytes[body + shape.flags.start + r.below(3) as usize] = 2,
             0x04 => bytes[body + 15] = 1,
+            0x05 => bytes[at] = r.pick(&[0x00, 0x01, 0x02, 0x06]),
             _ if r.chance(50) => bytes[body + shape.flags.start] = 2,
             _ => {
                 let count = body + shape.count.expect("a variant or a part");

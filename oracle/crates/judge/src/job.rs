@@ -1,4 +1,4 @@
-//! A job and its bytes (document 01, "Job form and program").
+//! A job and its bytes (document 01, "Job form and program"; document 02, P1).
 use crate::rules::Rules;
 use std::ops::Range;
 
@@ -56,7 +56,8 @@ pub struct Part {
 pub struct Job {
     pub settings: Settings,
     pub variants: Vec<Variant>,
-    pub parts: Vec<Part>,
+    /// the parts of each; never none
+    pub haplotypes: Vec<Vec<Part>>,
 }
 
 fn put_letters(bytes: &mut Vec<u8>, letters: &[u8]) {
@@ -67,7 +68,20 @@ fn put_letters(bytes: &mut Vec<u8>, letters: &[u8]) {
     }
 }
 
+fn put_part(bytes: &mut Vec<u8>, p: &Part) {
+    bytes.push(0x03);
+    bytes.extend_from_slice(&p.size.to_le_bytes());
+    bytes.push(p.negative as u8);
+    bytes.extend_from_slice(&(p.letters.len() as u32).to_le_bytes());
+    put_letters(bytes, &p.letters);
+}
+
 impl Job {
+    /// A job of its own with these parts over the same table.
+    pub fn with_parts(&self, parts: &[Part]) -> Job {
+        Job { settings: self.settings.clone(), variants: self.variants.clone(), haplotypes: vec![parts.to_vec()] }
+    }
+
     pub fn bytes(&self) -> Vec<u8> {
         let s = &self.settings;
         let mut bytes = vec![0x01, s.k, s.squish as u8, s.one_to_one as u8, s.full as u8];
@@ -86,12 +100,11 @@ impl Job {
             bytes.extend_from_slice(&(v.letters.len() as u32).to_le_bytes());
             put_letters(&mut bytes, &v.letters);
         }
-        for p in &self.parts {
-            bytes.push(0x03);
-            bytes.extend_from_slice(&p.size.to_le_bytes());
-            bytes.push(p.negative as u8);
-            bytes.extend_from_slice(&(p.letters.len() as u32).to_le_bytes());
-            put_letters(&mut bytes, &p.letters);
+        for (i, parts) in self.haplotypes.iter().enumerate() {
+            if i > 0 {
+                bytes.push(0x05);
+            }
+            parts.iter().for_each(|p| put_part(&mut bytes, p));
         }
         bytes.push(0x00);
         bytes
@@ -113,6 +126,7 @@ pub fn shape(kind: u8) -> Option<Shape> {
         0x02 => (25, 20..21, Some(21)),
         0x03 => (9, 4..5, Some(5)),
         0x04 => (16, 0..0, None),
+        0x05 => (0, 0..0, None),
         _ => return None,
     };
     Some(Shape { body, flags, count })
@@ -142,24 +156,31 @@ fn f32_at(bytes: &[u8], at: usize) -> f32 {
     f32::from_bits(u32_at(bytes, at))
 }
 
-struct Reader {
+struct Reader<'a> {
+    rules: &'a Rules,
     stage: Stage,
     owed: usize,
     settings: Option<Settings>,
     variants: Vec<Variant>,
-    parts: Vec<Part>,
+    haplotypes: Vec<Vec<Part>>,
 }
 
-impl Reader {
+impl Reader<'_> {
     fn in_place(&self, kind: u8) -> bool {
         if self.owed > 0 {
             return kind == 0x04;
         }
-        match self.stage {
-            Stage::Front => kind == 0x01,
-            Stage::Variants => matches!(kind, 0x00 | 0x02 | 0x03),
-            Stage::Parts => matches!(kind, 0x00 | 0x03),
+        match (&self.stage, kind) {
+            (Stage::Front, _) => kind == 0x01,
+            (_, 0x05) => self.rules.next_may_begin(self.parts().len()),
+            (Stage::Variants, _) => matches!(kind, 0x00 | 0x02 | 0x03),
+            (Stage::Parts, _) => matches!(kind, 0x00 | 0x03),
         }
+    }
+
+    /// Those of the haplotype that is being read.
+    fn parts(&self) -> &[Part] {
+        self.haplotypes.last().expect("never none")
     }
 
     /// Whether the record of this kind, with all the bytes after it, has a fault. A fault may count on those before it.
@@ -169,6 +190,7 @@ impl Reader {
             20 => false,
             21 => after.len() < shape.body,
             22 => !self.in_place(kind),
+            27 => kind == 0x05 && self.rules.count_is_refused(self.haplotypes.len() + 1),
             24 => after[shape.flags].iter().any(|&flag| flag > 1),
             13 => shape.count.is_some_and(|at| u32_at(after, at) > LETTER_LIMIT),
             23 => kind == 0x04 && after[self.owed.min(16)..16].iter().any(|&padding| padding != 0),
@@ -182,6 +204,7 @@ impl Reader {
             0x01 => self.take_settings(body),
             0x02 => self.take_variant(body),
             0x03 => self.take_part(body),
+            0x05 => self.begin_next(),
             _ => self.take_letters(body),
         }
     }
@@ -219,18 +242,23 @@ impl Reader {
     fn take_part(&mut self, body: &[u8]) {
         self.owed = u32_at(body, 5) as usize;
         self.stage = Stage::Parts;
-        self.parts.push(Part {
+        self.haplotypes.last_mut().expect("never none").push(Part {
             size: u32_at(body, 0) as i32,
             negative: body[4] == 1,
             letters: vec![],
         });
     }
 
+    fn begin_next(&mut self) {
+        self.stage = if self.rules.variant_may_follow_next() { Stage::Variants } else { Stage::Parts };
+        self.haplotypes.push(vec![]);
+    }
+
     fn take_letters(&mut self, body: &[u8]) {
         let here = self.owed.min(16);
         self.owed -= here;
         let letters = match self.stage {
-            Stage::Parts => &mut self.parts.last_mut().unwrap().letters,
+            Stage::Parts => &mut self.haplotypes.last_mut().unwrap().last_mut().unwrap().letters,
             _ => &mut self.variants.last_mut().unwrap().letters,
         };
         letters.extend_from_slice(&body[..here]);
@@ -240,11 +268,12 @@ impl Reader {
 /// The job in the bytes, or the first fault of the form.
 pub fn read(rules: &Rules, bytes: &[u8]) -> Result<Job, u32> {
     let mut reader = Reader {
+        rules,
         stage: Stage::Front,
         owed: 0,
         settings: None,
         variants: vec![],
-        parts: vec![],
+        haplotypes: vec![vec![]],
     };
     let mut left = bytes;
     loop {
@@ -262,6 +291,6 @@ pub fn read(rules: &Rules, bytes: &[u8]) -> Result<Job, u32> {
     Ok(Job {
         settings: reader.settings.unwrap(),
         variants: reader.variants,
-        parts: reader.parts,
+        haplotypes: reader.haplotypes,
     })
 }

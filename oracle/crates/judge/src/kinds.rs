@@ -5,6 +5,7 @@ use crate::job::Job;
 use crate::met::Met;
 use crate::rules::DOCUMENT;
 use crate::rust::{By, Judged};
+use crate::several::Several;
 use std::collections::BTreeMap;
 
 pub type Counts = BTreeMap<String, u64>;
@@ -174,14 +175,68 @@ pub fn of_numbers(counts: &mut Counts, call: &Call, answer: &Answer) {
     }
 }
 
+/// What the answers to several haplotypes, of so many parts each, show; one answer is to the whole.
+fn of_haplotypes(parts: &[usize], answers: &[Answer]) -> Vec<(bool, String)> {
+    let refused = |number: u32| answers.len() > 1 && answers.iter().any(|answer| answer.refusal == number);
+    let (some, all) = (answers.iter().any(|answer| answer.refusal != 0), answers.iter().all(|answer| answer.refusal != 0));
+    let whole = answers.len() == 1;
+    let mut seen: Vec<(bool, String)> = (1..=16).map(|count| (!(whole && some) && parts.len() == count, format!("haplotypes: {count:02}"))).collect();
+    seen.extend([5, 6, 9, 10].map(|number| (refused(number), format!("haplotypes: one refused {number:02}"))));
+    seen.extend([
+        (!whole && some && !all, "haplotypes: some refused, some answered".to_string()),
+        (!whole && all, "haplotypes: each refused".to_string()),
+        (!whole && parts.contains(&0), "haplotypes: one without parts".to_string()),
+        (!whole && parts.iter().all(|&m| m == 0), "haplotypes: none has parts".to_string()),
+        (!whole && parts.iter().sum::<usize>() > 8, "haplotypes: over 8 parts in all".to_string()),
+        (!whole && answers.iter().any(|one| one.rows != answers[0].rows), "haplotypes: other rows for another".to_string()),
+        (whole && some && parts.len() > 1, "haplotypes: several, the whole refused".to_string()),
+    ]);
+    seen
+}
+
+/// What a judged call for several haplotypes shows. A kind that no call shows is counted too, as 0.
+pub fn of_several(counts: &mut Counts, several: &Several, judged: &[Judged]) {
+    let (v, count) = (several.rows(), several.count());
+    let answers: Vec<Answer> = judged.iter().map(|one| one.answer.clone()).collect();
+    let refusal = DOCUMENT.returned(&answers.iter().map(|answer| answer.refusal).collect::<Vec<u32>>());
+    let parts: Vec<usize> = (0..count).map(|at| if refusal == 0 { DOCUMENT.stretch(&several.part_ends, at).len() } else { 0 }).collect();
+    let long = |length: usize, need: usize| if length < need { "too short" } else if length == need { "just enough" } else { "longer" };
+    judged.iter().for_each(|one| of_answer(counts, one));
+    let mut seen = of_haplotypes(&parts, &answers);
+    seen.extend([
+        (refusal == 27 && count == 0, "haplotypes: none lent, refused 27".to_string()),
+        (refusal == 27 && count > 16, "haplotypes: over 16, refused 27".to_string()),
+        (refusal == 6 && several.part_ends.len() != several.feature_ends.len(), "ends: unequal numbers, refused 6".to_string()),
+        (refusal == 6 && !several.part_ends.is_sorted(), "ends: falling, refused 6".to_string()),
+        (refusal == 12 && several.row_buffer.len() >= v * count && several.call.record_buffer.len() >= v * count, "reports: alone the 12".to_string()),
+    ]);
+    for (name, length, need) in [
+        ("row buffer", several.row_buffer.len(), v * count),
+        ("second buffer", several.call.record_buffer.len(), v * count),
+        ("reports", several.reports.len(), 8 * count),
+    ] {
+        seen.push((true, format!("{name}: {}", long(length, need))));
+    }
+    for (is, kind) in seen {
+        *counts.entry(kind).or_default() += u64::from(is);
+    }
+}
+
 /// All that a judged input of the program shows; it is a job unless the form is at fault.
-pub fn of_input(counts: &mut Counts, job: Option<&Job>, judged: &Judged, met: &Met) {
-    match job {
-        Some(job) if judged.answer.refusal == 0 => {
-            of_judged(counts, &Call::of_job(job), judged, met);
-            let variants = job.variants.iter().map(|v| v.letters.as_slice());
-            of_letters(counts, job.settings.k, variants.chain(job.parts.iter().map(|p| p.letters.as_slice())));
+pub fn of_input(counts: &mut Counts, job: Option<&Job>, judged: &[Judged], met: &Met) {
+    for (at, one) in judged.iter().enumerate() {
+        match job {
+            Some(job) if one.answer.refusal == 0 => {
+                of_judged(counts, &Call::of_job(&job.with_parts(&job.haplotypes[at])), one, met);
+                let variants = job.variants.iter().map(|v| v.letters.as_slice());
+                of_letters(counts, job.settings.k, variants.chain(job.haplotypes[at].iter().map(|p| p.letters.as_slice())));
+            }
+            _ => of_answer(counts, one),
         }
-        _ => of_answer(counts, judged),
+    }
+    if let Some(job) = job.filter(|job| job.haplotypes.len() > 1) {
+        let parts: Vec<usize> = job.haplotypes.iter().map(Vec::len).collect();
+        let answers: Vec<Answer> = judged.iter().map(|one| one.answer.clone()).collect();
+        of_haplotypes(&parts, &answers).into_iter().filter(|(is, _)| *is).for_each(|(_, kind)| add(counts, kind));
     }
 }

@@ -1,7 +1,7 @@
 //! The judge: what documents 01 and 02 and kanpig's Rust together say about a job.
 //!
 //! - `job`: a job, its bytes, and the faults of the job form.
-//! - `call`: a job as the library is asked it, and the refusals 1 to 12 and 14.
+//! - `call`: a haplotype as the library is asked for it, and the refusals 1 to 12 and 14; `several`: several over one table.
 //! - `rust`: the answer by kanpig's Rust, unchanged or ordered.
 //! - `answer`: an answer and its eight lines.
 //! - `program`: what the program must print for given bytes.
@@ -26,4 +26,5 @@ pub mod program;
 pub mod random;
 pub mod rules;
 pub mod rust;
+pub mod several;
 pub mod shrink;

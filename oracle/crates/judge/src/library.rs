@@ -3,6 +3,7 @@ use crate::answer::Answer;
 use crate::call::Call;
 use crate::kinds::Counts;
 use crate::random::Random;
+use crate::several::{Seen, Several};
 
 pub struct Said {
     pub answer: Answer,
@@ -11,6 +12,19 @@ pub struct Said {
     pub queue_unchanged: bool,
     /// the second buffer, whole
     pub record_buffer: Vec<u32>,
+}
+
+/// What a call for several haplotypes left.
+pub struct SaidOfSeveral {
+    pub seen: Seen,
+    pub queue_unchanged: bool,
+    /// the words before and behind each lent buffer
+    pub guards_unchanged: bool,
+}
+
+#[cfg(not(feature = "linked"))]
+pub fn several(_several: &Several) -> Result<SaidOfSeveral, String> {
+    Err("the library is not linked".to_string())
 }
 
 #[cfg(not(feature = "linked"))]
@@ -24,7 +38,7 @@ pub fn smaller_call(_r: &mut Random, _counts: &mut Counts) -> Result<(), String>
 }
 
 #[cfg(feature = "linked")]
-pub use linked::{answer, smaller_call};
+pub use linked::{answer, several, smaller_call};
 
 #[cfg(feature = "linked")]
 mod linked {
@@ -46,6 +60,16 @@ mod linked {
             links: *mut u32, links_len: usize, keys: *mut u64, keys_len: usize, rows: *mut u32, rows_len: usize,
             records: *mut u32, records_len: usize,
             report: *mut [u32; 7],
+        ) -> u32;
+        fn nd_apply_haplotypes(
+            settings: *const [u32; 13],
+            starts: *const u64, starts_len: usize, ends: *const u64, ends_len: usize,
+            sizes: *const i32, sizes_len: usize, features: *const i32, features_len: usize,
+            record_numbers: *const u32, record_numbers_len: usize,
+            part_ends: *const u64, part_ends_len: usize, feature_ends: *const u64, feature_ends_len: usize,
+            part_sizes: *const i32, part_sizes_len: usize, part_features: *const i32, part_features_len: usize,
+            links: *mut u32, links_len: usize, keys: *mut u64, keys_len: usize, rows: *mut u32, rows_len: usize,
+            records: *mut u32, records_len: usize, reports: *mut u32, reports_len: usize,
         ) -> u32;
         fn nd_count_chains(starts: *const u64, starts_len: usize, ends: *const u64, ends_len: usize, full: bool, cap: u32, count: *mut u32) -> u32;
         fn nd_seq_to_kmer(letters: *const u8, letters_len: usize, k: u8, negative: bool, row: *mut i32, row_len: usize) -> u32;
@@ -113,6 +137,61 @@ mod linked {
             rest_unchanged: rows[count..].iter().all(|&x| x == MARK),
             queue_unchanged: links.iter().all(|&x| x == MARK) && keys.iter().all(|&x| x == MARK_KEY),
             record_buffer,
+        })
+    }
+
+    /// A buffer between words that nobody lends.
+    struct Lent<T> {
+        words: Vec<T>,
+        guard: T,
+    }
+
+    impl<T: Copy + PartialEq> Lent<T> {
+        const GUARDS: usize = 16;
+
+        fn new(lent: &[T], guard: T) -> Lent<T> {
+            let guards = [guard; 16];
+            Lent { words: [&guards, lent, &guards].concat(), guard }
+        }
+
+        fn place(&mut self) -> *mut T {
+            self.words[Self::GUARDS..].as_mut_ptr()
+        }
+
+        fn lent(&self) -> &[T] {
+            &self.words[Self::GUARDS..self.words.len() - Self::GUARDS]
+        }
+
+        fn is_guarded(&self) -> bool {
+            let (before, behind) = (&self.words[..Self::GUARDS], &self.words[self.words.len() - Self::GUARDS..]);
+            before.iter().chain(behind).all(|word| *word == self.guard)
+        }
+    }
+
+    /// The queue holds marks before the call, the other buffers what the call says.
+    pub fn several(several: &Several) -> Result<SaidOfSeveral, String> {
+        let call = &several.call;
+        let (links, keys) = (vec![MARK; call.queue_room], vec![MARK_KEY; call.queue_room + 1]);
+        let (mut links, mut keys) = (Lent::new(&links, MARK), Lent::new(&keys, MARK_KEY));
+        let [mut rows, mut records, mut reports] = [&several.row_buffer, &call.record_buffer, &several.reports].map(|words| Lent::new(words, MARK));
+        // SAFETY: every pointer comes with its slice's length, and no two overlap.
+        let returned = unsafe {
+            nd_apply_haplotypes(
+                &words(&call.settings),
+                call.starts.as_ptr(), call.starts.len(), call.ends.as_ptr(), call.ends.len(),
+                call.sizes.as_ptr(), call.sizes.len(), call.features.as_ptr(), call.features.len(),
+                call.numbers.as_ptr(), call.numbers.len(),
+                several.part_ends.as_ptr(), several.part_ends.len(), several.feature_ends.as_ptr(), several.feature_ends.len(),
+                call.part_sizes.as_ptr(), call.part_sizes.len(), call.part_features.as_ptr(), call.part_features.len(),
+                links.place(), links.lent().len(), keys.place(), keys.lent().len(), rows.place(), rows.lent().len(),
+                records.place(), records.lent().len(), reports.place(), reports.lent().len(),
+            )
+        };
+        let guards = [links.is_guarded(), keys.is_guarded(), rows.is_guarded(), records.is_guarded(), reports.is_guarded()];
+        Ok(SaidOfSeveral {
+            queue_unchanged: links.lent().iter().all(|&x| x == MARK) && keys.lent().iter().all(|&x| x == MARK_KEY),
+            guards_unchanged: !guards.contains(&false),
+            seen: Seen { returned, rows: rows.lent().to_vec(), records: records.lent().to_vec(), reports: reports.lent().to_vec() },
         })
     }
 

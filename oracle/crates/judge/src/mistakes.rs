@@ -72,15 +72,15 @@ mistakes! {
     "equal starts refused": falls = |start, before| start <= before;
     "a start equal to its end refused": is_reversed = |start, end| start >= end;
     "a size at its limit refused": size_is_over = |size| size.unsigned_abs() >= SIZE_LIMIT;
-    "9 looked for before 7 and 8": refusals = || &[1, 2, 3, 4, 5, 6, 9, 7, 8, 14, 10, 11, 12];
-    "22 looked for before 21": form_faults = || &[20, 22, 21, 24, 13, 23, 25];
-    "padding not looked at": form_faults = || &[20, 21, 22, 24, 13, 25];
-    "bytes after the end not looked at": form_faults = || &[20, 21, 22, 24, 13, 23];
-    "14 looked for after 9": refusals = || &[1, 2, 3, 4, 5, 6, 7, 8, 9, 14, 10, 11, 12];
-    "14 looked for before 8": refusals = || &[1, 2, 3, 4, 5, 6, 7, 14, 8, 9, 10, 11, 12];
-    "14 looked for with the rooms, as the last": refusals = || &[1, 2, 3, 4, 5, 6, 7, 8, 9, 10, 11, 12, 14];
-    "14 looked for before the lengths": refusals = || &[1, 2, 3, 4, 5, 14, 6, 7, 8, 9, 10, 11, 12];
-    "14 not looked for": refusals = || &[1, 2, 3, 4, 5, 6, 7, 8, 9, 10, 11, 12];
+    "9 looked for before 7 and 8": refusals = || &[1, 2, 3, 4, 27, 5, 6, 9, 7, 8, 14, 10, 11, 12];
+    "22 looked for before 21": form_faults = || &[20, 22, 21, 27, 24, 13, 23, 25];
+    "padding not looked at": form_faults = || &[20, 21, 22, 27, 24, 13, 25];
+    "bytes after the end not looked at": form_faults = || &[20, 21, 22, 27, 24, 13, 23];
+    "14 looked for after 9": refusals = || &[1, 2, 3, 4, 27, 5, 6, 7, 8, 9, 14, 10, 11, 12];
+    "14 looked for before 8": refusals = || &[1, 2, 3, 4, 27, 5, 6, 7, 14, 8, 9, 10, 11, 12];
+    "14 looked for with the rooms, as the last": refusals = || &[1, 2, 3, 4, 27, 5, 6, 7, 8, 9, 10, 11, 12, 14];
+    "14 looked for before the lengths": refusals = || &[1, 2, 3, 4, 27, 5, 14, 6, 7, 8, 9, 10, 11, 12];
+    "14 not looked for": refusals = || &[1, 2, 3, 4, 27, 5, 6, 7, 8, 9, 10, 11, 12];
     "14 for neighbours only": repeats = |numbers| numbers.windows(2).any(|pair| pair[0] == pair[1]);
     "14 for the first number only": repeats = |numbers| numbers.iter().skip(1).any(|number| *number == numbers[0]);
     "14 for a number that falls": repeats = |numbers| numbers.windows(2).any(|pair| pair[0] >= pair[1]);
@@ -107,4 +107,67 @@ mistakes! {
     "the records at the second buffer's end": second_after = |before, records, _| [&before[..before.len() - records.len()], records].concat();
     "a job's record numbers from 1": present_numbers = |v| (1..=v as u32).collect();
     "`records` printed last": lines = || &["rows", "score", "sizesim", "seqsim", "full", "scored", "complete", "records"];
+    "a seventeenth haplotype taken": count_is_refused = |count| count == 0 || count > 17;
+    "a sixteenth haplotype refused": count_is_refused = |count| count == 0 || count > 15;
+    "no haplotypes taken": count_is_refused = |count| count > 16;
+    "27 looked for before 22": form_faults = || &[20, 21, 27, 22, 24, 13, 23, 25];
+    "27 not looked for in the form": form_faults = || &[20, 21, 22, 24, 13, 23, 25];
+    "27 looked for before 4": refusals = || &[1, 2, 3, 27, 4, 5, 6, 7, 8, 14, 9, 10, 11, 12];
+    "27 looked for after 5": refusals = || &[1, 2, 3, 4, 5, 27, 6, 7, 8, 14, 9, 10, 11, 12];
+    "27 looked for after 6": refusals = || &[1, 2, 3, 4, 5, 6, 27, 7, 8, 14, 9, 10, 11, 12];
+    "27 not looked for in the library": refusals = || &[1, 2, 3, 4, 5, 6, 7, 8, 14, 9, 10, 11, 12];
+    "a haplotype without parts has no next": next_may_begin = |parts| parts > 0;
+    "a variant taken behind 0x05": variant_may_follow_next = || true;
+    "8 parts in all haplotypes together": parts_exceed_memory = |parts| parts.iter().sum::<usize>() > 8;
+    "8 parts asked of the first haplotype only": parts_exceed_memory = |parts| parts[0] > 8;
+    "8 parts asked of the last haplotype only": parts_exceed_memory = |parts| parts.last().is_some_and(|&m| m > 8);
+    "the parts asked among the table, however many haplotypes": parts_wait = |_| false;
+    "the parts asked last, with one haplotype too": parts_wait = |_| true;
+    "a part's 9 answers the whole job": answers_the_whole = |number, from_parts| !from_parts || number == 9;
+    "a part's 5 answers the whole job": answers_the_whole = |number, from_parts| !from_parts || number == 5;
+    "any haplotype's refusal answers the whole job": answers_the_whole = |_, _| true;
+    "the table's refusal told for each haplotype": answers_the_whole = |_, _| false;
+    "the first refused haplotype ends the answers": is_answered = |at, first_refused| at <= first_refused;
+    "a refused haplotype passed over": is_answered = |at, first_refused| at != first_refused;
+    "V rows of room for all haplotypes together": rows_needed = |v, _| v;
+    "room for one row less of the last haplotype": rows_needed = |v, count| (v * count).saturating_sub(1);
+    "seven words of report for each": reports_are_short = |words, count| words < 7 * count;
+    "the reports' room not asked": reports_are_short = |_, _| false;
+    "room of the queue asked for each haplotype": entries_needed = |of_one, count| of_one * count;
+    "unequal numbers of ends taken": ends_disagree = |part_ends, feature_ends, parts, features| {
+        let shared = part_ends.len().min(feature_ends.len());
+        part_ends.len() > shared || DOCUMENT.ends_disagree(part_ends, &feature_ends[..shared], parts, features)
+    };
+    "a last end before the slice's end taken": ends_disagree = |part_ends, feature_ends, parts, features| {
+        let last = |ends: &[u64], length: usize| ends.last().map_or(0, |&end| length.min(end as usize));
+        DOCUMENT.ends_disagree(part_ends, feature_ends, last(part_ends, parts), last(feature_ends, features))
+    };
+    "falling ends taken": ends_disagree = |part_ends, feature_ends, parts, features| {
+        let rising = |ends: &[u64]| ends.iter().scan(0, |most: &mut u64, &end| { *most = end.max(*most); Some(*most) }).collect::<Vec<u64>>();
+        let wrong_last = part_ends.last() != Some(&(parts as u64)) || feature_ends.last() != Some(&(features as u64));
+        wrong_last || DOCUMENT.ends_disagree(&rising(part_ends), &rising(feature_ends), parts, features)
+    };
+    "each haplotype has the parts before it too": stretch = |ends, at| 0..ends[at] as usize;
+    "each haplotype has the first one's parts": stretch = |ends, _| 0..ends[0] as usize;
+    "rows and records one behind the other, without gaps": answer_front = |_, _, listed| listed;
+    "each haplotype's rows at the front": answer_front = |_, _, _| 0;
+    "a refused haplotype's stretch cleared": stretch_after =
+        |before, list, refused| if refused { vec![0; before.len()] } else { DOCUMENT.stretch_after(before, list, refused) };
+    "the rest of a stretch set to 0": stretch_after =
+        |before, list, refused| if refused { before.to_vec() } else { DOCUMENT.stretch_after(&vec![0; before.len()], list, refused) };
+    "a refused haplotype's report left as it was": report_after = |before, said| if said[0] != 0 { before } else { said };
+    "a refused haplotype's seven words left as they were": report_after = |before, said| if said[0] != 0 {
+        [said[0], before[1], before[2], before[3], before[4], before[5], before[6], before[7]]
+    } else {
+        said
+    };
+    "an accepted haplotype's refusal left as it was": report_after = |before, said| if said[0] != 0 { said } else {
+        [before[0], said[1], said[2], said[3], said[4], said[5], said[6], said[7]]
+    };
+    "the first refused haplotype's number returned": returned = |own| own.iter().copied().find(|&number| number != 0).unwrap_or(0);
+    "the last haplotype's number returned": returned = |own| own.last().copied().unwrap_or(0);
+    "the only haplotype's refusal told in its report": returned = |own| if own == [9] { 0 } else { DOCUMENT.returned(own) };
+    "`hap` printed for one haplotype too": hap_lines_stand = |_| true;
+    "`hap` not printed": hap_lines_stand = |_| false;
+    "`hap` from 1": hap_number = |at| at + 1;
 }

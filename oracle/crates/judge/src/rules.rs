@@ -1,6 +1,6 @@
 //! The sentences of document 01 that a mistake misreads, in its order, and then document 02's, each a rule with a name. `DOCUMENT` holds
 //! them as the papers say them; document.rs, call.rs and job.rs ask for them by name. The other limits stand where call.rs and program.rs ask them.
-use crate::answer::Target;
+use crate::answer::{Report, Target};
 use crate::document::{PartList, Scored};
 use crate::job::Settings;
 use std::collections::HashSet;
@@ -56,9 +56,9 @@ rules! {
         start < before
     }
 
-    /// "Checked in this order"; document 02, P3: "14 for a repeated number, after 8 and before 9"
+    /// "Checked in this order"; document 02, P3: "14 for a repeated number, after 8 and before 9"; P1: 27 "in the library for a count not 1 to 16, after 4"
     fn refusals() -> &'static [u32] {
-        &[1, 2, 3, 4, 5, 6, 7, 8, 14, 9, 10, 11, 12]
+        &[1, 2, 3, 4, 27, 5, 6, 7, 8, 14, 9, 10, 11, 12]
     }
 
     // From letters to similarity
@@ -224,9 +224,9 @@ rules! {
     // Job form and program
 
     /// "20 unknown kind, 21 input ends inside a record or without 0x00, 22 out of place, 24 a flag not 0 or 1, 13, 23 padding not zero; 25 bytes
-    /// after 0x00. Within a record in that order."
+    /// after 0x00. Within a record in that order." Document 02, P1: "27 for a seventeenth, front to back after 22"
     fn form_faults() -> &'static [u32] {
-        &[20, 21, 22, 24, 13, 23, 25]
+        &[20, 21, 22, 27, 24, 13, 23, 25]
     }
 
     /// "seven lines"; document 02, P3: "one more line, `records`, directly after `rows`"
@@ -265,5 +265,99 @@ rules! {
     /// "A job in the present form gets its row numbers as record numbers."
     fn present_numbers(v: usize) -> Vec<u32> {
         (0..v as u32).collect()
+    }
+
+    // Document 02, P1: several haplotypes over one table
+
+    /// "up to 16"; "27 for a seventeenth"; "in the library for a count not 1 to 16"
+    fn count_is_refused(count: usize) -> bool {
+        !(1..=16).contains(&count)
+    }
+
+    /// "a record 0x05 with empty body, after a part list (it may be empty), begins the next": behind settings, with no letters owed
+    fn next_may_begin(_parts: usize) -> bool {
+        true
+    }
+
+    /// A variant behind 0x05 is out of place, as behind a part.
+    fn variant_may_follow_next() -> bool {
+        false
+    }
+
+    /// "The limit of 8 parts in the program is per haplotype."
+    fn parts_exceed_memory(parts: &[usize]) -> bool {
+        parts.iter().any(|&m| m > 8)
+    }
+
+    /// "Settings, table, room and form refusals .. come first"; "a job with one keeps document 01's order": whether the parts wait until those are asked
+    fn parts_wait(count: usize) -> bool {
+        count > 1
+    }
+
+    /// "a refusal 5, 6, 9 or 10 from its parts answers that haplotype only. Settings, table, room and form refusals still answer the whole job"
+    fn answers_the_whole(_number: u32, from_parts: bool) -> bool {
+        !from_parts
+    }
+
+    /// A refused haplotype keeps none of the others from its answer.
+    fn is_answered(_at: usize, _first_refused: usize) -> bool {
+        true
+    }
+
+    /// "Answer room is V rows for each haplotype"; P3's second buffer: "at least V entries for each haplotype"
+    fn rows_needed(v: usize, count: usize) -> usize {
+        v * count
+    }
+
+    /// Eight words of report for each haplotype; too few are a 12.
+    fn reports_are_short(words: usize, count: usize) -> bool {
+        words < 8 * count
+    }
+
+    /// The queue's room "is used again for each haplotype".
+    fn entries_needed(of_one: usize, _count: usize) -> usize {
+        of_one
+    }
+
+    /// "unequal numbers of ends, falling ends, or a last end that is not the slice's length is a 6 of the whole call"
+    fn ends_disagree(part_ends: &[u64], feature_ends: &[u64], parts: usize, features: usize) -> bool {
+        let cut = |ends: &[u64], length: usize| ends.is_sorted() && ends.last() == Some(&(length as u64));
+        part_ends.len() != feature_ends.len() || !cut(part_ends, parts) || !cut(feature_ends, features)
+    }
+
+    /// "a haplotype is a stretch of the part sizes and a stretch of the part features, given by two slices of ends"
+    fn stretch(ends: &[u64], at: usize) -> Range<usize> {
+        let from = if at == 0 { 0 } else { ends[at - 1] };
+        from as usize..ends[at] as usize
+    }
+
+    /// "V rows for each haplotype, in its own stretch"; `listed` is how many rows the haplotypes before it have
+    fn answer_front(at: usize, v: usize, _listed: usize) -> usize {
+        at * v
+    }
+
+    /// "a refused one's stretch is unchanged"; else the list stands at its front, and its rest is unchanged
+    fn stretch_after(before: &[u32], list: &[u32], _refused: bool) -> Vec<u32> {
+        list.iter().chain(before.iter().skip(list.len())).copied().collect()
+    }
+
+    /// A haplotype's refusal and document 01's seven, all zeros where it is refused.
+    fn report_after(_before: Report, said: Report) -> Report {
+        said
+    }
+
+    /// "with one haplotype every refusal is the whole call's; with several .. the call returns 0"
+    fn returned(own: &[u32]) -> u32 {
+        if let [only] = own { *only } else { 0 }
+    }
+
+    /// "With more than one, each block of lines follows a line `hap`"
+    fn hap_lines_stand(answers: usize) -> bool {
+        answers > 1
+    }
+
+    /// "a line `hap` and its number from 0"
+    fn hap_number(at: usize) -> usize {
+        at
     }
 }

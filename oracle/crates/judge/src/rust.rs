@@ -2,6 +2,7 @@
 use crate::answer::{Answer, Target};
 use crate::call::Call;
 use crate::rules::DOCUMENT;
+use crate::several::Several;
 
 /// Whose word an answer is.
 #[derive(Clone, Copy, Debug, PartialEq, Eq)]
@@ -229,5 +230,13 @@ pub fn judged(call: &Call) -> Judged {
         0 if call.searches(&DOCUMENT) => search(call),
         0 => one_to_one(call),
         number => Judged::refused(number),
+    }
+}
+
+/// The judge's answer to the whole of a call for several haplotypes, or one to each, as to so many calls of their own.
+pub fn judged_several(several: &Several) -> Vec<Judged> {
+    match several.refusal(&DOCUMENT) {
+        0 => (0..several.count()).map(|at| judged(&several.own(&DOCUMENT, at))).collect(),
+        number => vec![Judged::refused(number)],
     }
 }

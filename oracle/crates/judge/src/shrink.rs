@@ -2,6 +2,7 @@
 use crate::call::{queue_need, Call};
 use crate::job::{self, Job, Settings};
 use crate::rules::DOCUMENT;
+use crate::several::Several;
 use std::collections::BTreeSet;
 
 /// Settings with one of them plain.
@@ -49,16 +50,21 @@ fn smaller(job: &Job) -> Vec<Job> {
             with(&|j| (j.variants[i].start, j.variants[i].end) = (start, end));
         }
     }
-    for i in 0..job.parts.len() {
-        with(&|j| drop(j.parts.remove(i)));
-        let p = &job.parts[i];
-        for length in [0, p.letters.len() / 2, p.letters.len().saturating_sub(1)] {
-            with(&|j| j.parts[i].letters.truncate(length));
+    for h in 0..job.haplotypes.len() {
+        if job.haplotypes.len() > 1 {
+            with(&|j| drop(j.haplotypes.remove(h)));
         }
-        for size in [0, 1, -1, p.size / 2] {
-            with(&|j| j.parts[i].size = size);
+        for i in 0..job.haplotypes[h].len() {
+            with(&|j| drop(j.haplotypes[h].remove(i)));
+            let p = &job.haplotypes[h][i];
+            for length in [0, p.letters.len() / 2, p.letters.len().saturating_sub(1)] {
+                with(&|j| j.haplotypes[h][i].letters.truncate(length));
+            }
+            for size in [0, 1, -1, p.size / 2] {
+                with(&|j| j.haplotypes[h][i].size = size);
+            }
+            with(&|j| j.haplotypes[h][i].negative = false);
         }
-        with(&|j| j.parts[i].negative = false);
     }
     with(&|j| j.settings.k = 1);
     for settings in plainer(&job.settings) {
@@ -92,8 +98,8 @@ fn weight(job: &Job) -> u64 {
         .iter()
         .map(|v| 1000 + sequence(&v.letters, v.size, v.negative) + (v.start >> 1) .min(1 << 40) + v.end.min(1 << 40))
         .sum();
-    let parts: u64 = job.parts.iter().map(|p| 1000 + sequence(&p.letters, p.size, p.negative)).sum();
-    variants + parts + settings_weight(&job.settings)
+    let parts: u64 = job.haplotypes.iter().flatten().map(|p| 1000 + sequence(&p.letters, p.size, p.negative)).sum();
+    variants + parts + 1000 * job.haplotypes.len() as u64 + settings_weight(&job.settings)
 }
 
 /// Steps as long as some smaller job still shows it.
@@ -219,6 +225,107 @@ pub fn call(mut call: Call, shows: impl Fn(&Call) -> bool) -> Call {
         match next {
             Some(one) => call = one,
             None => return call,
+        }
+    }
+}
+
+/// A haplotype left out with its stretches, whole where its ends are good.
+fn without_haplotype(several: &mut Several, at: usize) {
+    let cut = |ends: &mut Vec<u64>, length: usize| {
+        let from = if at == 0 { 0 } else { ends[at - 1] };
+        let until = ends.remove(at).min(length as u64).max(from);
+        ends.iter_mut().skip(at).for_each(|end| *end = end.saturating_sub(until - from));
+        from.min(length as u64) as usize..until as usize
+    };
+    if at < several.part_ends.len() {
+        let stretch = cut(&mut several.part_ends, several.call.part_sizes.len());
+        several.call.part_sizes.drain(stretch);
+    }
+    if at < several.feature_ends.len() {
+        let stretch = cut(&mut several.feature_ends, several.call.part_features.len());
+        several.call.part_features.drain(stretch);
+    }
+    let v = several.rows();
+    several.row_buffer.truncate(several.row_buffer.len().saturating_sub(v));
+    several.call.record_buffer.truncate(several.call.record_buffer.len().saturating_sub(v));
+    several.reports.truncate(several.reports.len().saturating_sub(8));
+}
+
+/// The last part of a haplotype left out with its row of features.
+fn without_last_part(several: &mut Several, at: usize) {
+    let e = several.call.settings.entries();
+    let (until, features) = (several.part_ends[at] as usize, several.feature_ends[at] as usize);
+    several.call.part_sizes.remove(until - 1);
+    several.call.part_features.drain(features - e..features);
+    several.part_ends.iter_mut().skip(at).for_each(|end| *end -= 1);
+    several.feature_ends.iter_mut().skip(at).for_each(|end| *end -= e as u64);
+}
+
+/// A haplotype, a part or a row left out, or a row made plain.
+fn fewer_of_several(several: &Several, with: &mut dyn FnMut(&dyn Fn(&mut Several))) {
+    let e = several.call.settings.entries() as u64;
+    for at in 0..several.count() {
+        with(&|s| without_haplotype(s, at));
+        let has = |ends: &[u64], room: usize, need: u64| {
+            let from = if at == 0 { Some(0) } else { ends.get(at - 1).copied() };
+            let until = ends.get(at).copied().unwrap_or(0);
+            until <= room as u64 && from.is_some_and(|from| from + need <= until)
+        };
+        if has(&several.part_ends, several.call.part_sizes.len(), 1) && has(&several.feature_ends, several.call.part_features.len(), e) {
+            with(&|s| without_last_part(s, at));
+        }
+    }
+    let table = Call { part_sizes: vec![], ..several.call.clone() };
+    fewer(&table, &mut |change| {
+        with(&|s| {
+            let (rows, before) = (s.rows(), s.call.record_buffer.clone());
+            change(&mut s.call);
+            let lost = (rows - s.rows()) * s.count();
+            s.row_buffer.truncate(s.row_buffer.len().saturating_sub(lost));
+            s.call.record_buffer = before[..before.len().saturating_sub(lost)].to_vec();
+        });
+    });
+}
+
+fn smaller_several(several: &Several) -> Vec<Several> {
+    let mut all = vec![];
+    let mut with = |change: &dyn Fn(&mut Several)| {
+        let mut one = several.clone();
+        change(&mut one);
+        all.push(one);
+    };
+    fewer_of_several(several, &mut with);
+    with(&|s| s.call.numbers = ranks(&several.call.numbers));
+    with(&|s| s.call.features.fill(1));
+    with(&|s| s.call.part_features.fill(1));
+    with(&|s| s.call.part_sizes.fill(1));
+    with(&|s| s.call.queue_room = queue_need(&s.call.settings, s.rows()));
+    with(&|s| s.row_buffer.fill(9));
+    with(&|s| s.call.record_buffer.fill(9));
+    with(&|s| s.reports.fill(9));
+    with(&|s| s.row_buffer.truncate(s.rows() * s.count()));
+    with(&|s| s.call.record_buffer.truncate(s.rows() * s.count()));
+    with(&|s| s.reports.truncate(8 * s.count()));
+    for settings in plainer(&several.call.settings) {
+        with(&|s| s.call.settings = settings.clone());
+    }
+    all
+}
+
+fn several_weight(several: &Several) -> u64 {
+    let words = several.row_buffer.iter().chain(&several.reports).map(|&old| 100 + u64::from(old != 9)).sum::<u64>();
+    let unlike = |s: &Several| u64::from(s.call.queue_room != queue_need(&s.call.settings, s.rows()));
+    call_weight(&several.call) + words + 2000 * (several.part_ends.len() + several.feature_ends.len()) as u64 + unlike(several)
+}
+
+/// Steps as long as some smaller call for several still shows it.
+pub fn several(mut several: Several, shows: impl Fn(&Several) -> bool) -> Several {
+    loop {
+        let now = several_weight(&several);
+        let next = smaller_several(&several).into_iter().find(|one| several_weight(one) < now && shows(one));
+        match next {
+            Some(one) => several = one,
+            None => return several,
         }
     }
 }

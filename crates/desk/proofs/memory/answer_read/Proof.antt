@@ -13,13 +13,13 @@ abbrev start : tie.After-letter-room → tie.Start
 start c = c .before .before .before
 
 abbrev room : tie.After-read-job → tie.After-letter-room
-room c = c .before .before .before .before .before .before .before .before .before .before
+room c = c .before .before .before .before .before .before .before .before .before .before .before
 
 abbrev letters : tie.After-read-job → List ℕ
 letters c = room c .letter-room .result
 
 abbrev given : tie.After-answer-reading-arg → tie.After-read-job
-given c = c .before .before .before .before .before .before .before .before .before .before .before .before .before .before .before .before .before .before .before
+given c = c .before .before .before .before .before .before .before .before .before .before .before .before .before .before .before .before .before .before .before .before .before
 
 letter-room-requires : tie.Need-letter-room-requires
 letter-room-requires c κs = search needs
@@ -51,6 +51,9 @@ slice-aggregate-read-job-8 c = search needs
 slice-aggregate-read-job-9 : tie.Need-slice-aggregate-read-job-9
 slice-aggregate-read-job-9 c = search needs
 
+slice-aggregate-read-job-10 : tie.Need-slice-aggregate-read-job-10
+slice-aggregate-read-job-10 c = search needs
+
 read-job-requires : tie.Need-read-job-requires
 read-job-requires c κs = search needs
 
@@ -81,6 +84,9 @@ slice-aggregate-answer-reading-8 c = search needs
 slice-aggregate-answer-reading-9 : tie.Need-slice-aggregate-answer-reading-9
 slice-aggregate-answer-reading-9 c = search needs
 
+slice-aggregate-answer-reading-10 : tie.Need-slice-aggregate-answer-reading-10
+slice-aggregate-answer-reading-10 c = search needs
+
 answer-reading-requires : tie.Need-answer-reading-requires
 answer-reading-requires c κs =
     let r = given c in
@@ -105,6 +111,7 @@ answer-read-spec =
     tie.close
     (tie.spec letter-room-requires slice-aggregate-read-job slice-aggregate-read-job-2 slice-aggregate-read-job-3 slice-aggregate-read-job-4
     slice-aggregate-read-job-5 slice-aggregate-read-job-6 slice-aggregate-read-job-7 slice-aggregate-read-job-8 slice-aggregate-read-job-9
-    read-job-requires slice-aggregate-answer-reading slice-aggregate-answer-reading-2
+    slice-aggregate-read-job-10 read-job-requires slice-aggregate-answer-reading slice-aggregate-answer-reading-2
     slice-aggregate-answer-reading-3 slice-aggregate-answer-reading-4 slice-aggregate-answer-reading-5 slice-aggregate-answer-reading-6
-    slice-aggregate-answer-reading-7 slice-aggregate-answer-reading-8 slice-aggregate-answer-reading-9 answer-reading-requires same-length returns)
+    slice-aggregate-answer-reading-7 slice-aggregate-answer-reading-8 slice-aggregate-answer-reading-9
+    slice-aggregate-answer-reading-10 answer-reading-requires same-length returns)

@@ -1,4 +1,5 @@
 -- A refusal is told by its number, 30 as 26; a job's slices are cut to the rows that were read.
+use native.Mathlib.Omega.{arith}
 use denote.Ref.{now}
 use mathlib.Core.Path.{sym, ap, _∙_}
 use lib.Seq.{length-take-le}
@@ -13,14 +14,14 @@ use Rattle.desk.proofs.memory.answer_reading.Tie as tie
 abbrev slices : tie.Start → Lent
 slices s =
     lent (now (s .args .starts)) (now (s .args .ends)) (now (s .args .sizes)) (now (s .args .negatives)) (now (s .args .counts))
-    (now (s .args .part-sizes)) (now (s .args .part-negatives)) (now (s .args .part-counts)) (now (s .args .letters))
+    (now (s .args .part-sizes)) (now (s .args .part-negatives)) (now (s .args .part-counts)) (now (s .args .breaks)) (now (s .args .letters))
 
 -- the places: a refusal, a job, and among the arguments that its answer takes
 abbrev start-of-no : tie.After-read → tie.Start
-start-of-no c = c .before .before .before .before .before .before .before .before .before .before
+start-of-no c = c .before .before .before .before .before .before .before .before .before .before .before
 
 abbrev start : tie.After-read2 → tie.Start
-start c = c .before .before .before .before .before .before .before .before .before .before
+start c = c .before .before .before .before .before .before .before .before .before .before .before
 
 abbrev given : tie.After-answer-held-arg → tie.After-read2
 given c = c .before .before
@@ -28,8 +29,8 @@ given c = c .before .before
 abbrev middle : tie.After-answer-held-arg5 → tie.After-read2
 middle c = given (c .before .before .before .before)
 
-abbrev last : tie.After-answer-held-arg9 → tie.After-read2
-last c = middle (c .before .before .before .before)
+abbrev last : tie.After-answer-held-arg10 → tie.After-read2
+last c = middle (c .before .before .before .before .before)
 
 enum-known-read : tie.Need-enum-known-read
 enum-known-read c = search needs
@@ -67,6 +68,9 @@ slice-aggregate-answer-held-7 c = let g = middle (c .before .before) in sym (len
 slice-aggregate-answer-held-8 : tie.Need-slice-aggregate-answer-held-8
 slice-aggregate-answer-held-8 c = let g = middle (c .before .before .before) in sym (length-take-le _ _ (given-loaded (slices (start g)) (g .read2 .given .1) (start g .pre) .part-counts))
 
+slice-aggregate-answer-held-9 : tie.Need-slice-aggregate-answer-held-9
+slice-aggregate-answer-held-9 c = let g = middle (c .before .before .before .before) in sym (length-take-le _ _ (given-loaded (slices (start g)) (g .read2 .given .1) (start g .pre) .breaks))
+
 answer-held-requires : tie.Need-answer-held-requires
 answer-held-requires c κs = let g = last c in given-loaded (slices (start g)) (g .read2 .given .1) (start g .pre) .fits
 
@@ -76,7 +80,7 @@ same-length c = search needs
 returns : tie.Need-returns
 returns c =
     let p = c .before .before in let f = p .before in let g = f .before .before .before in
-    printed-as (printed-refused _ (p .put-refused .ensures)) (ap refusedText (f .told-as .ensures) ∙ declined-reading (slices (start-of-no g)) (g .read .given .1))
+    printed-as (printed-refused _ (omega arith) (p .put-refused .ensures)) (ap refusedText (f .told-as .ensures) ∙ declined-reading (slices (start-of-no g)) (g .read .given .1))
 
 same-length-2 : tie.Need-same-length-2
 same-length-2 c = search needs
@@ -91,4 +95,4 @@ answer-reading-spec =
     tie.close
     (tie.spec enum-known-read told-as-requires put-refused-requires enum-known-read-2 slice-aggregate-answer-held slice-aggregate-answer-held-2
     slice-aggregate-answer-held-3 slice-aggregate-answer-held-4 slice-aggregate-answer-held-5 slice-aggregate-answer-held-6 slice-aggregate-answer-held-7
-    slice-aggregate-answer-held-8 answer-held-requires same-length returns same-length-2 returns-2)
+    slice-aggregate-answer-held-8 slice-aggregate-answer-held-9 answer-held-requires same-length returns same-length-2 returns-2)

@@ -2,7 +2,7 @@
 use borrow.Author.Needs.{needs}
 use native.Mathlib.Omega.{arith}
 use denote.Ref.{now}
-use Rattle.form.proofs.FormLaws.{count-is, next-is, next-any, next-settings, next-variant, next-part, next-end, next-unknown}
+use Rattle.form.proofs.FormLaws.{count-is, follows-is, follows-any, follows-settings, follows-variant, follows-part, follows-next, follows-end, follows-unknown}
 use Rattle.form.proofs.records.after_record.Statement.{statement}
 use Rattle.form.proofs.records.after_record.Tie as tie
 
@@ -27,6 +27,9 @@ enum-told-5 c = search needs
 enum-told-6 : tie.Need-enum-told-6
 enum-told-6 c = search needs
 
+enum-told-7 : tie.Need-enum-told-7
+enum-told-7 c = search needs
+
 after-letters-requires : tie.Need-after-letters-requires
 after-letters-requires c κs = omega arith
 
@@ -36,38 +39,46 @@ add-t6 c = search needs
 add-t7 : tie.Need-add-t7
 add-t7 c = search needs
 
+add-t8 : tie.Need-add-t8
+add-t8 c = search needs
+
 returns : tie.Need-returns
 returns c =
     let t = c .before in let a = t .before .before .before .before .args in
-    next-is (t .enum-told .given .1) (next-any (a .st) (now (a .b)) (c .after-letters .ensures))
+    follows-is (t .enum-told .given .1) (follows-any (a .st) (now (a .b)) (c .after-letters .ensures))
 
 returns-2 : tie.Need-returns-2
 returns-2 c =
     let t = c in let n = t .before .before in let a = n .before .before .args in
-    next-is (t .enum-told2 .given .1) (next-settings (a .st) (now (a .b)) _ (count-is (now (a .b)) (t .enum-told2 .given .1) (n .count-of .ensures)))
+    follows-is (t .enum-told2 .given .1) (follows-settings (a .st) (now (a .b)) _ (count-is (now (a .b)) (t .enum-told2 .given .1) (n .count-of .ensures)))
 
 returns-3 : tie.Need-returns-3
 returns-3 c =
     let t = c .before in let n = t .before .before in let a = n .before .before .args in
-    next-is (t .enum-told3 .given .1) (next-variant (a .st) (now (a .b)) _ (count-is (now (a .b)) (t .enum-told3 .given .1) (n .count-of .ensures)))
+    follows-is (t .enum-told3 .given .1) (follows-variant (a .st) (now (a .b)) _ (count-is (now (a .b)) (t .enum-told3 .given .1) (n .count-of .ensures)))
 
 returns-4 : tie.Need-returns-4
 returns-4 c =
     let t = c .before in let n = t .before .before in let a = n .before .before .args in
-    next-is (t .enum-told4 .given .1) (next-part (a .st) (now (a .b)) _ (count-is (now (a .b)) (t .enum-told4 .given .1) (n .count-of .ensures)))
+    follows-is (t .enum-told4 .given .1) (follows-part (a .st) (now (a .b)) _ (count-is (now (a .b)) (t .enum-told4 .given .1) (n .count-of .ensures)))
 
 returns-5 : tie.Need-returns-5
 returns-5 c =
-    let t = c in let n = t .before .before in let a = n .before .before .args in
-    next-is (t .enum-told5 .given .1) (next-end (a .st) (now (a .b)) _ (count-is (now (a .b)) (t .enum-told5 .given .1) (n .count-of .ensures)))
+    let t = c .before in let n = t .before .before in let a = n .before .before .args in
+    follows-is (t .enum-told5 .given .1) (follows-next (a .st) (now (a .b)) _ (count-is (now (a .b)) (t .enum-told5 .given .1) (n .count-of .ensures)))
 
 returns-6 : tie.Need-returns-6
 returns-6 c =
     let t = c in let n = t .before .before in let a = n .before .before .args in
-    next-is (t .enum-told6 .given .1) (next-unknown (a .st) (now (a .b)) _ (count-is (now (a .b)) (t .enum-told6 .given .1) (n .count-of .ensures)))
+    follows-is (t .enum-told6 .given .1) (follows-end (a .st) (now (a .b)) _ (count-is (now (a .b)) (t .enum-told6 .given .1) (n .count-of .ensures)))
+
+returns-7 : tie.Need-returns-7
+returns-7 c =
+    let t = c in let n = t .before .before in let a = n .before .before .args in
+    follows-is (t .enum-told7 .given .1) (follows-unknown (a .st) (now (a .b)) _ (count-is (now (a .b)) (t .enum-told7 .given .1) (n .count-of .ensures)))
 
 pub after-record-spec : {M : Type 1} → statement M
 after-record-spec =
     tie.close
-    (tie.spec count-of-requires enum-told after-letters-requires enum-told-2 enum-told-3 add-t6 enum-told-4 add-t7 enum-told-5 enum-told-6
-    returns returns-2 returns-3 returns-4 returns-5 returns-6)
+    (tie.spec count-of-requires enum-told after-letters-requires enum-told-2 enum-told-3 add-t6 enum-told-4 add-t7 enum-told-5 add-t8 enum-told-6 enum-told-7
+    returns returns-2 returns-3 returns-4 returns-5 returns-6 returns-7)

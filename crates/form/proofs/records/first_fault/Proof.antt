@@ -48,7 +48,7 @@ on : (c : tie.After-after-record Inv-loop μ-loop) → found c .next ≡ here c 
 on c = let j = sound c .before in record-next (now (begin (here c) .args .s)) _ (inside j .loop-test .taken) _ (read j .record-at .ensures)
 
 loop-holds : tie.Need-loop-holds Inv-loop μ-loop
-loop-holds c = (zero-le, (refl, (zero-le, (zero-le, zero-le))))
+loop-holds c = (zero-le, (refl, (zero-le, (zero-le, (zero-le, zero-le)))))
 
 record-at-requires : tie.Need-record-at-requires Inv-loop μ-loop
 record-at-requires c κs = search needs
@@ -95,7 +95,7 @@ loop-again c =
       (
         run-more _ _ (l .loop .st) (inside j .loop-test .taken) _ (read j .record-at .ensures) _ (j .fault-of .ensures) (o .if1 .left) (sym (e .is-end .ensures) ∙ c .before .if2 .left) _ (grown .is)
             ∙ l .loop .inv .1 .0,
-        omega (arith, grown .variants-grow, grown .parts-grow, grown .letters-grow, on c, l .loop .inv .1 .1),
+        omega (arith, grown .variants-grow, grown .parts-grow, grown .breaks-grow, grown .letters-grow, on c, l .loop .inv .1 .1),
       ),
     )
 

@@ -25,6 +25,9 @@ enum-told-5 c = search needs
 enum-told-6 : tie.Need-enum-told-6
 enum-told-6 c = search needs
 
+enum-told-7 : tie.Need-enum-told-7
+enum-told-7 c = search needs
+
 returns : tie.Need-returns
 unfolding inPlace
 returns c = let t = c .before in let st = t .before .before .args .st in ap (λ (k : Kind). inPlace st k) (sym (t .enum-told .given .1))
@@ -63,10 +66,18 @@ returns-9 c = let t = c .before .before in let st = t .before .before .args .st 
 
 returns-10 : tie.Need-returns-10
 unfolding inPlace
-returns-10 c = let st = c .before .before .args .st in ap (λ (k : Kind). inPlace st k) (sym (c .enum-told6 .given .1))
+returns-10 c = let i = c .before in let t = i .before .before in let st = t .before .before .args .st in none-owed _ (i .if5 .taken) ∙ ap (λ (k : Kind). inPlace st k) (sym (t .enum-told6 .given .1))
+
+returns-11 : tie.Need-returns-11
+unfolding inPlace
+returns-11 c = let t = c .before .before in let st = t .before .before .args .st in some-owed _ _ (c .if5 .left) ∙ ap (λ (k : Kind). inPlace st k) (sym (t .enum-told6 .given .1))
+
+returns-12 : tie.Need-returns-12
+unfolding inPlace
+returns-12 c = let st = c .before .before .args .st in ap (λ (k : Kind). inPlace st k) (sym (c .enum-told7 .given .1))
 
 pub in-place-spec : {M : Type 1} → statement M
 in-place-spec =
     tie.close
-    (tie.spec enum-told enum-told-2 enum-told-3 enum-told-4 enum-told-5 enum-told-6
-    returns returns-2 returns-3 returns-4 returns-5 returns-6 returns-7 returns-8 returns-9 returns-10)
+    (tie.spec enum-told enum-told-2 enum-told-3 enum-told-4 enum-told-5 enum-told-6 enum-told-7
+    returns returns-2 returns-3 returns-4 returns-5 returns-6 returns-7 returns-8 returns-9 returns-10 returns-11 returns-12)

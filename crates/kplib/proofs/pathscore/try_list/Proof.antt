@@ -1,10 +1,10 @@
--- A list that may not win leaves the best; another is summed and scored. Assumes nothing.
+-- A list that may not win leaves the best; another is judged. Assumes nothing.
 use mathlib.Core.Path.{sym}
 use native.Mathlib.Omega.{arith}
 use lib.Seq.{length-take-le}
 use borrow.Author.Needs.{needs}
-use borrow.Author.Tests.{not-true}
-use Rattle.kplib.proofs.AttemptLaws.{may-ok, attempt-lost, front-length, ready-ok, fronted-length, list-ok, paired, attempt-scored}
+use borrow.Author.Tests.{not-true, not-false}
+use Rattle.kplib.proofs.AttemptLaws.{may-ok, attempt-lost, ready-ok, judgeable, attempt-scored}
 use Rattle.kplib.proofs.pathscore.try_list.Statement.{statement}
 use Rattle.kplib.proofs.pathscore.try_list.Tie as tie
 
@@ -15,26 +15,17 @@ begin c = c .before .before .before .before .before
 abbrev begun : tie.After-may-win → tie.Start
 begun c = begin (c .before)
 
-abbrev placed : tie.After-slice-known2 → tie.After-positions
-placed c = c .before .before
-
 abbrev asked : tie.After-positions → tie.After-may-win
 asked c = c .before .before .before
 
-abbrev chained : tie.After-sum-features-arg → tie.After-ready
+abbrev placed : tie.After-ready → tie.After-positions
+placed c = c .before .before .before .before
+
+abbrev chained : tie.After-terms-of → tie.After-ready
 chained c = c .before .before
 
-abbrev listed : tie.After-ready → tie.After-positions
-listed c = placed (c .before .before)
-
 abbrev given : tie.After-ready → tie.Start
-given c = begun (asked (listed c))
-
-abbrev summed : tie.After-score-rows-arg → tie.After-sum-features
-summed c = c .before .before
-
-abbrev both : tie.After-sum-features → tie.After-ready
-both c = chained (c .before .before)
+given c = begun (asked (placed c))
 
 cast-n : tie.Need-cast-n
 cast-n c = search needs
@@ -48,52 +39,36 @@ may-win-requires c κs = may-ok (begin c .pre)
 returns : tie.Need-returns
 returns c =
     let s = begun (c .before) in
-    attempt-lost (s .pre) (s .args .best) (c .before .may-win .ensures) (not-true (c .before .may-win .result) (c .if1 .taken)) (s .pre .ready)
+    attempt-lost (s .pre) (s .args .floor) (s .args .best) (c .before .may-win .ensures) (not-true (c .before .may-win .result) (c .if1 .taken)) (s .pre .ready)
 
 positions-requires : tie.Need-positions-requires
 positions-requires c κs =
     let s = begun (c .before .before) in
     (s .pre .listed .most, s .pre .planned .few, omega (arith, s .pre .planned .few, s .pre .room))
 
-slice-relend-prefix-ready : tie.Need-slice-relend-prefix-ready
-slice-relend-prefix-ready c = omega (arith, begun (asked (placed c)) .pre .scratch-is)
-
-slice-aggregate-ready : tie.Need-slice-aggregate-ready
-slice-aggregate-ready c = sym (front-length (begun (asked (placed (c .before))) .pre))
-
 ready-requires : tie.Need-ready-requires
-ready-requires c κs = ready-ok (begun (asked (placed (c .before))) .pre)
+ready-requires c κs = ready-ok (begun (asked (c .before .before .before)) .pre)
 
-slice-reshare-prefix-sum-features : tie.Need-slice-reshare-prefix-sum-features
-slice-reshare-prefix-sum-features c = search needs
+terms-of-requires : tie.Need-terms-of-requires
+terms-of-requires c κs = may-ok (given (c .before) .pre)
 
-slice-aggregate-sum-features : tie.Need-slice-aggregate-sum-features
-slice-aggregate-sum-features c =
-    let p = listed (chained c) .positions in let s = given (chained c) in
+slice-reshare-prefix-judge : tie.Need-slice-reshare-prefix-judge
+slice-reshare-prefix-judge c =
+    let r = chained c in let p = placed r .positions in let s = given r in
+    omega (arith, p .ensures .0, p .kept .1 .1 .0, s .pre .room, s .pre .planned .few)
+
+slice-aggregate-judge : tie.Need-slice-aggregate-judge
+slice-aggregate-judge c =
+    let r = chained (c .before) in let p = placed r .positions in let s = given r in
     sym (length-take-le (p .result) _ (omega (arith, p .ensures .0, p .kept .1 .1 .0, s .pre .room, s .pre .planned .few)))
 
-mul-sum-features : tie.Need-mul-sum-features
-mul-sum-features c = omega (arith, given (chained c) .pre .part-rows .short)
-
-sub-sum-features : tie.Need-sub-sum-features
-sub-sum-features c = let r = chained c in omega (arith, fronted-length (given r .pre) (r .ready .ensures))
-
-part-sum-features-start : tie.Need-part-sum-features-start
-part-sum-features-start c = let r = chained c in omega (arith, fronted-length (given r .pre) (r .ready .ensures))
-
-part-sum-features-end : tie.Need-part-sum-features-end
-part-sum-features-end c = search needs
-
-sum-features-requires : tie.Need-sum-features-requires
-sum-features-requires c κs = let r = chained (c .before) in list-ok (given r .pre) (r .ready .ensures) (listed r .positions .ensures .1)
-
-score-rows-requires : tie.Need-score-rows-requires
-score-rows-requires c κs =
-    let l = summed c in let r = both l in
-    paired (given r .pre) (r .ready .ensures) (listed r .positions .ensures .1) (l .sum-features .ensures)
+judge-requires : tie.Need-judge-requires
+judge-requires c κs =
+    let t = c .before .before in let r = chained t in let s = given r in
+    judgeable (s .pre) (s .args .best .scored) (r .ready .ensures) (placed r .positions .ensures .1) (t .terms-of .ensures)
 
 greater-of-requires : tie.Need-greater-of-requires
-greater-of-requires c κs = omega (arith, given (both (summed (c .before))) .pre .planned .few)
+greater-of-requires c κs = omega (arith, given (chained (c .before .before .before)) .pre .planned .few)
 
 same-length : tie.Need-same-length
 same-length c = search needs
@@ -103,12 +78,12 @@ same-length-2 c = search needs
 
 returns-2 : tie.Need-returns-2
 returns-2 c =
-    let l = summed (c .before .before) in let r = both l in let s = given r in
-    attempt-scored (s .pre) (r .ready .ensures) (listed r .positions .ensures .1) (l .sum-features .ensures) (s .args .best .scored) (c .before .score-rows .ensures) (c .greater-of .ensures)
+    let t = c .before .before .before .before in let r = chained t in let s = given r in let e = placed r .before .before in let w = e .before in
+    attempt-scored (s .pre) (s .args .best .scored) (r .ready .ensures) (placed r .positions .ensures .1) (t .terms-of .ensures)
+    (w .may-win .ensures) (not-false (w .may-win .result) (e .if1 .left)) (c .before .judge .ensures) (c .greater-of .ensures)
 
 pub try-list-spec : {M : Type 1} → statement M
 try-list-spec =
     tie.close
-    (tie.spec cast-n sub-partial may-win-requires returns positions-requires slice-relend-prefix-ready slice-aggregate-ready ready-requires
-    slice-reshare-prefix-sum-features slice-aggregate-sum-features mul-sum-features sub-sum-features part-sum-features-start part-sum-features-end sum-features-requires
-    score-rows-requires greater-of-requires same-length same-length-2 returns-2)
+    (tie.spec cast-n sub-partial may-win-requires returns positions-requires ready-requires terms-of-requires slice-reshare-prefix-judge slice-aggregate-judge
+    judge-requires greater-of-requires same-length same-length-2 returns-2)

@@ -11,7 +11,7 @@ use Rattle.metrics.proofs.Ints.{read-back}
 use Rattle.kplib.specs.Search.{haplotypeSize}
 use Rattle.kplib.specs.declared.plan.Plan.{Plan}
 use Rattle.kplib.proofs.StepLaws.{going-first}
-use Rattle.kplib.proofs.SearchedLaws.{haplotype-small, plan-is, two-rows, searchable-first, searched-as}
+use Rattle.kplib.proofs.SearchedLaws.{haplotype-small, plan-is, searchable-first, searched-as}
 use borrow.Author.Needs.{needs}
 use Rattle.kplib.proofs.steps.search.Statement.{statement}
 use Rattle.kplib.proofs.steps.search.Tie as tie
@@ -88,9 +88,6 @@ array-share-prefix-list-sizes c = laid (whole (c .before)) .lay-lists .ensures .
 slice-aggregate-run-2 : tie.Need-slice-aggregate-run-2
 slice-aggregate-run-2 c = sym (length-take-le _ _ (laid (whole (c .before .before)) .lay-lists .ensures .beside))
 
-mul-scratch : tie.Need-mul-scratch
-mul-scratch c = record { fits = omega (arith, width-few (keyed c .before .before)) }
-
 array-borrow-prefix-scratch : tie.Need-array-borrow-prefix-scratch
 array-borrow-prefix-scratch c = omega (arith, width-few (keyed c .before .before))
 
@@ -105,7 +102,7 @@ run-requires c κs =
     let k = keyed (c .before .before) in
     let z = k .before .before in
     let b = start z in (
-      searchable-first (b .pre) (planned z) (laid z .lay-lists .ensures) _ refl (simp length-set refl) (two-rows _ _ (omega (arith, width-few z))),
+      searchable-first (b .pre) (planned z) (laid z .lay-lists .ensures) _ refl (simp length-set refl) (length-take-le _ _ (omega (arith, width-few z))),
       going-first _ _ (now (b .args .keys)) (omega (arith, b .pre .key-room)) (k .key .ensures) (c .not-begun .ensures),
     )
 
@@ -137,7 +134,6 @@ search-spec =
     slice-aggregate-run
     array-share-prefix-list-sizes
     slice-aggregate-run-2
-    mul-scratch
     array-borrow-prefix-scratch
     slice-aggregate-run-3
     not-begun-requires

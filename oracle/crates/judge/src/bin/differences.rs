@@ -21,15 +21,13 @@ fn main() {
         ("anything else", |j| !j.distance_tie && j.by != By::Squish && !j.overlap),
     ];
     for (words, of_class) in classes {
-        let shows = |bytes: &[u8]| {
-            let judged = program::judged(bytes);
-            judged.unchanged_differs.is_some() && of_class(&judged)
-        };
+        let one_of_class = |bytes: &[u8]| program::judged(bytes).into_iter().find(|judged| judged.unchanged_differs.is_some() && of_class(judged));
+        let shows = |bytes: &[u8]| one_of_class(bytes).is_some();
         let found: Vec<&Vec<u8>> = inputs.iter().filter(|bytes| shows(bytes)).collect();
         println!("{words}: {} of {} inputs", found.len(), inputs.len());
         let small = found.into_iter().take(40).map(|bytes| shrink::bytes(bytes.clone(), shows)).min_by_key(Vec::len);
         if let Some(small) = small {
-            let judged = program::judged(&small);
+            let judged = one_of_class(&small).expect("it still shows");
             println!("    {}", describe::bytes(&small));
             println!("    the documents  {}", lines(&judged.answer));
             println!("    unchanged Rust {}", lines(&judged.unchanged_differs.unwrap()));

@@ -3,12 +3,13 @@
 //! input can show it. A rule that no mistake misreads is a failure too.
 use judge::answer::Answer;
 use judge::call::Call;
-use judge::document::{call_answer, features, program_text, record_buffer};
-use judge::generate::{input, small_call};
+use judge::document::{call_answer, features, program_text, record_buffer, several_answers};
+use judge::generate::{input, several_call, several_input, small_call, PROGRAM};
 use judge::met::Met;
 use judge::mistakes::{Mistake, MISTAKES};
 use judge::random::Random;
 use judge::rules::{Rules, DOCUMENT};
+use judge::several::{self, Several};
 use judge::{describe, exhaust, program, rust, shrink};
 use std::process::ExitCode;
 
@@ -26,6 +27,16 @@ fn must_be(call: &Call) -> Seen {
     let answer = rust::judged(call).answer;
     let second = record_buffer(&DOCUMENT, call, &answer);
     (answer, second)
+}
+
+/// What is seen of a call for several haplotypes: the answer of which a mistake is made, and the buffers.
+fn seen_of_several(rules: &Rules, several: &Several) -> several::Seen {
+    several.seen(rules, &several_answers(rules, several, &mut Met::default()))
+}
+
+fn several_must_be(several: &Several) -> several::Seen {
+    let answers: Vec<Answer> = rust::judged_several(several).into_iter().map(|judged| judged.answer).collect();
+    several.seen(&DOCUMENT, &answers)
 }
 
 /// The first short sequence that a mistaken counter counts otherwise than the Rust, and the first sizes likewise.
@@ -57,16 +68,20 @@ fn smaller_calls(rules: &Rules) -> Option<String> {
 struct Asked {
     inputs: Vec<(String, Vec<u8>)>,
     calls: Vec<(Seen, Call)>,
+    several: Vec<(several::Seen, Several)>,
 }
 
 impl Asked {
     fn new(count: u64) -> Asked {
         let mut inputs: Vec<Vec<u8>> = exhaust::jobs().step_by(97).map(|job| job.bytes()).collect();
         inputs.extend((0..count).map(|i| input(&mut Random::new(i))));
+        inputs.extend((0..count / 5).map(|i| several_input(&mut Random::new(i))));
         let calls = (0..count / 2).map(|i| small_call(&mut Random::new(i)));
+        let several = (0..count / 5).map(|i| several_call(&mut Random::new(i), PROGRAM, 20_000));
         Asked {
-            inputs: inputs.into_iter().map(|bytes| (program::answer(&bytes).text(), bytes)).collect(),
+            inputs: inputs.into_iter().map(|bytes| (program::text(&bytes), bytes)).collect(),
             calls: calls.map(|call| (must_be(&call), call)).collect(),
+            several: several.map(|several| (several_must_be(&several), several)).collect(),
         }
     }
 
@@ -81,6 +96,12 @@ impl Asked {
         let differs = |&at: &usize| seen(rules, &self.calls[at].1) != self.calls[at].0;
         (0..self.calls.len()).filter(differs).collect()
     }
+
+    /// Those of the calls for several haplotypes.
+    fn by_several(&self, rules: &Rules) -> Vec<usize> {
+        let differs = |&at: &usize| seen_of_several(rules, &self.several[at].1) != self.several[at].0;
+        (0..self.several.len()).filter(differs).collect()
+    }
 }
 
 /// A text in one line.
@@ -89,11 +110,11 @@ fn lines(text: &str) -> String {
 }
 
 fn tell_input(rules: &Rules, asked: &Asked, found: &[usize]) {
-    let shows = |bytes: &[u8]| program_text(rules, bytes) != program::answer(bytes).text();
+    let shows = |bytes: &[u8]| program_text(rules, bytes) != program::text(bytes);
     let shrunk = found.iter().take(5).map(|&at| shrink::bytes(asked.inputs[at].1.clone(), shows));
     let small = shrunk.min_by_key(|bytes| bytes.len()).expect("some input shows it");
     println!("    {}", describe::bytes(&small));
-    println!("    must be  {}", lines(&program::answer(&small).text()));
+    println!("    must be  {}", lines(&program::text(&small)));
     println!("    would be {}", lines(&program_text(rules, &small)));
 }
 
@@ -105,6 +126,15 @@ fn tell_call(rules: &Rules, asked: &Asked, found: &[usize]) {
     println!("    {}", describe::call(&small));
     println!("    must be  {}", words(must_be(&small)));
     println!("    would be {}", words(seen(rules, &small)));
+}
+
+fn tell_several(rules: &Rules, asked: &Asked, found: &[usize]) {
+    let shows = |several: &Several| seen_of_several(rules, several) != several_must_be(several);
+    let shrunk = found.iter().take(5).map(|&at| shrink::several(asked.several[at].1.clone(), shows));
+    let small = shrunk.min_by_key(|several| describe::several(several).len()).expect("some call shows it");
+    println!("    {}", describe::several(&small));
+    println!("    must be  {:?}", several_must_be(&small));
+    println!("    would be {:?}", seen_of_several(rules, &small));
 }
 
 /// Whether it is caught, and by what.
@@ -121,6 +151,12 @@ fn is_caught(words: &str, rules: &Rules, asked: &Asked) -> bool {
         tell_call(rules, asked, &found);
         return true;
     }
+    let found = asked.by_several(rules);
+    if let Some(first) = found.first() {
+        println!("caught {words}: first at library call for several {}, {} of {}", first + 1, found.len(), asked.several.len());
+        tell_several(rules, asked, &found);
+        return true;
+    }
     let shown = smaller_calls(rules);
     match &shown {
         Some(shown) => println!("caught {words}: by a smaller call; no answer can show it\n    {shown}"),
@@ -134,11 +170,17 @@ fn main() -> ExitCode {
     let asked = Asked::new(count);
     let input = asked.by_inputs(&DOCUMENT).first().map(|&at| describe::bytes(&asked.inputs[at].1));
     let call = asked.by_calls(&DOCUMENT).first().map(|&at| describe::call(&asked.calls[at].1));
-    if let Some(words) = input.or(call) {
+    let several = asked.by_several(&DOCUMENT).first().map(|&at| describe::several(&asked.several[at].1));
+    if let Some(words) = input.or(call).or(several) {
         println!("with nothing planted: {words}");
         return ExitCode::FAILURE;
     }
-    println!("nothing planted: {} inputs and {} library calls, no difference", asked.inputs.len(), asked.calls.len());
+    println!(
+        "nothing planted: {} inputs, {} library calls and {} for several haplotypes, no difference",
+        asked.inputs.len(),
+        asked.calls.len(),
+        asked.several.len()
+    );
     let unplanted: Vec<&str> = Rules::NAMES.iter().copied().filter(|&rule| MISTAKES.iter().all(|mistake| mistake.rule != rule)).collect();
     if !unplanted.is_empty() {
         println!("no mistake misreads {}", unplanted.join(", "));

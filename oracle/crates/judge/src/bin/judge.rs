@@ -9,6 +9,6 @@ fn main() -> io::Result<()> {
             io::stdin().read_to_end(&mut bytes)?;
         }
     }
-    print!("{}", judge::program::answer(&bytes).text());
+    print!("{}", judge::program::text(&bytes));
     Ok(())
 }

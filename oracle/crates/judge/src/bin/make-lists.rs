@@ -3,10 +3,10 @@
 //!
 //! From many generated jobs it takes the shortest that show each kind, and the shortest that catch each planted
 //! mistake, so that the lists are small and every branch stands in them.
-use judge::answer::{Answer, Target};
+use judge::answer::{self, Answer, Target};
 use judge::call::Call;
-use judge::document::{call_answer, call_of, program_answer, program_text};
-use judge::generate::{cost, disturb_job, input, LIBRARY};
+use judge::document::{call_answer, call_of, program_answers, program_text};
+use judge::generate::{cost, disturb_job, input, several_input, LIBRARY};
 use judge::job::{self, record_length, Job, Part, Settings, Variant};
 use judge::kinds::{self, Counts};
 use judge::met::Met;
@@ -20,7 +20,6 @@ use std::{fs, io};
 
 /// How many jobs show each kind and catch each mistake.
 const OF_EACH: usize = 8;
-const PROGRAM_JOBS: usize = 480;
 const QUEUE_MOST: usize = 262_145;
 
 fn plain() -> Settings {
@@ -54,7 +53,7 @@ fn example() -> Job {
     Job {
         settings: plain(),
         variants: vec![variant(10, 10, 2, b"AG"), variant(20, 20, 2, b"CT")],
-        parts: vec![part(2, b"AG")],
+        haplotypes: vec![vec![part(2, b"AG")]],
     }
 }
 
@@ -68,7 +67,7 @@ fn of_length(length: usize) -> Vec<u8> {
     let mut job = example();
     job.variants = (0..v as u64).map(|i| variant(i, i, 1, b"")).collect();
     job.variants[0].letters = letters;
-    job.parts = vec![part(1, b""); m];
+    job.haplotypes = vec![vec![part(1, b""); m]];
     job.bytes()
 }
 
@@ -105,7 +104,7 @@ fn at_limits() -> Vec<Vec<u8>> {
     }
     for size in [131_072, 131_073, -131_072, -131_073, i32::MAX, i32::MIN] {
         with(&|j| j.variants[1].size = size);
-        with(&|j| j.parts[0].size = size);
+        with(&|j| j.haplotypes[0][0].size = size);
     }
     for (start, end) in [(0, u64::MAX), (u64::MAX, u64::MAX), (9, 10), (10, 9), (u64::MAX, 0), (9, 9)] {
         with(&|j| (j.variants[1].start, j.variants[1].end) = (start, end));
@@ -114,15 +113,71 @@ fn at_limits() -> Vec<Vec<u8>> {
         with(&|j| j.variants = (0..count).map(|i| variant(i, i, 2, b"AG")).collect());
     }
     for count in [0, 8, 9, 65] {
-        with(&|j| j.parts = vec![part(1, b"AG"); count]);
+        with(&|j| j.haplotypes = vec![vec![part(1, b"AG"); count]]);
     }
     // 0-10, 5-5, 6-8: N 5; 0 1 2 is no chain, 1 2 is
     with(&|j| {
         j.variants = vec![variant(0, 10, 1, b"AG"), variant(5, 5, 1, b"CT"), variant(6, 8, 1, b"GG")];
-        j.parts = vec![part(3, b"AGCTGG")];
+        j.haplotypes = vec![vec![part(3, b"AGCTGG")]];
         (j.settings.sizesim, j.settings.seqsim) = (0.0, 0.0);
     });
     all
+}
+
+/// The same for several haplotypes (document 02, P1).
+fn several_at_limits() -> Vec<Vec<u8>> {
+    let (one, two) = (vec![part(2, b"AG")], vec![part(2, b"AG"), part(2, b"CT")]);
+    let mut all = vec![];
+    let mut with = |haplotypes: Vec<Vec<Part>>, change: &dyn Fn(&mut Job)| {
+        let mut job = Job { haplotypes, ..example() };
+        change(&mut job);
+        all.push(job.bytes());
+    };
+    for count in [2, 3, 15, 16, 17, 18] {
+        with(vec![one.clone(); count], &|_| ());
+        with(vec![vec![]; count], &|_| ());
+    }
+    with(vec![vec![], one.clone(), vec![], two.clone()], &|_| ());
+    with(vec![two.clone(), one.clone(), vec![part(2, b"CT")], vec![part(4, b"AGCT")]], &|j| j.settings.one_to_one = true);
+    for (first, second) in [(8, 8), (4, 5), (9, 1), (1, 9)] {
+        with(vec![vec![part(1, b"AG"); first], vec![part(1, b"AG"); second]], &|_| ());
+    }
+    for size in [131_072, 131_073, -131_073, i32::MIN] {
+        with(vec![one.clone(), vec![part(size, b"AG")], two.clone()], &|_| ());
+        with(vec![vec![part(size, b"AG")], vec![part(size, b"AG")]], &|_| ());
+        with(vec![one.clone(), vec![part(131_073, b"AG")]], &|j| j.variants[0].size = size);
+    }
+    let over = vec![one, vec![part(131_073, b"AG")]];
+    with(over.clone(), &|j| j.settings.k = 0);
+    with(over.clone(), &|j| j.settings.gpenalty = f32::NAN);
+    with(over.clone(), &|j| j.settings.pileupmax = 13);
+    with(over.clone(), &|j| j.variants.clear());
+    with(over.clone(), &|j| j.variants[0].start = 11);
+    with(over.clone(), &|j| j.variants[1].start = 9);
+    with(over, &|j| j.settings.maxpaths = 64);
+    all
+}
+
+/// 0x05 where it may stand and where not.
+fn next_in_place() -> Vec<Vec<u8>> {
+    // the example's records: settings to byte 41, two variants with their letters to 127, a part to 137
+    let record = |from: usize, until: usize| example().bytes()[from..until].to_vec();
+    let (settings, table, unlettered, end) = (&record(0, 41), &record(41, 127), &record(127, 137), &vec![0]);
+    let (one, fifteen, sixteen) = (&vec![0x05], &vec![0x05; 15], &vec![0x05; 16]);
+    let orders: [&[&Vec<u8>]; 11] = [
+        &[one, settings, table, end],
+        &[settings, one, end],
+        &[settings, one, table, end],
+        &[settings, table, one, table, end],
+        &[settings, table, unlettered, one, end],
+        &[settings, table, fifteen, unlettered, one, end],
+        &[settings, table, fifteen, table, one, end],
+        &[settings, table, sixteen, table, end],
+        &[settings, table, fifteen],
+        &[settings, table, sixteen],
+        &[settings, table, one, end, one],
+    ];
+    orders.into_iter().map(|records| records.iter().flat_map(|record| record.iter().copied()).collect()).collect()
 }
 
 fn catches(differs: impl Fn(&Rules) -> bool) -> impl Iterator<Item = String> {
@@ -133,10 +188,11 @@ fn catches(differs: impl Fn(&Rules) -> bool) -> impl Iterator<Item = String> {
 fn shown(bytes: &[u8]) -> BTreeSet<String> {
     let judged = program::judged(bytes);
     let mut met = Met::default();
-    assert_eq!(program_answer(&DOCUMENT, bytes, &mut met), judged.answer);
+    let answers: Vec<Answer> = judged.iter().map(|one| one.answer.clone()).collect();
+    assert_eq!(program_answers(&DOCUMENT, bytes, &mut met), answers);
     let mut counts = Counts::new();
     kinds::of_input(&mut counts, job::read(&DOCUMENT, bytes).as_ref().ok(), &judged, &met);
-    let text = judged.answer.text();
+    let text = answer::text(&DOCUMENT, &answers);
     let caught = catches(|rules| program_text(rules, bytes) != text);
     counts.into_keys().chain(caught).collect()
 }
@@ -156,29 +212,33 @@ fn cover<T>(candidates: Vec<(T, BTreeSet<String>)>, have: &mut BTreeMap<String, 
     taken
 }
 
+/// These inputs are taken whatever they show.
+fn take_all(inputs: &[Vec<u8>], have: &mut BTreeMap<String, usize>) {
+    for kind in inputs.iter().flat_map(|bytes| shown(bytes)) {
+        *have.entry(kind).or_default() += 1;
+    }
+}
+
+/// The shortest first, with what each shows.
+fn with_kinds(mut inputs: Vec<Vec<u8>>) -> Vec<(Vec<u8>, BTreeSet<String>)> {
+    inputs.sort_by_key(|bytes| bytes.len());
+    inputs.into_iter().map(|bytes| (bytes.clone(), shown(&bytes))).collect()
+}
+
+/// Jobs of one haplotype, and behind them those of several.
 fn program_list() -> Vec<Vec<u8>> {
     let mut have = BTreeMap::new();
     let mut list: Vec<Vec<u8>> = at_limits();
-    for bytes in &list {
-        for kind in shown(bytes) {
-            *have.entry(kind).or_default() += 1;
-        }
-    }
+    take_all(&list, &mut have);
     let mut inputs: Vec<Vec<u8>> = exhaust::jobs().step_by(61).map(|job| job.bytes()).collect();
     inputs.extend((0..12_000).map(|i| input(&mut Random::new(0x5eed_0000 + i))));
     inputs.retain(|bytes| bytes.len() < 1_500);
-    inputs.sort_by_key(|bytes| bytes.len());
-    let spare: Vec<Vec<u8>> = inputs.iter().step_by(83).cloned().collect();
-    let candidates = inputs.into_iter().map(|bytes| {
-        let kinds = shown(&bytes);
-        (bytes, kinds)
-    });
-    list.extend(cover(candidates.collect(), &mut have));
-    for bytes in spare {
-        if list.len() < PROGRAM_JOBS && !list.contains(&bytes) {
-            list.push(bytes);
-        }
-    }
+    list.extend(cover(with_kinds(inputs), &mut have));
+    let at_limits = [several_at_limits(), next_in_place()].concat();
+    take_all(&at_limits, &mut have);
+    list.extend(at_limits);
+    let several = (0..6_000).map(|i| several_input(&mut Random::new(0x5eed_2222 + i)));
+    list.extend(cover(with_kinds(several.filter(|bytes| bytes.len() < 1_000).collect()), &mut have));
     for (kind, count) in have {
         println!("{count:>6}  {kind}");
     }
@@ -229,7 +289,7 @@ impl Stored {
 
     fn record(&self) -> Vec<u8> {
         let (job, call) = (&self.job, &self.call);
-        let bare = Job { settings: job.settings.clone(), variants: vec![], parts: vec![] };
+        let bare = Job { settings: job.settings.clone(), variants: vec![], haplotypes: vec![vec![]] };
         let mut bytes = bare.bytes();
         let word = |bytes: &mut Vec<u8>, x: u32| bytes.extend_from_slice(&x.to_le_bytes());
         let lengths = [
@@ -255,7 +315,7 @@ impl Stored {
             }
         };
         sequences(job.variants.iter().map(|v| (v.negative, v.letters.as_slice())).collect());
-        sequences(job.parts.iter().map(|p| (p.negative, p.letters.as_slice())).collect());
+        sequences(job.haplotypes[0].iter().map(|p| (p.negative, p.letters.as_slice())).collect());
         word(&mut bytes, self.changes.len() as u32);
         for &(table, place, value) in &self.changes {
             [table, place, value as u32].iter().for_each(|&x| word(&mut bytes, x));
@@ -362,7 +422,7 @@ fn refused_ones() -> Vec<Stored> {
         job.variants = (0..count).map(|i| variant(i, i, 2, b"AG")).collect();
         all.push(Stored::of(job.clone()));
         job.variants.truncate(2);
-        job.parts = vec![part(1, b"AG"); count as usize];
+        job.haplotypes = vec![vec![part(1, b"AG"); count as usize]];
         all.push(Stored::of(job));
     }
     for stored in &mut all {
@@ -420,7 +480,7 @@ fn main() -> io::Result<()> {
         jobs.extend_from_slice(&(bytes.len() as u32).to_le_bytes());
         jobs.extend_from_slice(bytes);
     }
-    let texts: String = list.iter().map(|bytes| program::answer(bytes).text()).collect();
+    let texts: String = list.iter().map(|bytes| program::text(bytes)).collect();
     println!("replay: {} jobs", list.len());
     write("replay", jobs, texts)?;
     let list = library_list();

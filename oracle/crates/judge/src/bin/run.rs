@@ -1,15 +1,17 @@
 //! The differential run: generated jobs put to the program and to the linked library, and every answer compared with
 //! the judge's. `run [--short] [--no-program] [--no-library] [--seed N] [--inputs N] [--calls N] [--every N]`; `--every`
 //! takes each N-th of the jobs that are made exhaustively
-use judge::answer::Answer;
+use judge::answer::{self, Answer};
 use judge::call::Call;
-use judge::document::{call_answer, program_answer, record_buffer};
+use judge::document::{call_answer, program_answers, record_buffer, several_answers};
 use judge::generate;
 use judge::job;
 use judge::kinds::{self, Counts};
 use judge::met::Met;
 use judge::random::Random;
 use judge::rules::DOCUMENT;
+use judge::rust::Judged;
+use judge::several::Several;
 use judge::{describe, exhaust, library, program, rust, shrink};
 use std::io::{self, Read, Write};
 use std::process::{Command, ExitCode, Stdio};
@@ -94,7 +96,7 @@ fn printed(program: &str, bytes: &[u8]) -> io::Result<String> {
 fn compare_input(tally: &mut Tally, bytes: Vec<u8>, o: &Options) {
     let judged = program::judged(&bytes);
     let mut met = Met::default();
-    let second = program_answer(&DOCUMENT, &bytes, &mut met);
+    let second = program_answers(&DOCUMENT, &bytes, &mut met);
     let job = job::read(&DOCUMENT, &bytes).ok();
     kinds::of_input(&mut tally.counts, job.as_ref(), &judged, &met);
     if let Some(job) = job {
@@ -102,17 +104,17 @@ fn compare_input(tally: &mut Tally, bytes: Vec<u8>, o: &Options) {
             tally.differ(|| format!("the writer makes other bytes of {}", describe::job(&job)));
         }
     }
-    if second != judged.answer {
+    if second != answers(&judged) {
         tally.differ(|| format!("the second reading says {second:?} of {}", describe::bytes(&bytes)));
     }
     if let Some(program) = &o.program {
         tally.compared += 1;
         let text = printed(program, &bytes).expect("the program runs");
-        if text != judged.answer.text() {
+        if text != answer::text(&DOCUMENT, &answers(&judged)) {
             tally.differ(|| {
-                let differs = |one: &[u8]| printed(program, one).is_ok_and(|said| said != program::answer(one).text());
+                let differs = |one: &[u8]| printed(program, one).is_ok_and(|said| said != program::text(one));
                 let small = shrink::bytes(bytes, differs);
-                let (must, says) = (program::answer(&small).text(), printed(program, &small).unwrap_or_default());
+                let (must, says) = (program::text(&small), printed(program, &small).unwrap_or_default());
                 format!("{}\n  must print\n{must}  prints\n{says}", describe::bytes(&small))
             });
         }
@@ -134,6 +136,47 @@ fn compare_call(tally: &mut Tally, call: &Call, o: &Options) {
             tally.differ(|| format!("{words}\n  of {}", describe::call(call)));
         }
     }
+}
+
+fn answers(judged: &[Judged]) -> Vec<Answer> {
+    judged.iter().map(|one| one.answer.clone()).collect()
+}
+
+fn compare_several(tally: &mut Tally, several: &Several, o: &Options) {
+    let judged = rust::judged_several(several);
+    let must = answers(&judged);
+    let second = several_answers(&DOCUMENT, several, &mut Met::default());
+    kinds::of_several(&mut tally.counts, several, &judged);
+    if second != must {
+        tally.differ(|| format!("the second reading says {second:?} of {}", describe::several(several)));
+    }
+    if o.library {
+        tally.compared += 1;
+        if library_says_of_several(several, &must).is_err() {
+            tally.differ(|| {
+                let says = |one: &Several| library_says_of_several(one, &answers(&rust::judged_several(one)));
+                let small = shrink::several(several.clone(), |one| says(one).is_err());
+                format!("{}\n  of {}", says(&small).err().unwrap_or_default(), describe::several(&small))
+            });
+        }
+    }
+}
+
+/// The same for several haplotypes: each buffer whole, and the words around each.
+fn library_says_of_several(several: &Several, must: &[Answer]) -> Result<(), String> {
+    let said = library::several(several)?;
+    let seen = several.seen(&DOCUMENT, must);
+    if said.seen != seen {
+        return Err(format!("must be {seen:?}\n  is      {:?}", said.seen));
+    }
+    if !said.guards_unchanged {
+        return Err("a word beside a lent buffer changed".to_string());
+    }
+    let searched = several.call.searches(&DOCUMENT) && must.iter().any(|answer| answer.refusal == 0);
+    if !searched && !said.queue_unchanged {
+        return Err("the queue changed, and no search ran".to_string());
+    }
+    Ok(())
 }
 
 /// The linked library's answer, its rows and records, and what it left alone.
@@ -202,12 +245,21 @@ fn main() -> ExitCode {
         compare_input(tally, generate::input(&mut seeded(&o, 1, i)), &o);
     });
     report("program size", o.inputs, &inputs);
+    let several_inputs = work(o.inputs / 5, |tally, i| {
+        compare_input(tally, generate::several_input(&mut seeded(&o, 4, i)), &o);
+    });
+    report("program size, several haplotypes", o.inputs / 5, &several_inputs);
     let calls = work(o.calls, |tally, i| {
         let budget = if i % 50 == 0 { 100_000_000 } else { 3_000_000 };
         let call = generate::call(&mut seeded(&o, 2, i), budget);
         compare_call(tally, &call, &o);
     });
     report("library size", o.calls, &calls);
+    let several_calls = work(o.calls, |tally, i| {
+        let (size, budget) = if i % 3 == 0 { (generate::LIBRARY, 1_000_000) } else { (generate::PROGRAM, 100_000) };
+        compare_several(tally, &generate::several_call(&mut seeded(&o, 5, i), size, budget), &o);
+    });
+    report("library, several haplotypes", o.calls, &several_calls);
     let smaller = work(if o.library { o.inputs } else { 0 }, |tally, i| {
         tally.compared += 1;
         if let Err(words) = library::smaller_call(&mut seeded(&o, 3, i), &mut tally.counts) {
@@ -215,11 +267,14 @@ fn main() -> ExitCode {
         }
     });
     report("smaller calls of the library", smaller.compared, &smaller);
-    let differences = all_short.differences + inputs.differences + calls.differences + smaller.differences;
+    let all = [&all_short, &inputs, &several_inputs, &calls, &several_calls, &smaller];
+    let differences: u64 = all.iter().map(|tally| tally.differences).sum();
     println!(
-        "compared {} program-size and {} library-size jobs, and {} smaller calls: {}",
+        "compared {} program-size and {} library-size jobs, {} and {} with several haplotypes, and {} smaller calls: {}",
         all_short.compared + inputs.compared,
         calls.compared,
+        several_inputs.compared,
+        several_calls.compared,
         smaller.compared,
         if differences == 0 { "no difference off the list".to_string() } else { format!("{differences} differences") }
     );

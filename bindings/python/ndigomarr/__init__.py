@@ -1,0 +1,26 @@
+"""Places insertions and deletions: which rows of a variant table best explain a haplotype.
+
+A module over the library whose every function is proved to meet its contract. Four things to know about an :class:`Answer`: its rows are row
+numbers of the :class:`Table` handed over, from 0; its records are those rows' record numbers; the search stops after ``maxpaths`` + 1 paths, and
+``complete`` says whether those were all; of two equally good paths the later one wins.
+
+>>> import ndigomarr
+>>> settings = ndigomarr.Settings(k=1, minkfreq=1)
+>>> table = ndigomarr.Table(settings.k)
+>>> table.insertion(10, "AG")
+>>> table.insertion(20, "CT")
+>>> haplotype = ndigomarr.Haplotype(settings.k)
+>>> haplotype.insertion("AG")
+>>> answer = ndigomarr.apply_haplotype(settings, table, haplotype)
+>>> answer.rows, answer.score, answer.scored, answer.complete
+([0], 1.0, 4, True)
+"""
+from ._library import Bed, Refused, answer, count_chains, read_bed, seq_to_kmer, seqsim, sizesim, write_bed
+from ._search import Answer, apply_haplotype, apply_haplotypes
+from ._settings import Settings
+from ._table import Haplotype, Table
+
+__all__ = [
+    "Answer", "Bed", "Haplotype", "Refused", "Settings", "Table", "answer", "apply_haplotype", "apply_haplotypes", "count_chains", "read_bed", "seq_to_kmer", "seqsim", "sizesim", "write_bed",
+]
+__version__ = "0.1.0"

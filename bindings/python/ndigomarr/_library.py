@@ -1,0 +1,149 @@
+"""The shared library, found and declared once, and its smaller calls."""
+import ctypes
+import os
+import pathlib
+from dataclasses import dataclass
+from typing import List, Union
+
+from ._exports import declare
+from ._lent import Numbers, array, letters, word
+from ._refusals import TABLE
+
+_HERE = pathlib.Path(__file__).resolve().parent
+_NAME = "libndigomarr.so"
+
+
+def _places() -> List[pathlib.Path]:
+    """Where the library may stand: beside this module, in the prefix that the module is installed in, or in the checkout that it stands in."""
+    above = list(_HERE.parents)
+    installed = [folder / _NAME for folder in above if folder.name == "lib"]
+    checkout = [folder / "target/lib" / _NAME for folder in above if (folder / "tools/library").exists()]
+    return [_HERE / _NAME, *installed, *checkout]
+
+
+def _load() -> ctypes.CDLL:
+    named = os.environ.get("NDIGOMARR_LIBRARY")
+    places = [pathlib.Path(named)] if named else _places()
+    for place in places:
+        if place.is_file():
+            library = ctypes.CDLL(str(place))
+            declare(library)
+            return library
+    looked = ", ".join(str(place) for place in places)
+    raise ImportError(f"no {_NAME} at {looked}; run make install, or set NDIGOMARR_LIBRARY to its path")
+
+
+LIBRARY = _load()
+
+
+class Refused(ValueError):
+    """A call that the rules refuse. `number` stands in the table of refusals with its `name` and its `words`."""
+
+    def __init__(self, number: int) -> None:
+        self.number = number
+        self.name, self.words = TABLE.get(number, ("OTHER", "not in the table of refusals"))
+        super().__init__(f"refused {number}: {self.words}")
+
+    def __reduce__(self):  # type: ignore[no-untyped-def]
+        return Refused, (self.number,)
+
+
+def accepted(number: int) -> None:
+    if number:
+        raise Refused(number)
+
+
+def entries(k: int) -> int:
+    """4^k, or none for a k that the counter refuses before it looks at the room."""
+    return 1 << 2 * k if 1 <= k <= 6 else 0
+
+
+def seq_to_kmer(sequence: Union[str, bytes], k: int, negative: bool = False) -> "ctypes.Array[ctypes.c_int32]":
+    """The k-mer counts of a sequence, a row of 4^k entries; negative ones for a `negative` sequence.
+
+    >>> list(seq_to_kmer("AAG", 1))
+    [2, 1, 0, 0]
+    """
+    text = letters(sequence)
+    row = (ctypes.c_int32 * entries(k))()
+    accepted(LIBRARY.nd_seq_to_kmer(text, len(text), k if 0 <= k < 256 else 255, negative, row, len(row)))
+    return row
+
+
+def seqsim(a: Numbers, b: Numbers, minkfreq: int) -> float:
+    """The similarity of two feature rows.
+
+    >>> seqsim([1, 1, 1, 1], [1, 1, 0, 0], 2)
+    1.0
+    """
+    first, second, value = array(a, ctypes.c_int32), array(b, ctypes.c_int32), ctypes.c_float()
+    accepted(LIBRARY.nd_seqsim(first, len(first), second, len(second), word(minkfreq), ctypes.byref(value)))
+    return value.value
+
+
+def sizesim(a: int, b: int) -> float:
+    """The similarity of two sizes' magnitudes.
+
+    >>> sizesim(0, 4)
+    0.25
+    """
+    sizes, value = array([a, b], ctypes.c_uint64), ctypes.c_float()
+    accepted(LIBRARY.nd_sizesim(sizes[0], sizes[1], ctypes.byref(value)))
+    return value.value
+
+
+def count_chains(starts: Numbers, ends: Numbers, full: bool = True, cap: int = 4096) -> int:
+    """How many paths a table with these bounds has, counted up to `cap`.
+
+    >>> count_chains([10, 20], [10, 20])
+    4
+    """
+    first, last, count = array(starts, ctypes.c_uint64), array(ends, ctypes.c_uint64), ctypes.c_uint32()
+    accepted(LIBRARY.nd_count_chains(first, len(first), last, len(last), full, word(cap), ctypes.byref(count)))
+    return count.value
+
+
+@dataclass(frozen=True)
+class Bed:
+    """A table of BED: one name of 1 to 32 printable bytes, and a start and an end for each row."""
+
+    name: bytes
+    starts: List[int]
+    ends: List[int]
+
+
+def read_bed(text: bytes) -> Bed:
+    """The table that a text of up to 64 lines of exactly three columns says.
+
+    >>> read_bed(b"reef7\\t10\\t20\\n")
+    Bed(name=b'reef7', starts=[10], ends=[20])
+    """
+    starts, ends = (ctypes.c_uint64 * 64)(), (ctypes.c_uint64 * 64)()
+    name, counts = (ctypes.c_uint8 * 32)(), (ctypes.c_uint32 * 2)()
+    accepted(LIBRARY.nd_read_bed(letters(text), len(text), starts, len(starts), ends, len(ends), name, counts))
+    rows, width = counts
+    return Bed(bytes(name[:width]), list(starts[:rows]), list(ends[:rows]))
+
+
+def write_bed(bed: Bed, rows: Numbers) -> bytes:
+    """The text of these rows of a table, in their order.
+
+    >>> write_bed(Bed(b"reef7", [10, 15], [20, 15]), [1])
+    b'reef7\\t15\\t15\\n'
+    """
+    starts, ends, chosen = array(bed.starts, ctypes.c_uint64), array(bed.ends, ctypes.c_uint64), array(rows, ctypes.c_uint32)
+    text, written = (ctypes.c_uint8 * (75 * len(chosen)))(), ctypes.c_uint64()
+    given = letters(bed.name), len(bed.name), starts, len(starts), ends, len(ends), chosen, len(chosen)
+    accepted(LIBRARY.nd_write_bed(*given, text, len(text), ctypes.byref(written)))
+    return bytes(text[:written.value])
+
+
+def answer(job: bytes) -> str:
+    """The program's answer to a job's bytes: its lines of text.
+
+    >>> answer(b"")
+    'refused 21\\n'
+    """
+    text = (ctypes.c_uint8 * 8192)()
+    length = LIBRARY.nd_answer(letters(job), len(job), text)
+    return bytes(text[:length]).decode("ascii")

@@ -1,0 +1,100 @@
+"""The search: a table, a haplotype and settings in, the best path out."""
+import ctypes
+import struct
+from dataclasses import asdict, dataclass
+from itertools import accumulate
+from typing import Any, List, Optional, Sequence, Union
+
+from ._lent import array, word
+from ._library import LIBRARY, Refused, accepted
+from ._settings import Settings, Words
+from ._table import Haplotype, Table
+
+
+@dataclass(frozen=True)
+class Answer:
+    """The best path found."""
+
+    rows: List[int]
+    """Row numbers of the table handed over, ascending from 0. They are not names."""
+    records: List[int]
+    """The record number of each of these rows, in the rows' order."""
+    left_out: Optional[int]
+    """How many parts the part list leaves out that matched: 0 for the whole haplotype, None where nothing was accepted."""
+    score: float
+    """The path's score; 0 where nothing was found."""
+    sizesim: float
+    """The similarity of the sizes of path and haplotype."""
+    seqsim: float
+    """The similarity of their letters."""
+    scored: int
+    """How many paths were scored."""
+    complete: bool
+    """Whether these were all paths. If not, a better one may exist."""
+
+
+def words_of(settings: Settings) -> Words:
+    """The settings as the library takes them. A k that no byte holds is refused as any other wrong one."""
+    given = asdict(settings)
+    return Words(**{name: value if isinstance(value, float) else word(int(value)) for name, value in given.items()})
+
+
+def queue_room(settings: Settings, variants: int) -> int:
+    """The entries that a search is asked to be lent; none where there is no queue, or where the call will be refused anyway."""
+    asked = settings.maxpaths <= 4095 and variants <= 64 and not settings.one_to_one
+    return 1 + (settings.maxpaths + 1) * variants if asked else 0
+
+
+def float_of(bits: int) -> float:
+    value: float = struct.unpack("<f", struct.pack("<I", bits))[0]
+    return value
+
+
+def _given(numbers: Any, kind: Any) -> Any:
+    lent = array(numbers, kind)
+    return lent, len(lent)
+
+
+def _answer(report: Any, rows: Any, records: Any) -> Answer:
+    """The answer that the seven words of a report tell, with as many rows and records as it counts."""
+    count, target, score, sizesim, seqsim, scored, complete = report
+    left_out = target - 1 if target else None
+    return Answer(list(rows[:count]), list(records[:count]), left_out, float_of(score), float_of(sizesim), float_of(seqsim), scored, complete == 1)
+
+
+def _table(table: Table) -> Any:
+    u32, u64, i32 = ctypes.c_uint32, ctypes.c_uint64, ctypes.c_int32
+    return (*_given(table.starts, u64), *_given(table.ends, u64), *_given(table.sizes, i32), *_given(table.features, i32), *_given(table.records, u32))
+
+
+def apply_haplotype(settings: Settings, table: Table, haplotype: Haplotype) -> Answer:
+    """The path of the table that best explains the haplotype. A call that the rules refuse raises :class:`Refused`."""
+    u32, u64, i32 = ctypes.c_uint32, ctypes.c_uint64, ctypes.c_int32
+    room = queue_room(settings, len(table))
+    links, keys = (u32 * room)(), (u64 * room)()
+    rows, records, report = (u32 * len(table))(), (u32 * len(table))(), (u32 * 7)()
+    accepted(LIBRARY.nd_apply_haplotype(
+        ctypes.byref(words_of(settings)), *_table(table), *_given(haplotype.sizes, i32), *_given(haplotype.features, i32),
+        links, room, keys, room, rows, len(rows), records, len(records), report))
+    return _answer(report, rows, records)
+
+
+def apply_haplotypes(settings: Settings, table: Table, haplotypes: Sequence[Haplotype]) -> List[Union[Answer, Refused]]:
+    """The answer of each of 1 to 16 haplotypes over one table, which is checked once.
+
+    A call that is refused as a whole raises :class:`Refused`, and so does every refusal with one haplotype; with several, one whose own parts
+    are refused has that refusal in its place.
+    """
+    u32, u64, i32 = ctypes.c_uint32, ctypes.c_uint64, ctypes.c_int32
+    sizes = [size for haplotype in haplotypes for size in haplotype.sizes]
+    features = [entry for haplotype in haplotypes for entry in haplotype.features]
+    part_ends = list(accumulate(len(haplotype.sizes) for haplotype in haplotypes))
+    feature_ends = list(accumulate(len(haplotype.features) for haplotype in haplotypes))
+    room, v, count = queue_room(settings, len(table)), len(table), len(haplotypes)
+    links, keys = (u32 * room)(), (u64 * room)()
+    rows, records, reports = (u32 * (v * count))(), (u32 * (v * count))(), (u32 * (8 * count))()
+    accepted(LIBRARY.nd_apply_haplotypes(
+        ctypes.byref(words_of(settings)), *_table(table), *_given(part_ends, u64), *_given(feature_ends, u64), *_given(sizes, i32), *_given(features, i32),
+        links, room, keys, room, rows, len(rows), records, len(records), reports, len(reports)))
+    own = [(reports[8 * at], _answer(reports[8 * at + 1:8 * at + 8], rows[v * at:v * at + v], records[v * at:v * at + v])) for at in range(count)]
+    return [Refused(number) if number else answer for number, answer in own]

@@ -1,0 +1,78 @@
+"""What a search is given: the variant table and the haplotype's parts, as flat rows."""
+import array as flat
+import ctypes
+from typing import Optional, Union
+
+from ._lent import Numbers, array
+from ._library import seq_to_kmer
+
+Letters = Union[str, bytes]
+
+
+
+class Haplotype:
+    """A haplotype: its parts in order."""
+
+    def __init__(self, k: int) -> None:
+        self.k = k
+        self.sizes = flat.array("i")
+        self.features = flat.array("i")
+
+    def __len__(self) -> int:
+        return len(self.sizes)
+
+    def insertion(self, letters: Letters) -> None:
+        """Adds a part in which these letters are inserted."""
+        self.add(len(letters), letters)
+
+    def deletion(self, letters: Letters) -> None:
+        """Adds a part in which these letters are deleted."""
+        self.add(-len(letters), letters, negative=True)
+
+    def add(self, size: int, letters: Letters, negative: bool = False) -> None:
+        """Adds a part; its letters are counted, downwards for a `negative` sequence."""
+        self.add_counted(size, seq_to_kmer(letters, self.k, negative))
+
+    def add_counted(self, size: int, features: Numbers) -> None:
+        """Adds a part whose features were counted already."""
+        row = array(features, ctypes.c_int32)
+        self.sizes.append(size)
+        self.features.extend(row)
+
+
+class Table:
+    """Variants in the order of their starts. A variant's row number is how many were added before it."""
+
+    def __init__(self, k: int) -> None:
+        self.k = k
+        self.starts = flat.array("Q")
+        self.ends = flat.array("Q")
+        self.sizes = flat.array("i")
+        self.features = flat.array("i")
+        self.records = flat.array("I")
+
+    def __len__(self) -> int:
+        return len(self.starts)
+
+    def insertion(self, start: int, letters: Letters, record: Optional[int] = None) -> None:
+        """Adds an insertion of these letters before position `start`: it covers none of the reference, so its end is its start."""
+        self.add(start, start, len(letters), letters, record=record)
+
+    def deletion(self, start: int, letters: Letters, record: Optional[int] = None) -> None:
+        """Adds a deletion of these letters from position `start` on."""
+        self.add(start, start + len(letters), -len(letters), letters, negative=True, record=record)
+
+    def add(self, start: int, end: int, size: int, letters: Letters, negative: bool = False, record: Optional[int] = None) -> None:
+        """Adds a variant; its letters are counted, downwards for a `negative` sequence. Its record number is its row number where none is given."""
+        self.add_counted(start, end, size, seq_to_kmer(letters, self.k, negative), record)
+
+    def add_counted(self, start: int, end: int, size: int, features: Numbers, record: Optional[int] = None) -> None:
+        """Adds a variant whose features were counted already."""
+        row = array(features, ctypes.c_int32)
+        bounds = array([start, end], ctypes.c_uint64)
+        numbers = array([len(self) if record is None else record], ctypes.c_uint32)
+        self.sizes.append(size)
+        self.starts.append(bounds[0])
+        self.ends.append(bounds[1])
+        self.features.extend(row)
+        self.records.append(numbers[0])

@@ -1,0 +1,188 @@
+"""The module over the proved library: the worked example, lists and numpy arrays, every refusal's words, and numbers that no type holds."""
+import doctest
+import pathlib
+import pickle
+
+import pytest
+
+import ndigomarr
+from ndigomarr import Haplotype, Refused, Settings, Table, _library, _refusals
+
+ROOT = pathlib.Path(__file__).resolve().parents[3]
+SETTINGS = Settings(k=1, minkfreq=1)
+
+
+def worked():
+    table = Table(1)
+    table.insertion(10, "AG", record=40713)
+    table.insertion(20, b"CT", record=268)
+    haplotype = Haplotype(1)
+    haplotype.insertion("AG")
+    return table, haplotype
+
+
+def test_the_worked_example():
+    answer = ndigomarr.apply_haplotype(SETTINGS, *worked())
+    assert (answer.rows, answer.records, answer.left_out) == ([0], [40713], 0)
+    assert (answer.score, answer.sizesim, answer.seqsim) == (1.0, 1.0, 1.0)
+    assert (answer.scored, answer.complete) == (4, True)
+
+
+def test_several_haplotypes_each_as_by_itself():
+    table, first = worked()
+    refused, none, second = Haplotype(1), Haplotype(1), Haplotype(1)
+    refused.add(131073, "AG")
+    second.insertion("CT")
+    answers = ndigomarr.apply_haplotypes(SETTINGS, table, [first, refused, none, second])
+    assert answers[0] == ndigomarr.apply_haplotype(SETTINGS, table, first)
+    assert isinstance(answers[1], Refused) and answers[1].number == 9
+    assert answers[2] == ndigomarr.apply_haplotype(SETTINGS, table, none)
+    assert answers[3] == ndigomarr.apply_haplotype(SETTINGS, table, second)
+    assert answers[3].records == [268]
+    for number, haplotypes in [(9, [refused]), (27, []), (27, [first] * 17)]:
+        with pytest.raises(Refused) as told:
+            ndigomarr.apply_haplotypes(SETTINGS, table, haplotypes)
+        assert told.value.number == number
+
+
+def test_nothing_found_leaves_out_nothing():
+    table, _ = worked()
+    haplotype = Haplotype(1)
+    haplotype.deletion("AG")
+    answer = ndigomarr.apply_haplotype(SETTINGS, table, haplotype)
+    assert (answer.rows, answer.left_out, answer.score) == ([], None, 0.0)
+
+
+def test_the_latest_of_equals_and_the_count():
+    table = Table(1)
+    for start in (10, 20, 30):
+        table.insertion(start, "AG")
+    haplotype = Haplotype(1)
+    haplotype.insertion("AG")
+    answer = ndigomarr.apply_haplotype(Settings(k=1, minkfreq=1, maxpaths=2), table, haplotype)
+    assert (answer.scored, answer.complete) == (3, False)
+    whole = ndigomarr.apply_haplotype(SETTINGS, table, haplotype)
+    assert (whole.rows, whole.scored, whole.complete) == ([0], 8, True)
+
+
+def test_every_refusal_has_the_tables_words():
+    lines = (ROOT / "docs/refusals.tsv").read_text(encoding="utf-8").splitlines()[1:]
+    table = {int(number): (name, words) for number, name, words in (line.split("\t") for line in lines)}
+    assert _refusals.TABLE == table
+    for number, (name, words) in table.items():
+        told = Refused(number)
+        assert (told.number, told.name, told.words, str(told)) == (number, name, words, f"refused {number}: {words}")
+        assert pickle.loads(pickle.dumps(told)).number == number
+
+
+@pytest.mark.parametrize("number, call", [
+    (1, lambda: ndigomarr.seq_to_kmer("A", 7)),
+    (1, lambda: ndigomarr.seq_to_kmer("A", 257)),
+    (2, lambda: ndigomarr.apply_haplotype(Settings(k=1, sizesim=float("nan")), *worked())),
+    (3, lambda: ndigomarr.apply_haplotype(Settings(k=1, maxpaths=4096), *worked())),
+    (4, lambda: ndigomarr.apply_haplotype(SETTINGS, Table(1), Haplotype(1))),
+    (6, lambda: ndigomarr.seqsim([1], [1, 2], 1)),
+    (6, lambda: ndigomarr.apply_haplotype(Settings(k=2), *worked())),
+    (7, lambda: ndigomarr.count_chains([2], [1])),
+    (8, lambda: ndigomarr.count_chains([2, 1], [2, 2])),
+    (9, lambda: ndigomarr.sizesim(0, 8388609)),
+    (10, lambda: ndigomarr.seqsim([8388609], [1], 1)),
+    (13, lambda: ndigomarr.seq_to_kmer("A" * 131073, 1)),
+])
+def test_refusals(number, call):
+    with pytest.raises(Refused) as told:
+        call()
+    assert told.value.number == number
+
+
+def test_a_repeated_record_number():
+    table, haplotype = worked()
+    table.insertion(30, "AG", record=268)
+    with pytest.raises(Refused) as told:
+        ndigomarr.apply_haplotype(SETTINGS, table, haplotype)
+    assert (told.value.number, told.value.name) == (14, "REPEATED_NUMBER")
+
+
+@pytest.mark.parametrize("call", [
+    lambda: ndigomarr.sizesim(-1, 2),
+    lambda: ndigomarr.sizesim(1 << 64, 2),
+    lambda: ndigomarr.seqsim([1 << 31], [1], 1),
+    lambda: ndigomarr.seqsim([1], [1], -1),
+    lambda: ndigomarr.count_chains([1], [1], cap=1 << 32),
+    lambda: ndigomarr.apply_haplotype(Settings(k=1, maxpaths=-1), *worked()),
+    lambda: Table(1).add(-1, 1, 1, "A"),
+    lambda: Table(1).add(1, 1, 1 << 31, "A"),
+    lambda: Table(1).insertion(1, "A", record=1 << 32),
+])
+def test_a_number_that_no_type_holds_is_told_before_the_call(call):
+    with pytest.raises(OverflowError):
+        call()
+
+
+def test_what_failed_leaves_the_table_as_it_was():
+    table, _ = worked()
+    for given in [(-1, 1, 1, "A"), (1, 1, 1 << 31, "A"), (1, 1 << 64, 1, "A")]:
+        with pytest.raises(OverflowError):
+            table.add(*given)
+    lengths = [len(column) for column in (table.starts, table.ends, table.sizes, table.records, table.features)]
+    assert lengths == [2, 2, 2, 2, 8]
+
+
+def test_a_table_grows_after_a_search():
+    table, haplotype = worked()
+    ndigomarr.apply_haplotype(SETTINGS, table, haplotype)
+    table.insertion(30, "AG")
+    haplotype.insertion("AG")
+    assert ndigomarr.apply_haplotype(SETTINGS, table, haplotype).rows == [0, 2]
+
+
+def test_numpy_arrays_and_lists_alike():
+    numpy = pytest.importorskip("numpy")
+    row, other = numpy.array([3, -1, 0, 4], dtype=numpy.int32), [3, 1, 2, 4]
+    plain = ndigomarr.seqsim([3, -1, 0, 4], other, 1)
+    for kind in (numpy.int8, numpy.int32, numpy.int64):
+        assert ndigomarr.seqsim(row.astype(kind), numpy.array(other, dtype=kind), 1) == plain
+    wide = numpy.zeros((4, 2), dtype=numpy.int32)
+    wide[:, 0] = row
+    assert ndigomarr.seqsim(wide[:, 0], other, 1) == plain
+    row.setflags(write=False)
+    assert ndigomarr.seqsim(row, other, 1) == plain
+    table = Table(1)
+    table.add_counted(10, 10, 2, numpy.asarray(ndigomarr.seq_to_kmer("AG", 1)))
+    assert list(table.features) == [1, 1, 0, 0]
+    starts = numpy.array([10, 20], dtype=numpy.uint64)
+    assert ndigomarr.count_chains(starts, starts) == 4
+
+
+def test_the_program_answers():
+    assert ndigomarr.answer(b"") == "refused 21\n"
+    assert ndigomarr.answer((ROOT / "examples/worked.job").read_bytes()).startswith("rows 0\nrecords 0\nscore 3f800000\n")
+
+
+def test_bed_there_and_back():
+    text = b"reef7\t10\t20\nreef7\t15\t15\n"
+    bed = ndigomarr.read_bed(text)
+    assert (bed.starts, bed.ends, ndigomarr.write_bed(bed, [0, 1])) == ([10, 15], [20, 15], text)
+    for number, wrong in [(40, b"reef7\t010\t20\n"), (41, b"a\t1\t2\nb\t1\t2\n"), (7, b"a\t2\t1\n"), (8, b"a\t2\t2\na\t1\t1\n")]:
+        with pytest.raises(Refused) as told:
+            ndigomarr.read_bed(wrong)
+        assert told.value.number == number
+    with pytest.raises(Refused) as told:
+        ndigomarr.write_bed(bed, [2])
+    assert told.value.number == 44
+
+
+def test_letters_outside_ascii_are_told():
+    with pytest.raises(UnicodeEncodeError):
+        ndigomarr.seq_to_kmer("AÄ", 1)
+
+
+def test_what_the_pages_show():
+    for module in (ndigomarr, _library):
+        result = doctest.testmod(module)
+        assert result.attempted and not result.failed
+    text = (ROOT / "bindings/python/README.md").read_text(encoding="utf-8")
+    shown = text.split("```python\n")[1].split("```")[0]
+    place = {}
+    exec(shown.replace("print(", "said = ("), place)  # the page's own example
+    assert place["said"] == ([0], [40713], 1.0, True)
