@@ -1,4 +1,4 @@
-/* The worked example from C, and from C++: two variants with their record numbers, one part, and the row and record that explain it. */
+/* The worked example from C, and from C++: two variants with their record numbers, one part, and the row and record that explain it; then two haplotypes over them. */
 #include "ndigomarr.h"
 
 #include <stdio.h>
@@ -97,6 +97,55 @@ static void refused_records(const char *what, uint32_t first, uint32_t second, s
     expect("its records", answer.records[0] == MARK && answer.records[1] == MARK, 1);
 }
 
+/* What two haplotypes are lent to write their answers to. */
+enum { HAPLOTYPES = 2 };
+
+struct answers {
+    uint32_t rows[HAPLOTYPES * V], records[HAPLOTYPES * V], reports[HAPLOTYPES * ND_HAPLOTYPE_REPORT_LEN];
+};
+
+/* Two haplotypes of one part each, CT and AG, over the same variants; n of them are asked for. */
+static uint32_t search_two(int32_t first_size, size_t n, struct answers *answers)
+{
+    const uint32_t record_numbers[V] = {50, 40};
+    uint64_t starts[V] = {10, 20}, ends[V] = {10, 20}, keys[ROOM], part_ends[HAPLOTYPES] = {1, 2}, feature_ends[HAPLOTYPES] = {ENTRIES, 2 * ENTRIES};
+    int32_t sizes[V] = {2, 2}, features[V * ENTRIES], part_sizes[HAPLOTYPES] = {first_size, 2}, part_features[HAPLOTYPES * ENTRIES];
+    struct nd_settings settings = worked_settings();
+    uint32_t links[ROOM];
+    count("AG", features);
+    count("CT", features + ENTRIES);
+    count("CT", part_features);
+    count("AG", part_features + ENTRIES);
+    memset(answers, MARK, sizeof *answers);
+    return nd_apply_haplotypes(&settings, starts, V, ends, V, sizes, V, features, V * ENTRIES, record_numbers, V, part_ends, n, feature_ends, n, part_sizes, n,
+                               part_features, n * ENTRIES, links, ROOM, keys, ROOM, answers->rows, HAPLOTYPES * V, answers->records, HAPLOTYPES * V,
+                               answers->reports, HAPLOTYPES * ND_HAPLOTYPE_REPORT_LEN);
+}
+
+static void two_haplotypes(void)
+{
+    struct answers answers;
+    const uint32_t *second = answers.reports + ND_HAPLOTYPE_REPORT_LEN;
+    const uint32_t mark = MARK * 0x01010101u;
+    expect("two haplotypes", search_two(2, 2, &answers), ND_ACCEPTED);
+    expect("the first's row", answers.rows[0], 1);
+    expect("the second's row", answers.rows[V], 0);
+    expect("the first's record", answers.records[0], 40);
+    expect("the second's record", answers.records[V], 50);
+    expect("the second's refusal", second[0], ND_ACCEPTED);
+    expect("the second's rows", second[1 + ND_ROWS], 1);
+    expect("the second's score", second[1 + ND_SCORE], 0x3f800000);
+    expect("a first that is refused", search_two(131073, 2, &answers), ND_ACCEPTED);
+    expect("its number", answers.reports[0], ND_REFUSED_BAD_SIZE);
+    expect("its seven words", answers.reports[1] | answers.reports[2] | answers.reports[3] | answers.reports[7], 0);
+    expect("its rows", answers.rows[0] == mark && answers.rows[1] == mark, 1);
+    expect("the second's row beside it", answers.rows[V], 0);
+    expect("no haplotype", search_two(2, 0, &answers), ND_REFUSED_TOO_MANY_HAPLOTYPES);
+    expect("the reports then", answers.reports[0], mark);
+    expect("one that is refused", search_two(131073, 1, &answers), ND_REFUSED_BAD_SIZE);
+    expect("its report then", answers.reports[0], mark);
+}
+
 static void program_text(void)
 {
     const char *wanted = "refused 21\n";
@@ -144,6 +193,7 @@ int main(void)
     refused_records("a repeated record number", 31, 31, V, ND_REFUSED_REPEATED_NUMBER);
     refused_records("room for one record", 31, 32, V - 1, ND_REFUSED_ANSWER_ROOM);
     refused_records("both", 31, 31, V - 1, ND_REFUSED_REPEATED_NUMBER);
+    two_haplotypes();
     program_text();
     bed();
     similarities();

@@ -109,7 +109,8 @@ pub record Unique : Type 0 where
       (x .links) (x .keys) (x .rows) (x .says .0) (x .says .1))
   pub apply-numbered-haplotypes : (s : Settings) (starts ends : List ℕ) (sizes features : List ℤ) (numbers partEnds featureEnds : List ℕ) (partSizes partFeatures : List ℤ)
       (links keys rows records reports : List ℕ)
-      → Agree (List ℕ × (List ℕ × ℕ)) (numberedSeveralSearches (numberedSeveralLent s starts ends sizes features numbers partEnds featureEnds partSizes partFeatures links keys rows records reports))
+      → Agree (List ℕ × (List ℕ × ℕ)) (numberedSeveralSearches
+      (numberedSeveralLent s starts ends sizes features numbers partEnds featureEnds partSizes partFeatures links keys rows records reports))
       (λ x. ApplyNumberedHaplotypesPromise s starts ends sizes features numbers partEnds featureEnds partSizes partFeatures links keys rows records reports
       (x .links) (x .keys) (x .rows) (x .says .0) (x .says .1 .0) (x .says .1 .1))
   pub u8-at : (s : List ℕ) (at : ℕ) → One ℕ (U8AtPromise s at)

@@ -5,18 +5,17 @@ use native.Mathlib.Omega.{arith}
 use native.Mathlib.Nat.{mul-one, mul-comm}
 use mathlib.Core.Path.{_≡_, refl, sym, ap, _∙_}
 use mathlib.Core.Bool.{Bool, true, false, cond}
-use mathlib.Core.List.{List, [], _∷_}
+use mathlib.Core.List.{List, []}
 use borrow.Author.Tests.{ltb-true, ltb-false, le-ltb}
 use lib.Dec.{ltb}
 use lib.ListN.{length, getD, take, drop}
 use lib.Seq.{getD-take, getD-drop}
-use Rattle.params.specs.Numbers.{partsOf, callOf, anyBelow, disagrees, littleAnswerRoom, firstFault}
+use Rattle.params.specs.Numbers.{partsOf, callOf, anyBelow, disagrees, littleAnswerRoom}
 use Rattle.params.specs.Several.{Several, haplotypes, ownCall, severalFault}
 use Rattle.params.proofs.CheckedLaws.{accepted}
 use Rattle.params.proofs.AcceptedLaws.{table-accepted, haplotype-count, rows-suffice, reports-suffice}
 use Rattle.kplib.specs.Answer.{answerOf, rowsOf, searches}
 use Rattle.kplib.specs.Haplotypes.{laid, reportWords, answeredAfter, answered, rowsAfter, reportsAfter, severalSearches}
-use Rattle.kplib.specs.declared.traverse.Answer.{Answer}
 use Rattle.kplib.proofs.StretchLaws.{none-laid, laid-length}
 use Rattle.dive.specs.Numbered.{repeatedNumber, recordsAt, recordsOf, numberedAnswer, numberedRows, numberedSearches}
 use Rattle.dive.specs.NumberedSeveral.{NumberedSeveral, ownNumbered, numberedSeveralFault, numberedAnswered, numberedRowsAfter, recordsAfter, numberedReportsAfter, numberedSeveralSearches}

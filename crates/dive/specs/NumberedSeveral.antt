@@ -1,5 +1,5 @@
 -- Document 02, P1 and P3: several haplotypes over one table whose variants carry record numbers. By which rule the whole call is refused, and what it leaves.
-use Prim.Native.Nat.{ℕ, _+_, _*_, _^_}
+use Prim.Native.Nat.{ℕ, _*_, _^_}
 use mathlib.Core.Bool.{Bool}
 use mathlib.Core.List.{List, [], _∷_, _++_}
 use lib.Dec.{eqb}

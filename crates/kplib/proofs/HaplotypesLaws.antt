@@ -1,9 +1,9 @@
 -- The haplotypes answered so far. Each turn asks of the table what was asked once, and what it leaves is the next haplotype's in its own stretch. Assumes nothing.
-use Prim.Native.Nat.{ℕ, zero, suc, _+_, _-_, _*_, _≤_, _<_, min}
+use Prim.Native.Nat.{ℕ, zero, suc, _+_, _-_, _*_, _≤_, _<_}
 use native.Mathlib.Omega.{arith}
 use native.Mathlib.Numerals.{add-one}
 use native.Mathlib.Nat.{mul-le-mul, mul-le-mul-right, mul-comm, suc-mul}
-use mathlib.Core.Path.{_≡_, refl, sym, ap, _∙_, subst}
+use mathlib.Core.Path.{_≡_, refl, sym, ap, _∙_}
 use mathlib.Core.Bool.{Bool, false}
 use mathlib.Core.List.{List, []}
 use lib.IntN.{ℤ}
@@ -14,11 +14,11 @@ use Rattle.metrics.specs.Placed.{placed}
 use Rattle.params.specs.declared.Settings.{Settings}
 use Rattle.params.specs.Numbers.{Call, tableOf, partsOf, callOf, anyBelow, firstFault}
 use Rattle.params.specs.Several.{Several, beginOf, ownCall, severalFault}
-use Rattle.params.proofs.CheckLaws.{any-none, or-no}
+use Rattle.params.proofs.CheckLaws.{or-no}
 use Rattle.params.proofs.CheckedLaws.{accepted}
 use Rattle.params.proofs.AcceptedLaws.{table-accepted, haplotype-count, rows-suffice, reports-suffice}
 use Rattle.kplib.specs.Answer.{answerOf, rowsOf, searches, queueRoom}
-use Rattle.kplib.specs.Haplotypes.{laid, reportWords, answeredAfter, answered, rowsAfter, reportsAfter, severalSearches}
+use Rattle.kplib.specs.Haplotypes.{laid, reportWords, answeredAfter, answered, rowsAfter, reportsAfter}
 use Rattle.kplib.specs.Promises.{callLent, ApplyHaplotypePromise, severalLent, SeveralQueueKept}
 use Rattle.kplib.specs.declared.traverse.Answer.{Answer}
 use Rattle.kplib.proofs.StretchLaws.{lent-length, none-laid, laid-length, one-more, stretch-stored, all-stored}

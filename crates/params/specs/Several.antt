@@ -42,7 +42,7 @@ ownCall c i = callOf (c .settings) (c .table) (partsAt c i) (c .queueRoom) (leng
 abbrev pub badCount : ℕ → Bool
 badCount n = not (leb 1 n && leb n 16)
 
--- 6: falling ends, or a last end that is not the slice's length
+-- 6: lent lengths disagree with V, m or 4^k: falling ends, or a last end that is not the slice's length
 unfoldable pub endsDisagree : List ℕ → ℕ → Bool
 endsDisagree ends n = anyBelow (length ends) (λ i. ltb (getD ends i 0) (beginOf ends i)) || disagrees (beginOf ends (length ends)) n
 

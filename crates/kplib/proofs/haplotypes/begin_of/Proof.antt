@@ -1,5 +1,4 @@
 -- By whether it is the first. Assumes nothing.
-use native.Mathlib.Omega.{arith}
 use Rattle.kplib.proofs.HaplotypesLaws.{end-before}
 use borrow.Author.Needs.{needs}
 use Rattle.kplib.proofs.haplotypes.begin_of.Statement.{statement}

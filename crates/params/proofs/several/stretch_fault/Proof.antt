@@ -1,6 +1,6 @@
 -- Row by row, what each test found. The products fit because V is at most 64 and there are at most 16 haplotypes by then. Assumes nothing.
 use mathlib.Core.Path.{_≡_, refl, sym, _∙_}
-use mathlib.Core.Bool.{true, false}
+use mathlib.Core.Bool.{false}
 use native.Mathlib.Omega.{arith}
 use lib.ListN.{length}
 use denote.Ref.{now}
