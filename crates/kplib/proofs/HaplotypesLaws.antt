@@ -71,13 +71,16 @@ module _ (s : Settings) (starts ends : List ℕ) (sizes features : List ℤ) (pa
     keys-same = λ _. refl;
   }
 
-  -- none is where the whole call is refused
+  -- none is where the whole call is refused, whatever there would be to lay down
+  nothing-laid : (width : ℕ) (each : ℕ → List ℕ) (buffer : List ℕ) → 0 ≡ answered whole → buffer ≡ laid width each (answered whole) buffer
+  nothing-laid width each buffer n = none-laid width each buffer ∙ ap (λ (m : ℕ). laid width each m buffer) n
+
   pub none-answered : {fault : ℕ} → fault ≡ severalFault whole → (fault ≡ 0 → ⊥)
       → (rows₀ ≡ rowsAfter whole rows₀) × (reports₀ ≡ reportsAfter whole reports₀)
   none-answered {fault = zero} e h = absurd (h refl)
   none-answered {fault = suc fault} e h =
       let n : 0 ≡ answered whole = ap (λ (m : ℕ). answeredAfter m (length partEnds)) e in
-      (none-laid (length starts) each-rows rows₀ ∙ ap (λ (m : ℕ). laid (length starts) each-rows m rows₀) n, none-laid 8 each-report reports₀ ∙ ap (λ (m : ℕ). laid 8 each-report m reports₀) n)
+      (nothing-laid _ _ rows₀ n, nothing-laid _ _ reports₀ n)
 
 module _ {s : Settings} {starts ends : List ℕ} {sizes features : List ℤ} {partEnds featureEnds : List ℕ} {partSizes partFeatures : List ℤ} {links₀ keys₀ rows₀ reports₀ : List ℕ}
     {v i : ℕ} {links keys rows reports : List ℕ}
