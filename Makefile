@@ -93,10 +93,10 @@ bindings:
 
 # The programs, the library for C, C++, Rust and Python, and the man pages, below PREFIX.
 install: program ndigo
-	tools/install $(PREFIX)
+	tools/install "$(PREFIX)"
 
 uninstall:
-	tools/install --uninstall $(PREFIX)
+	tools/install --uninstall "$(PREFIX)"
 
 bench:
 	bench/run

@@ -66,5 +66,9 @@ fn installed_library() -> Result<(), String> {
         Err(_) => return Err("pkg-config is not installed: install it, or set NDIGOMARR_ARCHIVE to a libndigomarr.a".to_string()),
     };
     let folder = PathBuf::from(String::from_utf8_lossy(&told).trim());
-    given_archive(&folder.join("libndigomarr.a"))
+    let archive = folder.join("libndigomarr.a");
+    if !archive.is_file() {
+        return Err(format!("pkg-config names {}, which has no libndigomarr.a: run make install again, or set NDIGOMARR_ARCHIVE to one", folder.display()));
+    }
+    given_archive(&archive)
 }

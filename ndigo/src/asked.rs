@@ -139,6 +139,9 @@ pub fn bed(data: &[u8], sort: bool, name: &str) -> Result<Told, Failure> {
             let bed = Bed { name: name.into(), starts: bounds(|variant| variant.start), ends: bounds(|variant| variant.end) };
             let rows: Vec<u32> = answer.rows.iter().map(|&row| row as u32).collect();
             let out = bed.write(&rows).map_err(|refusal| Failure::Input(refusal.to_string()))?;
+            if answer.target == Target::Nothing {
+                remarks.extend(answer::why(&sheet, &answer).iter().map(|words| format!("nothing found: {}", words.trim())));
+            }
             Ok(Told { out, remarks, status: 0 })
         }
     }
@@ -148,7 +151,7 @@ pub fn bed(data: &[u8], sort: bool, name: &str) -> Result<Told, Failure> {
 pub fn from_bed(data: &[u8]) -> Result<Told, Failure> {
     let bed = Bed::read(data).map_err(|refusal| Failure::Input(refusal.to_string()))?;
     let name = String::from_utf8_lossy(&bed.name);
-    let rows = bed.starts.iter().zip(&bed.ends).enumerate().map(|(row, (start, end))| format!("{name}-{row}\t{start}\t{end}\n"));
+    let rows = bed.starts.iter().zip(&bed.ends).enumerate().map(|(row, (start, end))| format!("{}\t{start}\t{end}\n", sheet::cell(&format!("{name}-{row}"))));
     Ok(Told::text(0, format!("variant\tstart\tend\n{}", rows.collect::<String>())))
 }
 

@@ -58,7 +58,7 @@ pub enum Command {
     Bed {
         #[command(flatten)]
         sheets: Sheets,
-        /// What stands in the first column, 1 to 32 bytes without blanks
+        /// What stands in the first column: 1 to 32 printable bytes of ASCII, no blank among them
         #[arg(long, value_name = "NAME")]
         name: String,
         #[command(flatten)]

@@ -1,5 +1,6 @@
 """What is lent to the library: arrays of its own types, from lists or from whatever holds such numbers already."""
 import ctypes
+import operator
 from typing import Any, Sequence, Union
 
 Numbers = Union[Sequence[int], Any]
@@ -19,11 +20,12 @@ def _held(given: Any, kind: Any) -> Any:
 
 
 def array(given: Numbers, kind: Any) -> Any:
-    """An array of these numbers: their own memory where it fits, else a copy. A number that the type cannot hold is an OverflowError."""
+    """An array of these numbers: their own memory where it fits, else a copy. What is no whole number is a TypeError, and one that the type
+    cannot hold an OverflowError."""
     held = _held(given, kind)
     if held is not None:
         return held
-    numbers = [int(number) for number in given]
+    numbers = [operator.index(number) for number in given]
     bits = 8 * ctypes.sizeof(kind)
     low, high = (-(1 << bits - 1), (1 << bits - 1) - 1) if kind is ctypes.c_int32 else (0, (1 << bits) - 1)
     for place, number in enumerate(numbers):
@@ -34,6 +36,7 @@ def array(given: Numbers, kind: Any) -> Any:
 
 def word(given: int) -> int:
     """A number that a u32 holds; ctypes by itself would drop its high bits."""
+    given = operator.index(given)
     if not 0 <= given < 1 << 32:
         raise OverflowError(f"{given} is no number from 0 to {(1 << 32) - 1}")
     return given

@@ -120,7 +120,8 @@ def read_bed(text: bytes) -> Bed:
     """
     starts, ends = (ctypes.c_uint64 * 64)(), (ctypes.c_uint64 * 64)()
     name, counts = (ctypes.c_uint8 * 32)(), (ctypes.c_uint32 * 2)()
-    accepted(LIBRARY.nd_read_bed(letters(text), len(text), starts, len(starts), ends, len(ends), name, counts))
+    given = letters(text)
+    accepted(LIBRARY.nd_read_bed(given, len(given), starts, len(starts), ends, len(ends), name, counts))
     rows, width = counts
     return Bed(bytes(name[:width]), list(starts[:rows]), list(ends[:rows]))
 
@@ -133,7 +134,8 @@ def write_bed(bed: Bed, rows: Numbers) -> bytes:
     """
     starts, ends, chosen = array(bed.starts, ctypes.c_uint64), array(bed.ends, ctypes.c_uint64), array(rows, ctypes.c_uint32)
     text, written = (ctypes.c_uint8 * (75 * len(chosen)))(), ctypes.c_uint64()
-    given = letters(bed.name), len(bed.name), starts, len(starts), ends, len(ends), chosen, len(chosen)
+    named = letters(bed.name)
+    given = named, len(named), starts, len(starts), ends, len(ends), chosen, len(chosen)
     accepted(LIBRARY.nd_write_bed(*given, text, len(text), ctypes.byref(written)))
     return bytes(text[:written.value])
 
@@ -145,5 +147,6 @@ def answer(job: bytes) -> str:
     'refused 21\\n'
     """
     text = (ctypes.c_uint8 * 8192)()
-    length = LIBRARY.nd_answer(letters(job), len(job), text)
+    given = letters(job)
+    length = LIBRARY.nd_answer(given, len(given), text)
     return bytes(text[:length]).decode("ascii")

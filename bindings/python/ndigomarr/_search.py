@@ -34,9 +34,11 @@ class Answer:
 
 
 def words_of(settings: Settings) -> Words:
-    """The settings as the library takes them. A k that no byte holds is refused as any other wrong one."""
+    """The settings as the library takes them: each by its field's kind, so that a float of any library stays one. A k that no byte holds is
+    refused as any other wrong one."""
     given = asdict(settings)
-    return Words(**{name: value if isinstance(value, float) else word(int(value)) for name, value in given.items()})
+    kinds = {name: kind for name, kind in Words._fields_}
+    return Words(**{name: float(value) if kinds[name] is ctypes.c_float else word(value) for name, value in given.items()})
 
 
 def queue_room(settings: Settings, variants: int) -> int:
@@ -70,11 +72,12 @@ def _table(table: Table) -> Any:
 def apply_haplotype(settings: Settings, table: Table, haplotype: Haplotype) -> Answer:
     """The path of the table that best explains the haplotype. A call that the rules refuse raises :class:`Refused`."""
     u32, u64, i32 = ctypes.c_uint32, ctypes.c_uint64, ctypes.c_int32
+    words = words_of(settings)
     room = queue_room(settings, len(table))
     links, keys = (u32 * room)(), (u64 * room)()
     rows, records, report = (u32 * len(table))(), (u32 * len(table))(), (u32 * 7)()
     accepted(LIBRARY.nd_apply_haplotype(
-        ctypes.byref(words_of(settings)), *_table(table), *_given(haplotype.sizes, i32), *_given(haplotype.features, i32),
+        ctypes.byref(words), *_table(table), *_given(haplotype.sizes, i32), *_given(haplotype.features, i32),
         links, room, keys, room, rows, len(rows), records, len(records), report))
     return _answer(report, rows, records)
 
@@ -86,6 +89,7 @@ def apply_haplotypes(settings: Settings, table: Table, haplotypes: Sequence[Hapl
     are refused has that refusal in its place.
     """
     u32, u64, i32 = ctypes.c_uint32, ctypes.c_uint64, ctypes.c_int32
+    words = words_of(settings)
     sizes = [size for haplotype in haplotypes for size in haplotype.sizes]
     features = [entry for haplotype in haplotypes for entry in haplotype.features]
     part_ends = list(accumulate(len(haplotype.sizes) for haplotype in haplotypes))
@@ -94,7 +98,7 @@ def apply_haplotypes(settings: Settings, table: Table, haplotypes: Sequence[Hapl
     links, keys = (u32 * room)(), (u64 * room)()
     rows, records, reports = (u32 * (v * count))(), (u32 * (v * count))(), (u32 * (8 * count))()
     accepted(LIBRARY.nd_apply_haplotypes(
-        ctypes.byref(words_of(settings)), *_table(table), *_given(part_ends, u64), *_given(feature_ends, u64), *_given(sizes, i32), *_given(features, i32),
+        ctypes.byref(words), *_table(table), *_given(part_ends, u64), *_given(feature_ends, u64), *_given(sizes, i32), *_given(features, i32),
         links, room, keys, room, rows, len(rows), records, len(records), reports, len(reports)))
     own = [(reports[8 * at], _answer(reports[8 * at + 1:8 * at + 8], rows[v * at:v * at + v], records[v * at:v * at + v])) for at in range(count)]
     return [Refused(number) if number else answer for number, answer in own]

@@ -2,6 +2,7 @@
 import doctest
 import pathlib
 import pickle
+from fractions import Fraction
 
 import pytest
 
@@ -117,6 +118,30 @@ def test_a_repeated_record_number():
 def test_a_number_that_no_type_holds_is_told_before_the_call(call):
     with pytest.raises(OverflowError):
         call()
+
+
+@pytest.mark.parametrize("call", [
+    lambda: ndigomarr.seqsim([1.5], [1], 1),
+    lambda: ndigomarr.seqsim("12", [1, 2], 1),
+    lambda: ndigomarr.count_chains([1.0], [1]),
+    lambda: ndigomarr.apply_haplotype(Settings(k=1, maxpaths=9.5), *worked()),
+    lambda: Table(1).add(10.9, 11, 1, "A"),
+])
+def test_what_is_no_whole_number_is_told(call):
+    with pytest.raises(TypeError):
+        call()
+
+
+def test_a_threshold_of_any_kind_of_float_counts():
+    table, haplotype = worked()
+    haplotype.insertion("GGGG")
+    kinds = [float, Fraction] + [numpy.float32 for numpy in [pytest.importorskip("numpy")]]
+    for kind in kinds:
+        assert ndigomarr.apply_haplotype(Settings(k=1, minkfreq=1, sizesim=kind(0.875), fnmax=0), table, haplotype).left_out is None
+    assert ndigomarr.apply_haplotype(Settings(k=1, minkfreq=1, sizesim=0, seqsim=0, fnmax=0), table, haplotype).left_out == 0
+    with pytest.raises(Refused) as told:
+        ndigomarr.apply_haplotype(Settings(k=1, sizesim=-1), table, haplotype)
+    assert told.value.number == 2
 
 
 def test_what_failed_leaves_the_table_as_it_was():

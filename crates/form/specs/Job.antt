@@ -9,7 +9,8 @@ use lib.Dec.{ltb, eqb}
 use Rattle.params.specs.declared.Settings.{Settings}
 use Rattle.fields.specs.Fields.{le4, le8, signedOf, bytes4, bytes8, wordOf}
 use Rattle.form.specs.Settings40.{settingsIn, settingsBytes, flag}
-use Rattle.form.specs.Form.{endKind, settingsKind, variantKind, partKind, lettersKind, nextKind, variantLen, partLen, lettersLen, kindOf, isVariant, isPart, isNext, shapeOf, bodyLen, countOf, run, outset}
+use Rattle.form.specs.Form.{endKind, settingsKind, variantKind, partKind, lettersKind, nextKind, variantLen, partLen, lettersLen}
+use Rattle.form.specs.Form.{kindOf, isVariant, isPart, isNext, shapeOf, bodyLen, countOf, run, outset}
 use Rattle.form.specs.declared.records.Kind.{Kind}
 use Rattle.form.specs.declared.records.Kind.the-variants.{Variant as VariantRecord, Part as PartRecord}
 use Rattle.form.specs.declared.records.Scan.{Scan}

@@ -7,6 +7,6 @@ use lib.Dec.{ltb, eqb}
 abbrev pub placeOf : ℕ → ℕ
 placeOf n = cond (eqb n 14) 9 (cond (eqb n 27) 5 n)
 
--- the first of the two in the table; 0 is no refusal
+-- the first in the table of a refusal that was found last and another one, or 0 for none, that was found before; who asks has a refusal of its own
 unfoldable pub earlierOf : ℕ → ℕ → ℕ
 earlierOf other own = cond (eqb other 0) own (cond (ltb (placeOf other) (placeOf own)) other own)

@@ -21,7 +21,7 @@ fn place_of(n: u32) -> u32
     n
 }
 
-// The first in the table of two refusals, where the first of them is 0 if there is none.
+// The first in the table of two refusals: another one, or 0 where there is none, and an own one, which who asks has.
 pub fn earlier(other: u32, own: u32) -> u32
     ensures { λ r. ⌜ EarlierPromise other own r ⌝ }
 {

@@ -6,7 +6,7 @@ mod split;
 mod text;
 mod write;
 
-pub use write::written;
+pub use write::{cell, written};
 
 use crate::fault::Fault;
 use crate::model::Sheet;

@@ -64,7 +64,7 @@ fn setting_rows(sheet: &Sheet) -> Vec<Vec<String>> {
 }
 
 /// A name that begins with a quote, or holds a tab, is quoted.
-fn cell(text: &str) -> String {
+pub fn cell(text: &str) -> String {
     if text.starts_with('"') || text.contains('\t') { format!("\"{}\"", text.replace('"', "\"\"")) } else { text.into() }
 }
 
