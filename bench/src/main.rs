@@ -86,9 +86,9 @@ fn sizesim(random: &mut Random) -> Times {
 fn capped_count(random: &mut Random, name: &str, variants: usize, crowded: bool) -> Times {
     let shape = Shape { k: 4, variants, maxpaths: 63, parts: Parts::Rows(3), threshold: 0.0, crowded };
     let case = Case::new(random, &shape);
-    let (table, graph) = (case.table(), Search::new(&case.call).variants);
+    let (table, apart) = (case.table(), rust_side::Apart::new(&case.call));
     let ours = count_chains(&table, true, CAP).expect("within the limits");
-    assert_eq!(ours, rust_side::count_chains(&graph, CAP), "the counts differ");
+    assert_eq!(ours, rust_side::count_chains(&apart, CAP), "the counts differ");
     compare(
         name,
         1,
@@ -96,7 +96,7 @@ fn capped_count(random: &mut Random, name: &str, variants: usize, crowded: bool)
             black_box(count_chains(&table, true, black_box(CAP)).is_ok());
         },
         &mut |_| {
-            black_box(rust_side::count_chains(&graph, black_box(CAP)));
+            black_box(rust_side::count_chains(&apart, black_box(CAP)));
         },
     )
 }

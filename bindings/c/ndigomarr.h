@@ -131,7 +131,7 @@ struct nd_settings {
     uint32_t k; /* Letters of a k-mer, 1 to 6. */
     uint32_t squish; /* Prefer paths of few rows: the gap penalty counts rows beyond the first. */
     uint32_t one_to_one; /* Match each row alone instead of searching paths. */
-    uint32_t full; /* Rows that do not overlap may follow each other; without it only the empty path stands. */
+    uint32_t full; /* Rows of which no two overlap may stand in one path, an insertion inside a deletion overlapping it; without it only the empty path stands. */
     uint32_t maxpaths; /* The search scores at most this many paths and one more; at most 4,095. */
     uint32_t maxnodes; /* Tables of more rows are matched one to one. */
     uint32_t fnmax; /* How many parts a part list may leave out. */

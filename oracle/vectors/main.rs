@@ -91,7 +91,8 @@ fn list_numbers(random: &mut Random) {
             println!("z {a} {b}");
         }
     }
-    for [s1, e1, s2, e2] in [[0, 10, 5, 5], [5, 5, 6, 8], [0, 10, 6, 8], [0, 10, 10, 20], [0, 11, 10, 20], [5, 5, 5, 5], [5, 6, 5, 6], [9, 3, 1, 8]] {
+    for [s1, e1, s2, e2] in [[0, 10, 5, 5], [5, 5, 6, 8], [0, 10, 6, 8], [0, 10, 10, 20], [0, 11, 10, 20], [5, 5, 5, 5], [5, 6, 5, 6], [9, 3, 1, 8],
+        [5, 10, 5, 5], [0, 5, 5, 5], [4, 6, 5, 5], [4, 5, 5, 5], [5, 6, 5, 5], [6, 4, 5, 5], [7, 7, 8, 8], [0, 0, 0, 9]] {
         println!("o {s1} {e1} {s2} {e2}");
         println!("o {s2} {e2} {s1} {e1}");
     }
@@ -99,6 +100,13 @@ fn list_numbers(random: &mut Random) {
     for _ in 0..12 {
         println!("o {} {} {} {}", random.below(9), random.below(9), random.below(9), random.below(9));
     }
+}
+
+/// kanpig's overlaps, and what it does not know: "a zero-length interval also overlaps one whose start is less than it and whose end is greater"
+/// (document 02, P5).
+fn overlaps(a: [u64; 2], b: [u64; 2]) -> bool {
+    let inside = |point: [u64; 2], other: [u64; 2]| point[0] == point[1] && other[0] < point[0] && other[1] > point[0];
+    inside(a, b) || inside(b, a) || metrics::overlaps(a[0], a[1], b[0], b[1])
 }
 
 fn answer(line: &str) -> Option<String> {
@@ -122,7 +130,7 @@ fn answer(line: &str) -> Option<String> {
         "z" => value(metrics::sizesim(numbers[0] as u64, numbers[1] as u64)),
         "o" => {
             let [s1, e1, s2, e2] = [0, 1, 2, 3].map(|i| numbers[i] as u64);
-            Some(String::from(if metrics::overlaps(s1, e1, s2, e2) { "yes" } else { "no" }))
+            Some(String::from(if overlaps([s1, e1], [s2, e2]) { "yes" } else { "no" }))
         }
         _ => None,
     }

@@ -14,7 +14,7 @@ class Settings:
     one_to_one: bool = False
     """Match each row alone instead of searching paths."""
     full: bool = True
-    """Rows that do not overlap may follow each other; without it only the empty path stands."""
+    """Rows of which no two overlap may stand in one path, an insertion inside a deletion overlapping it; without it only the empty path stands."""
     maxpaths: int = 4095
     """The search scores at most this many paths and one more; at most 4,095."""
     maxnodes: int = 5000

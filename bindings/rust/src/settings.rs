@@ -10,7 +10,7 @@ pub struct Settings {
     pub squish: bool,
     /// Match each row alone instead of searching paths.
     pub one_to_one: bool,
-    /// Rows that do not overlap may follow each other; without it only the empty path stands.
+    /// Rows of which no two overlap may stand in one path, an insertion inside a deletion overlapping it; without it only the empty path stands.
     pub full: bool,
     /// The search scores at most this many paths and one more; at most 4,095.
     pub maxpaths: u32,

@@ -63,11 +63,15 @@ fn table(bounds: &[(u64, u64)]) -> Table {
 
 #[test]
 fn counts_chains_up_to_a_cap() {
-    let seven = table(&[(0, 10), (5, 5), (6, 8)]);
-    assert_eq!(count_chains(&seven, true, 4_096), Ok(7));
-    assert_eq!(count_chains(&seven, true, 6), Ok(6));
-    assert_eq!(count_chains(&seven, true, 0), Ok(0));
-    assert_eq!(count_chains(&seven, false, 4_096), Ok(1));
+    let five = table(&[(0, 10), (5, 5), (6, 8)]);
+    assert_eq!(count_chains(&five, true, 4_096), Ok(5));
+    assert_eq!(count_chains(&five, true, 4), Ok(4));
+    assert_eq!(count_chains(&five, true, 0), Ok(0));
+    assert_eq!(count_chains(&five, false, 4_096), Ok(1));
+    // an insertion at the start or end of a deletion, or beside another one, keeps nothing back
+    assert_eq!(count_chains(&table(&[(0, 0), (0, 10), (10, 10), (10, 10)]), true, 4_096), Ok(16));
+    // every two rows of a path are asked, not neighbours alone: none, 0, 1, 2, 0 1 and 1 2
+    assert_eq!(count_chains(&table(&[(0, 10), (0, 0), (5, 8)]), true, 4_096), Ok(6));
     let many: Vec<(u64, u64)> = (0..64).map(|at| (at, at)).collect();
     assert_eq!(count_chains(&table(&many), true, 4_096), Ok(4_096));
 }

@@ -1,4 +1,4 @@
--- Rows grow a chain as their nodes lengthen a path, one by one; a row past the table stands for the sink or for no node, from which no edge leads on.
+-- Rows grow a chain as their nodes lengthen a path, one by one, each joined to all before it; a row past the table stands for the sink or for no node, from which no edge leads on.
 use Prim.Native.Nat.{ℕ, zero, suc, _+_, _-_, _≤_, _<_}
 use native.Mathlib.Omega.{arith}
 use native.Mathlib.Numerals.{add-one}
@@ -9,11 +9,18 @@ use borrow.Author.Tests.{lt-ltb, le-ltb, le-leb, lt-leb, eq-eqb, ne-eqb, leb-tru
 use lib.Dec.{leb, ltb, eqb}
 use lib.ListN.{length, getD}
 use Rattle.paths.specs.Chains.{firstAfter, extends, isChain}
-use Rattle.paths.proofs.BooleanLaws.{clash, and-both}
+use Rattle.paths.specs.Count.{standsWithAll}
+use Rattle.paths.proofs.BooleanLaws.{clash, and-both, and-false, and-true, and-assoc}
+use Rattle.paths.proofs.CountLaws.{chain-rule}
+use Rattle.paths.proofs.QueueLaws.{chain-parts}
 use Rattle.kplib.specs.Graph.{nodeOf, rowOf, edge, mayFollowIn, extendsIn, isChainIn}
-use Rattle.kplib.proofs.GraphLaws.{and-false}
-use Rattle.audit.specs.Edges.{source, sink, boundAt, nodesOverlap, graphEdge, isPathFrom, EdgesHold}
+use Rattle.audit.specs.Edges.{source, sink, boundAt, nodesOverlap, graphEdge, joinsEach, allJoined, EdgesHold}
 use Rattle.audit.proofs.AnchorsLaws.{anchors}
+
+regroup : (source row chain rest each : Bool) → ((source && (row && chain)) && (rest && each)) ≡ (((source && chain) && rest) && (row && each))
+regroup false row chain rest each = refl
+regroup true true chain rest each = sym (and-assoc chain rest each)
+regroup true false chain rest each = sym (and-false (chain && rest))
 
 bound-row : (v : ℕ) (bounds : List ℕ) (r : ℕ) → r < v → boundAt v bounds (r + 1) ≡ getD bounds r 0
 bound-row v bounds r h = rw (add-one r, lt-ltb r v h)
@@ -54,38 +61,63 @@ module _ (starts ends : List ℕ) where
   none-back true a = rw (le-ltb a 0 (omega arith))
   none-back false a = rw (ne-eqb 0 (size + 1) (λ e. omega arith)) (and-false (eqb a 0))
 
-  between : (full : Bool) (r s : ℕ) (c : List ℕ) → r < s → s < size → mayFollowIn starts ends full (r ∷ c) s ≡ graphEdge starts ends full (nodeOf r) (nodeOf s)
-  between true r s c h l = sym (row-edge r s h l)
+  between : (full : Bool) (r s : ℕ) (c : List ℕ) → r < s → s < size
+      → mayFollowIn starts ends full (r ∷ c) s ≡ (graphEdge starts ends full (nodeOf r) (nodeOf s) && mayFollowIn starts ends full c s)
+  between true r s c h l = rw (row-edge r s h l)
   between false r s c h l = rw (ne-eqb (r + 1) 0 (λ e. omega arith))
 
   begins : (full : Bool) (s : ℕ) → s < size → mayFollowIn starts ends full [] s ≡ graphEdge starts ends full source (nodeOf s)
   begins true s l = sym (source-edge (s + 1) (omega arith) (omega arith))
   begins false s l = rw (ne-eqb (s + 1) (size + 1) (λ e. omega arith))
 
-  -- ---- chains
-  -- a chain's last row is in the table, and the graph is full
-  last-row : (full : Bool) (r : ℕ) (c : List ℕ) → isChainIn starts ends full (r ∷ c) ≡ true → (r < size) × (full ≡ true)
-  unfolding isChain extends
-  last-row full r c h =
-      let a = and-both (isChainIn starts ends full c) (ltb r size && extendsIn starts ends full c r) h .1 in
-      let b = and-both (ltb r size) (extendsIn starts ends full c r) a in
-      (ltb-true r size (b .0), full-of full c (and-both (leb (firstAfter c) r) (mayFollowIn starts ends full c r) (b .1) .1))
-    where
-      full-of : (full : Bool) (c : List ℕ) → mayFollowIn starts ends full c r ≡ true → full ≡ true
-      full-of true c e = refl
-      full-of false [] e = e
-      full-of false (q ∷ c) e = e
+  -- ---- edges from the source and from each row of a chain
+  abbrev fromRows : Bool → List ℕ → ℕ → Bool
+  fromRows full [] b = true
+  fromRows full (r ∷ c) b = graphEdge starts ends full (r + 1) b && fromRows full c b
 
-  -- a row of the table extends a chain where its node has an edge from the chain's last node
-  step-edge : (full : Bool) (c : List ℕ) (s : ℕ) → isChainIn starts ends full c ≡ true → s < size → extendsIn starts ends full c s ≡ graphEdge starts ends full (firstAfter c) (nodeOf s)
+  abbrev fromChain : Bool → List ℕ → ℕ → Bool
+  fromChain full c b = graphEdge starts ends full 0 b && fromRows full c b
+
+  abbrev fromAll : Bool → List ℕ → List ℕ → Bool
+  fromAll full c [] = true
+  fromAll full c (b ∷ l) = fromChain full c b && fromAll full c l
+
+  from-none : (full : Bool) (l : List ℕ) → fromAll full [] l ≡ joinsEach (graphEdge starts ends full) 0 l
+  from-none full [] = refl
+  from-none full (b ∷ l) = rw (and-true (graphEdge starts ends full 0 b), from-none full l)
+
+  from-longer : (full : Bool) (s : ℕ) (c l : List ℕ) → fromAll full (s ∷ c) l ≡ (fromAll full c l && joinsEach (graphEdge starts ends full) (s + 1) l)
+  from-longer full s c [] = refl
+  from-longer full s c (b ∷ l) =
+      rw (from-longer full s c l) (regroup (graphEdge starts ends full 0 b) (graphEdge starts ends full (s + 1) b) (fromRows full c b) (fromAll full c l)
+      (joinsEach (graphEdge starts ends full) (s + 1) l))
+
+  -- a chain of a bare graph is empty
+  no-bare : (r : ℕ) (c : List ℕ) → isChainIn starts ends false (r ∷ c) ≡ true → ⊥
+  no-bare r c h = clash (isChainIn starts ends false (r ∷ c)) (chain-rule (edge starts ends) size .bare (r ∷ c)) h
+
+  rows-joined : (c : List ℕ) (s : ℕ) → isChainIn starts ends true c ≡ true → firstAfter c ≤ s → s < size → standsWithAll (edge starts ends) c s ≡ fromRows true c (s + 1)
+  rows-joined [] s h k l = refl
+  rows-joined (r ∷ c) s h k l =
+      let p = chain-parts (mayFollowIn starts ends true) size r c h in
+      rw (row-edge r s k l, rows-joined c s (p .0) (omega arith) l)
+
+  -- a row of the table extends a chain where its node has an edge from the source and from each of the chain's
+  step-edge : (full : Bool) (c : List ℕ) (s : ℕ) → isChainIn starts ends full c ≡ true → s < size → extendsIn starts ends full c s ≡ fromChain full c (s + 1)
   unfolding extends
-  step-edge full [] s h l = rw (le-leb 0 s (omega arith)) (begins full s l)
-  step-edge full (r ∷ c) s h l = go (leb (suc r) s) refl
+  step-edge false [] s h l = rw (ne-eqb (s + 1) (size + 1) (λ e. omega arith)) (and-false (leb 0 s))
+  step-edge false (r ∷ c) s h l = absurd (no-bare r c h)
+  step-edge true c s h l = rw (source-edge (s + 1) (omega arith) (omega arith)) (go (leb (firstAfter c) s) refl)
     where
-      go : (t : Bool) → leb (suc r) s ≡ t → (leb (suc r) s && mayFollowIn starts ends full (r ∷ c) s) ≡ graphEdge starts ends full (suc r) (nodeOf s)
-      go true e = rw (e, ← add-one r) (between full r s c (leb-true (suc r) s e) l)
-      go false e = rw (e, last-row full r c h .1, le-ltb (suc r) (s + 1) (omega (arith, leb-false (suc r) s e)))
+      late : (c : List ℕ) → s < firstAfter c → fromRows true c (s + 1) ≡ false
+      late [] k = absurd (omega arith)
+      late (r ∷ c) k = rw (le-ltb (r + 1) (s + 1) (omega arith))
 
+      go : (t : Bool) → leb (firstAfter c) s ≡ t → (leb (firstAfter c) s && standsWithAll (edge starts ends) c s) ≡ fromRows true c (s + 1)
+      go true e = rw e (rows-joined c s h (leb-true (firstAfter c) s e) l)
+      go false e = rw e (sym (late c (leb-false (firstAfter c) s e)))
+
+  -- ---- chains
   -- what has grown from no chain is none
   never : (full : Bool) (rows c : List ℕ) → isChainIn starts ends full c ≡ false → isChainIn starts ends full (reverseAux rows c) ≡ false
   unfolding isChain
@@ -102,47 +134,59 @@ module _ (starts ends : List ℕ) where
   chain-out full s c e = rw e (and-false (isChainIn starts ends full c))
 
   -- ---- paths
-  abbrev onwards : Bool → ℕ → List ℕ → Bool
-  onwards full a rows = isPathFrom (graphEdge starts ends full) a (map nodeOf rows ++ (sink starts ∷ []))
+  -- the nodes of the rows that are to come, and the sink
+  abbrev ahead : List ℕ → List ℕ
+  ahead rows = map nodeOf rows ++ (sink starts ∷ [])
 
-  past : (full : Bool) (a : ℕ) (rows : List ℕ) → size + 1 ≤ a → onwards full a rows ≡ false
+  past : (full : Bool) (a : ℕ) (rows : List ℕ) → size + 1 ≤ a → joinsEach (graphEdge starts ends full) a (ahead rows) ≡ false
   past full a [] h = rw (none-on full a (size + 1) h)
   past full a (s ∷ rows) h = rw (none-on full a (s + 1) h)
 
-  ended : (full : Bool) (c : List ℕ) → isChainIn starts ends full c ≡ true → graphEdge starts ends full (firstAfter c) (sink starts) ≡ true
-  ended true [] h = sink-edge 0 (omega arith)
+  rows-ended : (c : List ℕ) → isChainIn starts ends true c ≡ true → fromRows true c (sink starts) ≡ true
+  rows-ended [] h = refl
+  rows-ended (r ∷ c) h =
+      let p = chain-parts (mayFollowIn starts ends true) size r c h in
+      rw (sink-edge (r + 1) (omega arith), rows-ended c (p .0))
+
+  ended : (full : Bool) (c : List ℕ) → isChainIn starts ends full c ≡ true → fromChain full c (sink starts) ≡ true
+  ended true c h = rw (sink-edge 0 (omega arith), rows-ended c h)
   ended false [] h = rw (eq-eqb (size + 1) (size + 1) refl)
-  ended full (r ∷ c) h = let k = last-row full r c h in rw (k .1) (sink-edge (suc r) (omega arith))
+  ended false (r ∷ c) h = absurd (no-bare r c h)
 
   -- the chain so far, and what is to come
-  grown : (full : Bool) (rows c : List ℕ) → isChainIn starts ends full c ≡ true → isChainIn starts ends full (reverseAux rows c) ≡ onwards full (firstAfter c) rows
+  grown : (full : Bool) (rows c : List ℕ) → isChainIn starts ends full c ≡ true
+      → isChainIn starts ends full (reverseAux rows c) ≡ (fromAll full c (ahead rows) && allJoined (graphEdge starts ends full) (ahead rows))
   grown full [] c h = rw (h, ended full c h)
   grown full (s ∷ rows) c h = go (ltb s size) refl (extendsIn starts ends full c s) refl (λ k. grown full rows (s ∷ c) k)
     where
       go : (t : Bool) → ltb s size ≡ t → (u : Bool) → extendsIn starts ends full c s ≡ u
-          → (isChainIn starts ends full (s ∷ c) ≡ true → isChainIn starts ends full (reverseAux rows (s ∷ c)) ≡ onwards full (suc s) rows)
-          → isChainIn starts ends full (reverseAux rows (s ∷ c)) ≡ (graphEdge starts ends full (firstAfter c) (s + 1) && onwards full (s + 1) rows)
+          → (isChainIn starts ends full (s ∷ c) ≡ true
+          → isChainIn starts ends full (reverseAux rows (s ∷ c)) ≡ (fromAll full (s ∷ c) (ahead rows) && allJoined (graphEdge starts ends full) (ahead rows)))
+          → isChainIn starts ends full (reverseAux rows (s ∷ c))
+          ≡ ((fromChain full c (s + 1) && fromAll full c (ahead rows))
+          && (joinsEach (graphEdge starts ends full) (s + 1) (ahead rows) && allJoined (graphEdge starts ends full) (ahead rows)))
       go true e true f ih =
-          let chain : isChainIn starts ends full (s ∷ c) ≡ true = chain-step full s c h e f in
-          rw (← step-edge full c s h (ltb-true s size e), f, add-one s) (ih chain)
+          ih (chain-step full s c h e f)
+          ∙ rw (from-longer full s c (ahead rows), ← step-edge full c s h (ltb-true s size e), f)
+          (and-assoc (fromAll full c (ahead rows)) (joinsEach (graphEdge starts ends full) (s + 1) (ahead rows)) (allJoined (graphEdge starts ends full) (ahead rows)))
       go true e false f ih = never full rows (s ∷ c) (chain-step full s c h e f) ∙ rw (← step-edge full c s h (ltb-true s size e), f)
       go false e u f ih =
           never full rows (s ∷ c) (chain-out full s c e)
-          ∙ rw (past full (s + 1) rows (omega (arith, ltb-false s size e))) (sym (and-false (graphEdge starts ends full (firstAfter c) (s + 1))))
+          ∙ rw (past full (s + 1) rows (omega (arith, ltb-false s size e))) (sym (and-false (fromChain full c (s + 1) && fromAll full c (ahead rows))))
 
-  -- every node of a path that ends at the sink is a row's
-  only-rows : (full : Bool) (a : ℕ) (nodes : List ℕ) → isPathFrom (graphEdge starts ends full) a (nodes ++ (sink starts ∷ [])) ≡ true → map nodeOf (map rowOf nodes) ≡ nodes
-  only-rows full a [] h = refl
-  only-rows full a (zero ∷ nodes) h = absurd (clash (graphEdge starts ends full a 0) (none-back full a) (and-both (graphEdge starts ends full a 0) _ h .0))
-  only-rows full a (suc b ∷ nodes) h =
+  -- every node to which the source has an edge, but for the sink, is a row's
+  only-rows : (full : Bool) (nodes : List ℕ) → joinsEach (graphEdge starts ends full) 0 (nodes ++ (sink starts ∷ [])) ≡ true → map nodeOf (map rowOf nodes) ≡ nodes
+  only-rows full [] h = refl
+  only-rows full (zero ∷ nodes) h = absurd (clash (graphEdge starts ends full 0 0) (none-back full 0) (and-both (graphEdge starts ends full 0 0) _ h .0))
+  only-rows full (suc b ∷ nodes) h =
       let z : suc b - 1 + 1 ≡ suc b = omega arith in
-      rw (z, only-rows full (suc b) nodes (and-both (graphEdge starts ends full a (suc b)) _ h .1))
+      rw (z, only-rows full nodes (and-both (graphEdge starts ends full 0 (suc b)) _ h .1))
 
 pub edges : EdgesHold
 unfolding isChain
 edges starts ends full = record {
   between-rows = between starts ends full;
   from-source = begins starts ends full;
-  chains-are-paths = λ rows. grown starts ends full rows [] refl;
-  paths-are-rows = only-rows starts ends full source;
+  chains-are-paths = λ rows. grown starts ends full rows [] refl ∙ rw (from-none starts ends full (map nodeOf rows ++ (sink starts ∷ [])));
+  paths-are-rows = λ nodes h. only-rows starts ends full nodes (and-both (joinsEach (graphEdge starts ends full) source (nodes ++ (sink starts ∷ []))) _ h .0);
 }

@@ -1,4 +1,4 @@
--- Document 01, "Parts, graph, paths": the graph as the paper draws it, over nodes, and that the chains are its paths from source to sink.
+-- Document 01, "Parts, graph, paths": the graph as the paper draws it, over nodes; and that the chains are its paths from source to sink without an overlapping pair (document 02, P5).
 use Prim.Native.Nat.{ℕ, zero, suc, _+_, _<_}
 use mathlib.Core.Path.{_≡_}
 use mathlib.Core.Bool.{Bool, true, false, not, cond, _&&_}
@@ -30,19 +30,25 @@ abbrev pub graphEdge : List ℕ → List ℕ → Bool → ℕ → ℕ → Bool
 graphEdge starts ends true a b = ltb a b && (leb b (sink starts) && not (nodesOverlap starts ends a b))
 graphEdge starts ends false a b = eqb a source && eqb b (sink starts)
 
--- from node a through the nodes of a list, each joined to the next by an edge
-abbrev pub isPathFrom : (ℕ → ℕ → Bool) → ℕ → List ℕ → Bool
-isPathFrom joins a [] = true
-isPathFrom joins a (b ∷ nodes) = joins a b && isPathFrom joins b nodes
+-- node a has an edge to each node of a list
+abbrev pub joinsEach : (ℕ → ℕ → Bool) → ℕ → List ℕ → Bool
+joinsEach joins a [] = true
+joinsEach joins a (b ∷ nodes) = joins a b && joinsEach joins a nodes
 
--- a path of the graph: from the source through these nodes to the sink
+-- each node of a list has an edge to every later one
+abbrev pub allJoined : (ℕ → ℕ → Bool) → List ℕ → Bool
+allJoined joins [] = true
+allJoined joins (a ∷ nodes) = joinsEach joins a nodes && allJoined joins nodes
+
+-- a path of the graph: from the source through these nodes to the sink, no two of which overlap, neighbours or not (document 02, P5)
 abbrev pub isGraphPath : List ℕ → List ℕ → Bool → List ℕ → Bool
-isGraphPath starts ends full nodes = isPathFrom (graphEdge starts ends full) source (nodes ++ (sink starts ∷ []))
+isGraphPath starts ends full nodes = allJoined (graphEdge starts ends full) (source ∷ (nodes ++ (sink starts ∷ [])))
 
 module _ (starts ends : List ℕ) (full : Bool) where
   pub record Edges : Type 0 where
-    -- a later row may stand right after another where their nodes have an edge
-    pub between-rows : (r s : ℕ) (c : List ℕ) → r < s → s < length starts → mayFollowIn starts ends full (r ∷ c) s ≡ graphEdge starts ends full (nodeOf r) (nodeOf s)
+    -- a later row may follow a chain where its node has an edge from the chain's last one and it may follow the rows before
+    pub between-rows : (r s : ℕ) (c : List ℕ) → r < s → s < length starts
+        → mayFollowIn starts ends full (r ∷ c) s ≡ (graphEdge starts ends full (nodeOf r) (nodeOf s) && mayFollowIn starts ends full c s)
     -- and may begin a chain where its node has an edge from the source
     pub from-source : (s : ℕ) → s < length starts → mayFollowIn starts ends full [] s ≡ graphEdge starts ends full source (nodeOf s)
     -- any rows, first row first, are a chain exactly when their nodes are a path of the graph

@@ -1,107 +1,219 @@
--- The capped count. The chains that go on by a row from s on are row s, where it extends the chain, those that go on from it, and those that go on by a
--- later row; what one part leaves of the cap is asked of the next. Assumes nothing.
+-- The capped count. The rows that are left stand in a lent list; a row that is taken leaves those behind it that may stand with it, which are put behind the
+-- others; what one part of the count leaves of the cap is asked of the next. Assumes nothing.
 use mathlib.Core.Path.{_≡_, refl, sym, ap, _∙_}
+use mathlib.Core.Logic.{_≢_}
 use Prim.Native.Nat.{ℕ, zero, suc, _+_, _-_, _≤_, _<_, min}
 use native.Mathlib.Omega.{arith}
+use native.Mathlib.Nat.{le-refl}
 use native.Mathlib.Numerals.{add-one}
-use mathlib.Core.Bool.{Bool, true, false, cond}
-use mathlib.Core.List.{List}
-use lib.Dec.{leb·zero}
-use lib.ListN.{length, getD}
-use Rattle.paths.specs.Count.{sumRowsFrom, rowCount, chainCount}
-use Rattle.paths.proofs.CountLaws.{row-up, chainCount-up}
+use mathlib.Core.Bool.{Bool, true, false}
+use mathlib.Core.List.{List, [], _∷_, _++_, append-nil, append-assoc}
+use lib.Dec.{eqb}
+use lib.ListN.{length, getD, set, replicate, length-set, length-replicate}
+use lib.Seq.{getD-set-same, getD-set-other}
+use borrow.Author.Count.{below-more}
+use borrow.Author.Tests.{eqb-true, eqb-false}
+use Rattle.paths.specs.Sums.{keep}
+use Rattle.paths.specs.Count.{chainCount, onward, rowsFrom}
+use Rattle.paths.proofs.CountLaws.{walk-counts, onward-first}
+use Rattle.paths.proofs.Demand.{chains-are-n}
 use Rattle.kplib.specs.Graph.{edge, chainsOf}
-use Rattle.kplib.specs.GraphWalk.{extendsAt, flagOf, Together, Stop, Stopping, Counting}
+use Rattle.kplib.specs.GraphWalk.{flagOf, Together, spanOf, Kept, Counting, Narrowed}
 use Rattle.kplib.proofs.TogetherLaws.{flags-count}
 
--- rows at which p fails add nothing
-sum-none : (p : ℕ → Bool) (w : ℕ → ℕ) (k s : ℕ) → ((j : ℕ) → s ≤ j → j < s + k → p j ≡ false) → sumRowsFrom p w k s ≡ 0
-unfolding sumRowsFrom
-sum-none p w zero s h = refl
-sum-none p w (suc k) s h = rw (h s (omega arith) (omega arith)) (sum-none p w k (suc s) (λ j a b. h j (omega arith) (omega arith)))
+-- ---- the rows in a stretch of the list
+span-same : (a b : List ℕ) (n i : ℕ) → ((j : ℕ) → j < i + n → getD a j 0 ≡ getD b j 0) → spanOf a n i ≡ spanOf b n i
+unfolding spanOf
+span-same a b zero i h = refl
+span-same a b (suc n) i h = rw (h i (omega arith), span-same a b n (suc i) (λ j l. h j (omega arith)))
 
-module _ (p : ℕ → Bool) (w : ℕ → ℕ) (n s : ℕ) where
-  step : s < n → sumRowsFrom p w (n - s) s ≡ cond (p s) (w s + sumRowsFrom p w (n - (s + 1)) (s + 1)) (sumRowsFrom p w (n - (s + 1)) (s + 1))
-  unfolding sumRowsFrom
-  step h =
-      let e : n - s ≡ suc (n - (s + 1)) = omega arith in
-      ap (λ (k : ℕ). sumRowsFrom p w k s) e ∙ rw (add-one s)
+-- one row more at its end
+span-end : (a : List ℕ) (n i : ℕ) → spanOf a (suc n) i ≡ spanOf a n i ++ (getD a (i + n) 0 ∷ [])
+unfolding spanOf
+span-end a zero i = let e : i + 0 ≡ i = omega arith in rw e
+span-end a (suc n) i =
+    let e : suc i + n ≡ i + suc n = omega arith in
+    ap (λ (l : List ℕ). getD a i 0 ∷ l) (span-end a n (suc i) ∙ ap (λ (j : ℕ). spanOf a n (suc i) ++ (getD a j 0 ∷ [])) e)
 
-  sum-yes : s < n → p s ≡ true → sumRowsFrom p w (n - s) s ≡ w s + sumRowsFrom p w (n - (s + 1)) (s + 1)
-  sum-yes h k = step h ∙ rw k
+-- its first row
+span-first : (a : List ℕ) {from to : ℕ} → from < to → spanOf a (to - from) from ≡ getD a from 0 ∷ spanOf a (to - (from + 1)) (from + 1)
+unfolding spanOf
+span-first a {from} {to} l =
+    let e : to - from ≡ suc (to - (from + 1)) = omega arith in
+    ap (λ (k : ℕ). spanOf a k from) e ∙ rw (add-one from)
 
-  sum-no : s < n → p s ≡ false → sumRowsFrom p w (n - s) s ≡ sumRowsFrom p w (n - (s + 1)) (s + 1)
-  sum-no h k = step h ∙ rw k
+span-none : (a : List ℕ) {from to : ℕ} → to ≤ from → spanOf a (to - from) from ≡ []
+unfolding spanOf
+span-none a {from} {to} l = let e : to - from ≡ 0 = omega arith in ap (λ (k : ℕ). spanOf a k from) e
 
-module _ (joins : ℕ → ℕ → Bool) (n : ℕ) where
-  -- how many chains go on by a row from s on from a chain that ends at this node
-  abbrev pub onward : ℕ → ℕ → ℕ
-  onward end s = sumRowsFrom (extendsAt joins true end) (rowCount joins n) (n - s) s
+-- ---- what stays
+pub kept-all : {to : ℕ} {rows : List ℕ} → ((i : ℕ) → getD rows i 0 < 64) → Kept to rows rows
+kept-all h = record { long = refl; rows = h; before = λ i l. refl }
 
-  row-is : (s : ℕ) → s < n → rowCount joins n s ≡ suc (onward (s + 1) (s + 1))
-  unfolding extendsAt
-  row-is s h = row-up joins n s h ∙ rw (add-one s)
+pub kept-on : {to end : ℕ} {a b c : List ℕ} → to ≤ end → Kept to a b → Kept end b c → Kept to a c
+kept-on l h k = record { long = k .long ∙ h .long; rows = k .rows; before = λ i q. k .before i (omega arith) ∙ h .before i q }
 
-  -- no row from the node's stop on extends a chain that ends there
-  onward-none : {end stop s : ℕ} → Stop joins n end stop → stop ≤ s → onward end s ≡ 0
-  onward-none {end} {stop} {s} h l = sum-none (extendsAt joins true end) (rowCount joins n) (n - s) s (λ j a b. h .none j (omega arith) (omega arith))
+-- a row is stored at or behind place `to`
+kept-store : {to end s : ℕ} {a b : List ℕ} → Kept to a b → to ≤ end → end < length b → s < 64 → Kept to a (set b end s)
+kept-store {to} {end} {s} {a} {b} h l room small = record {
+  long = length-set b end s ∙ h .long;
+  rows = λ i. go i (eqb i end) refl;
+  before = λ i q. let ne : i ≢ end = omega arith in getD-set-other b end i s 0 ne ∙ h .before i q;
+}
+  where
+    go : (i : ℕ) (t : Bool) → eqb i end ≡ t → getD (set b end s) i 0 < 64
+    go i true e = let p : i ≡ end = eqb-true i end e in rw (p, getD-set-same b end s 0 room) small
+    go i false e = rw (getD-set-other b end i s 0 (eqb-false i end e)) (h .rows i)
 
-  pub stopped : {end stop s cap : ℕ} → Stop joins n end stop → stop ≤ s → cap ≡ cap - onward end s
-  stopped h l = omega (arith, onward-none h l)
+-- ---- the rows that a row taken leaves
+pub record Narrowing (p : ℕ → Bool) (from to : ℕ) (old new : List ℕ) (i end : ℕ) : Type 0 where
+  pub kept : Kept to old new
+  pub at-least : from ≤ i
+  pub at-most : i ≤ to
+  pub low : to ≤ end
+  pub high : end - to ≤ i - from
+  pub left : spanOf new (end - to) to ++ keep p (spanOf old (to - i) i) ≡ keep p (spanOf old (to - from) from)
 
-  module _ (end s cap left : ℕ) (found : Bool) (h : s < n) (f : found ≡ extendsAt joins true end s) where
-    -- row s does not extend the chain
-    pub skip-row : found ≡ false → left ≡ cap - onward end (s + 1) → left ≡ cap - onward end s
-    skip-row k e = omega (arith, sum-no (extendsAt joins true end) (rowCount joins n) n s h (sym f ∙ k))
+pub narrowing-begin : (p : ℕ → Bool) {from to : ℕ} {rows : List ℕ} → Counting rows from to → Narrowing p from to rows rows from to
+unfolding spanOf
+narrowing-begin p {from} {to} {rows} h =
+    let z : to - to ≡ 0 = omega arith in
+    record { kept = kept-all (h .small); at-least = omega arith; at-most = h .in-order; low = omega arith; high = omega arith; left = rw z }
 
-    -- row s does, and so do chains go on from it
-    pub take-row : found ≡ true → {below : ℕ} → below ≡ cap - 1 - onward (s + 1) (s + 1) → left ≡ below - onward end (s + 1) → left ≡ cap - onward end s
-    take-row k eb e = omega (arith, sum-yes (extendsAt joins true end) (rowCount joins n) n s h (sym f ∙ k), row-is s h)
+module _ {p : ℕ → Bool} {from to : ℕ} {old new : List ℕ} {i end : ℕ} (h : Narrowing p from to old new i end) where
+  pub narrowing-room : Counting old from to → i < to → end < length new
+  narrowing-room c l = omega (arith, h .kept .long, c .long, c .room, h .high, h .at-least, h .low)
 
-    -- row s does, and none goes on from it
-    pub lone-row : found ≡ true → {stop : ℕ} → Stop joins n (s + 1) stop → stop ≤ s + 1 → left ≡ cap - 1 - onward end (s + 1) → left ≡ cap - onward end s
-    lone-row k p l e = take-row k (stopped p l) e
+  pub narrowing-done : to ≤ i → Narrowed p from to old new end
+  narrowing-done l = record {
+    kept = h .kept;
+    low = h .low;
+    high = omega (arith, h .high, h .at-most);
+    left = sym (append-nil (spanOf new (end - to) to)) ∙ ap (λ (r : List ℕ). spanOf new (end - to) to ++ keep p r) (sym (span-none old l)) ∙ h .left;
+  }
 
-  same-rows : (p q : ℕ → Bool) (w : ℕ → ℕ) → ((s : ℕ) → p s ≡ q s) → (k s : ℕ) → sumRowsFrom p w k s ≡ sumRowsFrom q w k s
-  unfolding sumRowsFrom
-  same-rows p q w h zero s = refl
-  same-rows p q w h (suc k) s = rw (h s, same-rows p q w h k (suc s))
+  module _ (l : i < to) (room : end < length new) where
+    read : getD new i 0 ≡ getD old i 0
+    read = h .kept .before i l
 
-  pub full-count : (full : Bool) (cap left : ℕ) → full ≡ true → (cap ≡ 0 → ⊥) → left ≡ cap - 1 - onward 0 0 → cap - 1 - left + 1 ≡ min (chainCount joins n full) cap
-  unfolding extendsAt
-  full-count full cap left f z e =
-      let a : n - 0 ≡ n = omega arith in
-      let b : onward 0 0 ≡ sumRowsFrom (λ s. true) (rowCount joins n) n 0 =
-      ap (λ (k : ℕ). sumRowsFrom (extendsAt joins true 0) (rowCount joins n) k 0) a ∙ same-rows (extendsAt joins true 0) (λ s. true) (rowCount joins n) (λ s. rw (leb·zero s)) n 0 in
-      rw f (omega (arith, b, chainCount-up joins n))
+    stored : Kept to old (set new end (getD new i 0))
+    stored = kept-store (h .kept) (h .low) room (h .kept .rows i)
 
-  pub bare-count : (full : Bool) (cap : ℕ) → full ≡ false → (cap ≡ 0 → ⊥) → 1 ≡ min (chainCount joins n full) cap
-  unfolding chainCount
-  bare-count full cap f z = rw f (omega arith)
+    -- what stands behind place `to` is not touched by the store
+    same : spanOf (set new end (getD new i 0)) (end - to) to ≡ spanOf new (end - to) to
+    same = span-same (set new end (getD new i 0)) new (end - to) to (λ j q. let ne : j ≢ end = omega (arith, h .low) in getD-set-other new end j (getD new i 0) 0 ne)
 
-module _ {joins : ℕ → ℕ → Bool} {stops : List ℕ} {end row : ℕ} (h : Counting joins stops end row) where
-  -- the stop of the chain's end
-  pub end-stop : Stop joins (getD stops 0 0) end (getD stops end 0)
-  end-stop = h .stopping .each end (omega (arith, h .end-in, h .row-in))
+    next : spanOf old (to - i) i ≡ getD new i 0 ∷ spanOf old (to - (i + 1)) (i + 1)
+    next = span-first old l ∙ ap (λ (s : ℕ). s ∷ spanOf old (to - (i + 1)) (i + 1)) (sym read)
 
-  -- a row before it is one of the rows
-  pub row-before : row < getD stops end 0 → row < getD stops 0 0
-  row-before l = omega (arith, end-stop .within)
+    pub narrowing-skip : p (getD new i 0) ≡ false → Narrowing p from to old (set new end (getD new i 0)) (i + 1) end
+    narrowing-skip e = record {
+      kept = stored;
+      at-least = omega (arith, h .at-least);
+      at-most = omega arith;
+      low = h .low;
+      high = omega (arith, h .high);
+      left = rw same (ap (λ (r : List ℕ). spanOf new (end - to) to ++ r) (sym (ap (keep p) next ∙ rw e)) ∙ h .left);
+    }
 
-  -- the chain, and the chain with this row, with the next row
-  pub next-counting : row < getD stops 0 0 → Counting joins stops end (row + 1)
-  next-counting l = record { stopping = h .stopping; few = h .few; end-in = omega (arith, h .end-in); row-in = omega arith }
+    longer : spanOf (set new end (getD new i 0)) (end + 1 - to) to ≡ spanOf new (end - to) to ++ (getD new i 0 ∷ [])
+    longer =
+        let a : end + 1 - to ≡ suc (end - to) = omega (arith, h .low) in
+        let b : to + (end - to) ≡ end = omega (arith, h .low) in
+        ap (λ (n : ℕ). spanOf (set new end (getD new i 0)) n to) a ∙ span-end (set new end (getD new i 0)) (end - to) to
+        ∙ rw (same, b, getD-set-same new end (getD new i 0) 0 room)
 
-  pub longer-counting : row < getD stops 0 0 → Counting joins stops (row + 1) (row + 1)
-  longer-counting l = record { stopping = h .stopping; few = h .few; end-in = omega arith; row-in = omega arith }
+    pub narrowing-take : p (getD new i 0) ≡ true → Narrowing p from to old (set new end (getD new i 0)) (i + 1) (end + 1)
+    narrowing-take e = record {
+      kept = stored;
+      at-least = omega (arith, h .at-least);
+      at-most = omega arith;
+      low = omega (arith, h .low);
+      high = omega (arith, h .high, h .at-least, h .low);
+      left = rw (longer, append-assoc) (ap (λ (r : List ℕ). spanOf new (end - to) to ++ r) (sym (ap (keep p) next ∙ rw e)) ∙ h .left);
+    }
 
--- the empty chain, which ends at the source, and the first row
-pub counting-begin : {joins : ℕ → ℕ → Bool} {v : ℕ} {stops : List ℕ} → Stopping joins v stops → v ≤ 64 → Counting joins stops 0 0
-counting-begin h l = record { stopping = rw (h .source) h; few = omega (arith, h .source); end-in = omega arith; row-in = omega arith }
+-- ---- the walk
+module _ {rows : List ℕ} {from to : ℕ} (h : Counting rows from to) where
+  -- the rows without the first
+  pub next-counting : from < to → {new : List ℕ} → Kept to rows new → Counting new (from + 1) to
+  next-counting l k = record { long = k .long ∙ h .long; small = k .rows; in-order = omega arith; few = omega (arith, h .few); room = omega (arith, h .room) }
+
+  -- those that the first row leaves
+  pub longer-counting : {p : ℕ → Bool} {new : List ℕ} {end : ℕ} → from < to → Narrowed p (from + 1) to rows new end → Counting new to end
+  longer-counting l n = record {
+    long = n .kept .long ∙ h .long;
+    small = n .kept .rows;
+    in-order = n .low;
+    few = omega (arith, n .high, h .few);
+    room = omega (arith, n .high, n .low, h .few, h .room);
+  }
+
+module _ (joins : ℕ → ℕ → Bool) where
+  pub none-left : (rows : List ℕ) {from to : ℕ} (cap : ℕ) → to ≤ from → cap ≡ cap - onward joins [] (spanOf rows (to - from) from)
+  unfolding onward
+  none-left rows cap l = rw (span-none rows l) (omega arith)
+
+  -- the first row, the chains that go on from it, and those without it
+  pub row-taken : {rows mid low : List ℕ} {from to end below left : ℕ} (cap : ℕ) → from < to → Narrowed (joins (getD rows from 0)) (from + 1) to rows mid end → Kept end mid low
+      → below ≡ cap - 1 - onward joins [] (spanOf mid (end - to) to) → left ≡ below - onward joins [] (spanOf low (to - (from + 1)) (from + 1))
+      → left ≡ cap - onward joins [] (spanOf rows (to - from) from)
+  row-taken {rows} {mid} {low} {from} {to} {end} {below} {left} cap l n k a b =
+      let rest = spanOf rows (to - (from + 1)) (from + 1) in
+      let same : spanOf low (to - (from + 1)) (from + 1) ≡ rest =
+      span-same low rows (to - (from + 1)) (from + 1) (λ j q. k .before j (omega (arith, n .low)) ∙ n .kept .before j (omega arith)) in
+      let first = onward-first joins (getD rows from 0) rest in
+      rw (span-first rows l) (omega (arith, first, (rw (n .left) at a), (rw same at b)))
+
+pub kept-both : {p : ℕ → Bool} {rows mid low new : List ℕ} {from to end : ℕ} → Narrowed p from to rows mid end → Kept end mid low → Kept to low new → Kept to rows new
+kept-both n k m = kept-on (omega arith) (kept-on (n .low) (n .kept) k) m
+
+-- ---- where it begins
+-- the first r rows stand in their places
+pub record Rows (rows : List ℕ) (r : ℕ) : Type 0 where
+  pub long : length rows ≡ 4160
+  pub small : (i : ℕ) → getD rows i 0 < 64
+  pub are : (i : ℕ) → i < r → getD rows i 0 ≡ i
+
+zeros-small : (n i : ℕ) → getD (replicate {A = ℕ} n 0) i 0 < 64
+zeros-small zero i = omega arith
+zeros-small (suc n) zero = omega arith
+zeros-small (suc n) (suc i) = zeros-small n i
+
+pub rows-begin : Rows (replicate {A = ℕ} 4160 0) 0
+rows-begin = record { long = length-replicate {A = ℕ} 4160 0; small = zeros-small 4160; are = λ i l. absurd (omega arith) }
+
+pub rows-on : {rows : List ℕ} {r : ℕ} → Rows rows r → r < 64 → Rows (set rows r r) (r + 1)
+rows-on {rows} {r} h l =
+    let room : r < length rows = omega (arith, h .long) in
+    let k : Kept r rows (set rows r r) = kept-store (kept-all (h .small)) (le-refl r) room l in
+    record {
+      long = length-set rows r r ∙ h .long;
+      small = k .rows;
+      are = below-more (λ i. getD (set rows r r) i 0 ≡ i) r (λ i q. k .before i q ∙ h .are i q) (getD-set-same rows r r 0 (omega (arith, h .long)));
+    }
+
+rows-are : (rows : List ℕ) (n i : ℕ) → ((j : ℕ) → j < i + n → getD rows j 0 ≡ j) → spanOf rows n i ≡ rowsFrom n i
+unfolding spanOf rowsFrom
+rows-are rows zero i h = refl
+rows-are rows (suc n) i h = rw (h i (omega arith), rows-are rows n (suc i) (λ j l. h j (omega arith)))
+
+pub rows-done : {rows : List ℕ} {r v : ℕ} → Rows rows r → r ≡ v → v ≤ 64 → Counting rows 0 v × (spanOf rows v 0 ≡ rowsFrom v 0)
+rows-done {rows} {r} {v} h e l = (
+  record { long = h .long; small = h .small; in-order = omega arith; few = omega arith; room = omega arith },
+  rows-are rows v 0 (λ j q. h .are j (omega arith)),
+)
+
+pub bare-count : (joins : ℕ → ℕ → Bool) (n : ℕ) (full : Bool) (cap : ℕ) → full ≡ false → (cap ≡ 0 → ⊥) → 1 ≡ min (chainCount joins n full) cap
+unfolding chainCount
+bare-count joins n full cap f z = rw f (omega arith)
 
 -- what the walk leaves of the cap, but for the empty chain, is what N leaves of it
 module _ (starts ends : List ℕ) (together : List Bool) (laid : Together (edge starts ends) (length starts) together) where
-  pub graph-count : {stops : List ℕ} (full : Bool) (cap left : ℕ) → Stopping (flagOf together) (length starts) stops → full ≡ true → (cap ≡ 0 → ⊥)
-      → left ≡ cap - 1 - onward (flagOf together) (getD stops 0 0) 0 0 → cap - 1 - left + 1 ≡ min (chainsOf starts ends full) cap
-  graph-count full cap left s f z e =
-      full-count (flagOf together) (length starts) full cap left f z (rw (s .source) at e) ∙ ap (λ (n : ℕ). min n cap) (flags-count starts ends together laid full)
+  pub graph-count : (rows : List ℕ) (full : Bool) (cap left : ℕ) → spanOf rows (length starts) 0 ≡ rowsFrom (length starts) 0 → full ≡ true → (cap ≡ 0 → ⊥)
+      → left ≡ cap - 1 - onward (flagOf together) [] (spanOf rows (length starts - 0) 0) → cap - 1 - left + 1 ≡ min (chainsOf starts ends full) cap
+  graph-count rows full cap left s f z e =
+      let a : length starts - 0 ≡ length starts = omega arith in
+      let walk = walk-counts (flagOf together) (length starts) in
+      let n = chains-are-n (flagOf together) (length starts) true in
+      rw (← flags-count starts ends together laid full, f) (omega (arith, walk, n, (rw (a, s) at e)))

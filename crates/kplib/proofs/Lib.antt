@@ -2,7 +2,6 @@
 pub mod GraphLaws
 pub mod TogetherLaws
 pub mod LinkLaws
-mod StopLaws
 mod CappedLaws
 pub mod WordLaws
 pub mod SimilarityLaws

@@ -81,5 +81,5 @@ module _ {s : Settings} {t : Table} {p : Parts} {plan : Plan} {codes : List ℕ}
       let r = f .read in
       record {
         read = record { walk = r .walk; short = omega (arith, r .short, h .checked .sizes-are); few = r .few };
-        ended = ended-in (t .starts) (t .ends) together g (rw (is, h .checked .sizes-are) at e);
+        ended = ended-in (t .starts) (t .ends) together g (s .full) (rw (is, h .checked .sizes-are) at e);
       }

@@ -120,6 +120,7 @@ module _ {q : Told} {room : ℕ} {links keys : List ℕ} {at : Progress} (h : Se
       end-is = he ∙ end-at (parentsOf links) (lastsOf links) e (λ i p z. g .run .queue .tree .links i p (omega (arith, entry-in)));
       size-is = size-back hs ∙ hs;
       tree = g .run .queue .tree;
+      walk = walk-at e entry-in;
       order = k .1 .order;
     }
 

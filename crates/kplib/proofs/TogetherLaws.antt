@@ -1,24 +1,22 @@
 -- The flags of the pairs of rows: how they are laid, row by row, and that they give the graph's own search and count,
--- for the graph's rule asks an edge only of a chain's last row and a later one. Assumes nothing.
+-- for the graph's rule asks an edge only of a row of a chain and a later one. Assumes nothing.
 use mathlib.Core.Path.{_≡_, refl, ap, _∙_}
-use Prim.Native.Nat.{ℕ, suc, _+_, _*_, _≤_, _<_}
+use Prim.Native.Nat.{ℕ, _+_, _*_, _≤_, _<_}
 use native.Mathlib.Omega.{arith}
 use mathlib.Core.Logic.{_≢_}
 use borrow.Author.Count.{below-more}
 use mathlib.Core.Bool.{Bool, true, false, _&&_}
-use mathlib.Core.List.{List, [], _∷_, map}
-use lib.Dec.{leb}
-use lib.ListN.{length, set, length-set}
+use mathlib.Core.List.{List, map}
+use lib.ListN.{length, getD, set, length-set}
 use lib.Seq.{getD-set-same, getD-set-other}
-use borrow.Author.Tests.{leb-true}
 use Rattle.paths.specs.Best.{best}
 use Rattle.paths.specs.Chains.{extends, isChain}
 use Rattle.paths.specs.Count.{mayFollow, chainCount}
 use Rattle.paths.specs.Queue.{Ended}
 use Rattle.paths.specs.Search.{none}
-use Rattle.paths.proofs.RuleLaws.{scored-same, left-same, chainCount-same}
+use Rattle.paths.proofs.RuleLaws.{scored-same, left-same, extends-same, chainCount-same}
 use Rattle.kplib.specs.Graph.{edge, mayFollowIn, chainsOf}
-use Rattle.kplib.specs.GraphWalk.{flagOf, Together, RowLaid}
+use Rattle.kplib.specs.GraphWalk.{flagOf, Together, RowLaid, Flagged}
 
 -- ---- how they are laid
 module _ (joins : ℕ → ℕ → Bool) (r : ℕ) (t : List Bool) where
@@ -53,28 +51,39 @@ module _ {joins : ℕ → ℕ → Bool} {v r : ℕ} {t : List Bool} (h : LaidBef
   pub pairs-done : v ≤ r → Together joins v t
   pairs-done e i s q l = h .flags i (omega arith) s q l
 
--- ---- what they give
--- two edges that agree on the pairs of the rows extend any chain alike
-extends-same : (joins joins′ : ℕ → ℕ → Bool) (v : ℕ) → ((r s : ℕ) → r < s → s < v → joins r s ≡ joins′ r s)
-    → (full : Bool) (c : List ℕ) (s : ℕ) → s < v → extends (mayFollow joins full) c s ≡ extends (mayFollow joins′ full) c s
-unfolding extends
-extends-same joins joins′ v same full [] s l = refl
-extends-same joins joins′ v same full (r ∷ c) s l = go (leb (suc r) s) refl
-  where
-    go : (t : Bool) → leb (suc r) s ≡ t → (t && (full && joins r s)) ≡ (t && (full && joins′ r s))
-    go true e = rw (same r s (leb-true (suc r) s e) l)
-    go false e = refl
+-- ---- what is left of other flags beside them: the first s have both, and the others are as they were
+pub record BothTo (p : ℕ → Bool) (old new : List Bool) (s : ℕ) : Type 0 where
+  pub long : length new ≡ 64
+  pub both : (j : ℕ) → j < s → getD new j false ≡ (getD old j false && p j)
+  pub same : (j : ℕ) → s ≤ j → getD new j false ≡ getD old j false
 
+pub both-begin : (p : ℕ → Bool) {may : List Bool} → length may ≡ 64 → BothTo p may may 0
+both-begin p h = record { long = h; both = λ j l. absurd (omega arith); same = λ j l. refl }
+
+module _ {p : ℕ → Bool} {old new : List Bool} {s : ℕ} (h : BothTo p old new s) where
+  pub both-on : s < 64 → {flag : Bool} → flag ≡ (getD new s false && p s) → BothTo p old (set new s flag) (s + 1)
+  both-on l {flag} e = record {
+    long = length-set new s flag ∙ h .long;
+    both = below-more (λ j. getD (set new s flag) j false ≡ (getD old j false && p j)) s
+        (λ j q. let ne : j ≢ s = omega arith in getD-set-other new s j flag false ne ∙ h .both j q)
+        (getD-set-same new s flag false (omega (arith, h .long)) ∙ e ∙ ap (λ (t : Bool). t && p s) (h .same s (omega arith)));
+    same = λ j q. let ne : j ≢ s = omega arith in getD-set-other new s j flag false ne ∙ h .same j (omega arith);
+  }
+
+  pub both-done : 64 ≤ s → Flagged (λ j. getD old j false && p j) new
+  both-done l = record { long = h .long; flag = λ j q. h .both j (omega arith) }
+
+-- ---- what they give
 module _ (starts ends : List ℕ) (together : List Bool) (laid : Together (edge starts ends) (length starts) together) where
   -- the flags extend a chain as the graph's rule does
   extends-in : (full : Bool) (c : List ℕ) (s : ℕ) → isChain (mayFollow (flagOf together) full) (length starts) c ≡ true → s < length starts
       → extends (mayFollow (flagOf together) full) c s ≡ extends (mayFollowIn starts ends full) c s
-  extends-in full c s h l = extends-same (flagOf together) (edge starts ends) (length starts) laid full c s l
+  extends-in full c s h l = extends-same (flagOf together) (edge starts ends) (length starts) laid full c s h l
 
   -- the search by the flags is the search by the graph's rule
-  pub ended-in : {R : Type 0} {le : R → R → Bool} {start : R} {score : List ℕ → R} {full : Bool} {D : List ℕ → ℕ} {steps k : ℕ} {b : R} {complete : Bool}
+  pub ended-in : {R : Type 0} {le : R → R → Bool} {start : R} {score : List ℕ → R} (full : Bool) {D : List ℕ → ℕ} {steps k : ℕ} {b : R} {complete : Bool}
       → Ended le start score (mayFollow (flagOf together) full) (length starts) D steps k b complete → Ended le start score (mayFollowIn starts ends full) (length starts) D steps k b complete
-  ended-in {le = le} {start = start} {score = score} {full = full} {D = D} {steps = steps} h =
+  ended-in {le = le} {start = start} {score = score} full {D = D} {steps = steps} h =
       let scored = scored-same (mayFollow (flagOf together) full) (mayFollowIn starts ends full) (length starts) (extends-in full) D steps in
       let left = left-same (mayFollow (flagOf together) full) (mayFollowIn starts ends full) (length starts) (extends-in full) D steps in
       record {

@@ -1,4 +1,4 @@
--- Document 01, "Parts, graph, paths": nodes, edges, chains and their number N. Chains are written last row first (paths, specs/Chains).
+-- Document 01, "Parts, graph, paths", and document 02, P5: nodes, edges, chains and their number N. Chains are written last row first (paths, specs/Chains).
 use Prim.Native.Nat.{ℕ, zero, suc, _+_, _-_, min}
 use mathlib.Core.Bool.{Bool, not}
 use mathlib.Core.List.{List}
@@ -21,7 +21,7 @@ rowOf node = node - 1
 unfoldable pub edge : List ℕ → List ℕ → ℕ → ℕ → Bool
 edge starts ends r s = not (overlapsOf (getD starts r 0) (getD ends r 0) (getD starts s 0) (getD ends s 0))
 
--- the graph's rule: row s may stand right after chain c. In a bare graph none may; else only c's last row is asked
+-- the graph's rule: row s may follow chain c. In a bare graph none may; else every row of c is asked (document 02, P5)
 abbrev pub mayFollowIn : List ℕ → List ℕ → Bool → List ℕ → ℕ → Bool
 mayFollowIn starts ends full c s = mayFollow (edge starts ends) full c s
 
@@ -32,7 +32,7 @@ extendsIn starts ends full = extends (mayFollowIn starts ends full)
 abbrev pub isChainIn : List ℕ → List ℕ → Bool → List ℕ → Bool
 isChainIn starts ends full = isChain (mayFollowIn starts ends full) (length starts)
 
--- N: 1 in a bare graph; else 1 plus, for each row r, c(r). It is `chainsFrom .. []`, the number of chains (GraphLaws)
+-- N: the number of ascending lists of rows without an overlapping pair, the empty one counted; 1 in a bare graph
 abbrev pub chainsOf : List ℕ → List ℕ → Bool → ℕ
 chainsOf starts ends full = chainCount (edge starts ends) (length starts) full
 

@@ -1,15 +1,10 @@
--- The graph's rule by the node at which a chain ends, and as a table of flags, as the walks over the rows ask it. No public promise cites this file.
-use Prim.Native.Nat.{ℕ, zero, suc, _+_, _*_, _≤_, _<_}
+-- The graph's rule as a table of flags, and the walks that ask it. No public promise cites this file.
+use Prim.Native.Nat.{ℕ, zero, suc, _+_, _-_, _*_, _≤_, _<_}
 use mathlib.Core.Path.{_≡_}
-use mathlib.Core.Bool.{Bool, true, false, _&&_}
-use mathlib.Core.List.{List}
-use lib.Dec.{leb}
+use mathlib.Core.Bool.{Bool, false}
+use mathlib.Core.List.{List, [], _∷_}
 use lib.ListN.{length, getD}
-
--- whether row s extends a chain that ends at this node, 0 being the source
-unfoldable pub extendsAt : (ℕ → ℕ → Bool) → Bool → ℕ → ℕ → Bool
-extendsAt joins full zero s = leb 0 s && full
-extendsAt joins full (suc r) s = leb (suc r) s && (full && joins r s)
+use Rattle.paths.specs.Sums.{keep}
 
 -- the flag of rows r and s, the later last: whether they may stand together
 abbrev pub flagOf : List Bool → ℕ → ℕ → Bool
@@ -25,19 +20,35 @@ pub record RowLaid (joins : ℕ → ℕ → Bool) (v r : ℕ) (t u : List Bool) 
   pub laid : (s : ℕ) → r < s → s < v → flagOf u r s ≡ joins r s
   pub kept : (i : ℕ) → i < 64 * r → getD u i false ≡ getD t i false
 
--- from this row on none of the v rows extends a chain that ends at this node
-pub record Stop (joins : ℕ → ℕ → Bool) (v end stop : ℕ) : Type 0 where
-  pub within : stop ≤ v
-  pub none : (s : ℕ) → stop ≤ s → s < v → extendsAt joins true end s ≡ false
+-- ---- the rows that may follow, one flag for each
+pub record Flagged (p : ℕ → Bool) (may : List Bool) : Type 0 where
+  pub long : length may ≡ 64
+  pub flag : (s : ℕ) → s < 64 → getD may s false ≡ p s
 
--- the stop of each node; the source's is the number of rows
-pub record Stopping (joins : ℕ → ℕ → Bool) (v : ℕ) (stops : List ℕ) : Type 0 where
-  pub source : getD stops 0 0 ≡ v
-  pub each : (end : ℕ) → end ≤ v → Stop joins v end (getD stops end 0)
+-- ---- the rows that are left to go on by, in a list of rows that is lent to the count
 
--- a count of the chains that go on by this row or a later one from a chain that ends at this node
-pub record Counting (joins : ℕ → ℕ → Bool) (stops : List ℕ) (end row : ℕ) : Type 0 where
-  pub stopping : Stopping joins (getD stops 0 0) stops
-  pub few : getD stops 0 0 ≤ 64
-  pub end-in : end ≤ row
-  pub row-in : row ≤ getD stops 0 0
+-- n of its rows from place i on
+unfoldable pub spanOf : List ℕ → ℕ → ℕ → List ℕ
+spanOf rows zero i = []
+spanOf rows (suc n) i = getD rows i 0 ∷ spanOf rows n (suc i)
+
+-- it holds rows only, and before this place those that it held
+pub record Kept (to : ℕ) (old new : List ℕ) : Type 0 where
+  pub long : length new ≡ length old
+  pub rows : (i : ℕ) → getD new i 0 < 64
+  pub before : (i : ℕ) → i < to → getD new i 0 ≡ getD old i 0
+
+-- the rows from place `from` to place `to` are left, and behind them is room for what each row that is taken leaves
+pub record Counting (rows : List ℕ) (from to : ℕ) : Type 0 where
+  pub long : length rows ≡ 4160
+  pub small : (i : ℕ) → getD rows i 0 < 64
+  pub in-order : from ≤ to
+  pub few : to ≤ from + 64
+  pub room : to + 64 * (to - from) ≤ 4160
+
+-- behind place `to`, up to `end`, stand those of the rows from `from` to `to` at which p holds
+pub record Narrowed (p : ℕ → Bool) (from to : ℕ) (old new : List ℕ) (end : ℕ) : Type 0 where
+  pub kept : Kept to old new
+  pub low : to ≤ end
+  pub high : end - to ≤ to - from
+  pub left : spanOf new (end - to) to ≡ keep p (spanOf old (to - from) from)

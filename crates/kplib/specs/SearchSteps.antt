@@ -135,6 +135,7 @@ pub record Extending (plan : Plan) (together : List Bool) (sizes : List ℤ) (li
   pub end-is : end ≡ firstAfter (chainOf links entry)
   pub size-is : size ≡ sizeOf sizes (reverse (chainOf links entry))
   pub tree : Tree (followsBy plan together) (length sizes) (parentsOf links) (lastsOf links) used
+  pub walk : Walk (parentsOf links) (lastsOf links) entry 64
   pub order : Ordered keys queued
 
 -- an entry whose chain is to be scored

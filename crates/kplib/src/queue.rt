@@ -6,9 +6,11 @@ ghost use Prim.Native.Nat.{_+_, _<_, _≤_};
 ghost use lib.ListN.{length, getD, drop};
 ghost use lib.IntN.{natAbs, _-ℤ_};
 ghost use mathlib.Core.List.{reverse};
+ghost use Rattle.paths.specs.Count.{mayFollow};
 ghost use Rattle.paths.specs.Heap.{Ordered, Taken};
 ghost use Rattle.paths.specs.Queue.{Walk, Queued, keyOf, entryOf};
 ghost use Rattle.kplib.specs.Sums.{sizeOf};
+ghost use Rattle.kplib.specs.GraphWalk.{flagOf, Flagged};
 ghost use Rattle.kplib.specs.Search.{distanceTo};
 ghost use Rattle.kplib.specs.SearchSteps.{parentsOf, lastsOf, chainOf, Rowed, Extending, followsBy, endAt};
 use crate::heap::put_key;
@@ -16,8 +18,8 @@ use crate::heap::take_least;
 use crate::plan::Plan;
 use crate::vargraph::Node;
 use crate::vargraph::Row;
-use crate::vargraph::extends;
 use crate::vargraph::node_of;
+use crate::vargraph::stand_with;
 
 // Takes the nearest entry, the earliest queued among equals, out of the queue.
 pub(crate) fn take_next(keys: &mut [u64], queued: usize) -> usize
@@ -86,6 +88,21 @@ pub(crate) fn end_node(links: &[u32], entry: usize) -> Node
     node_of(Row(links[entry] % 64))
 }
 
+// Which rows may follow an entry's chain: every row of it is asked.
+fn followers(together: &[bool; 4096], full: bool, links: &[u32], entry: usize) -> [bool; 64]
+    requires { ⌜ Walk (parentsOf (now links)) (lastsOf (now links)) entry 64 ⌝ }
+    ensures { λ may. ⌜ Flagged (mayFollow (flagOf (now (together .entry))) full (chainOf (now (links .entry)) entry)) may ⌝ }
+{
+    let mut may = [full; 64];
+    let mut i = entry;
+    while i > 0 {
+        let link = links[i];
+        stand_with(together, Row(link % 64), &mut may);
+        i = (link / 64) as usize;
+    }
+    may
+}
+
 // Queues the extensions of an entry's chain, highest node first: behind the `used` entries, and to the `queued` keys. Returns
 // how many. `end` is the node at which the chain ends, `size` its size.
 pub(crate) fn queue_extensions(
@@ -108,13 +125,14 @@ pub(crate) fn queue_extensions(
         (parentsOf (now (links .exit))) (lastsOf (now (links .exit))) (now (keys .exit)) r ⌝ }
     ensures { λ r. ⌜ queued + r ≤ length (now (keys .exit)) ⌝ }
 {
-    let full = plan.s.full;
+    let may = followers(together, plan.s.full, links, entry);
+    let first = end.0 as usize;
     let parent = (entry as u32) * 64;
     let mut added: usize = 0;
     let mut r = sizes.len();
-    while r > 0 {
+    while r > first {
         r -= 1;
-        if extends(together, full, end, Row(r as u32)) {
+        if may[r] {
             let new = used + added;
             links[new] = parent + (r as u32);
             let k = key(size + sizes[r], plan.target, new);

@@ -3,12 +3,13 @@ use metrics::overlaps;
 use metrics::refusals::ACCEPTED;
 use params::checks::count_fault;
 ghost use mathlib.Core.Path.{_≡_};
-ghost use mathlib.Core.Bool.{true};
+ghost use mathlib.Core.Bool.{false, _&&_};
+ghost use mathlib.Core.List.{[]};
 ghost use Prim.Native.Nat.{_-_, _<_, _≤_, min};
 ghost use lib.ListN.{length, getD};
-ghost use Rattle.paths.specs.Count.{sumRowsFrom, rowCount};
+ghost use Rattle.paths.specs.Count.{onward, rowsFrom};
 ghost use Rattle.kplib.specs.Graph.{nodeOf, rowOf, edge, chainsOf};
-ghost use Rattle.kplib.specs.GraphWalk.{extendsAt, flagOf, Together, RowLaid, Stop, Stopping, Counting};
+ghost use Rattle.kplib.specs.GraphWalk.{flagOf, Together, RowLaid, Flagged, spanOf, Kept, Counting, Narrowed};
 ghost use Rattle.kplib.specs.Promises.{CountChainsPromise};
 
 // A variant's row in the table, from 0.
@@ -57,79 +58,79 @@ pub(crate) fn pairs_together(starts: &[u64], ends: &[u64]) -> [bool; 4096]
     together
 }
 
-// Whether the row extends a chain that ends at this node, the empty chain ending at the source.
-pub(crate) fn extends(together: &[bool; 4096], full: bool, end: Node, row: Row) -> bool
-    requires { ⌜ (end .0 ≤ 64) × (row .0 < 64) ⌝ }
-    ensures { λ r. ⌜ r ≡ extendsAt (flagOf (now (together .entry))) full (end .0) (row .0) ⌝ }
+// Of the rows that may follow a chain, those that may follow it with this row too.
+pub(crate) fn stand_with(together: &[bool; 4096], row: Row, may: &mut [bool; 64])
+    requires { ⌜ (row .0 < 64) × (length (now may) ≡ 64) ⌝ }
+    ensures { λ _.
+        let old = now (may .entry) in
+        ⌜ Flagged (λ s. getD old s false && flagOf (now (together .entry)) (row .0) s) (now (may .exit)) ⌝ }
 {
-    if !full {
-        return false;
+    let at = 64 * (row.0 as usize);
+    let mut s: usize = 0;
+    while s < 64 {
+        may[s] = may[s] & together[at + s];
+        s += 1;
     }
-    if end.0 == 0 {
-        return true;
-    }
-    let last = row_of(end);
-    if row.0 <= last.0 {
-        return false;
-    }
-    together[64 * (last.0 as usize) + (row.0 as usize)]
 }
 
-// One more than the last row that may stand with row r, or 0 where no later row may.
-fn stop_after(together: &[bool; 4096], v: usize, r: usize) -> u32
-    requires { ⌜ (v ≤ 64) × (r < v) ⌝ }
-    ensures { λ stop. ⌜ Stop (flagOf (now (together .entry))) v (nodeOf r) stop ⌝ }
+// Puts those of the rows from place `from` to place `to` that may stand with a row behind them. Says where they end.
+fn narrow(together: &[bool; 4096], row: Row, rows: &mut [u8; 4160], from: usize, to: usize) -> usize
+    requires { ⌜ (row .0 < 64) × Counting (now rows) from to ⌝ }
+    ensures { λ end. ⌜ Narrowed (flagOf (now (together .entry)) (row .0)) from to (now (rows .entry)) (now (rows .exit)) end ⌝ }
 {
-    let mut s = v;
-    while s > r + 1 {
-        s -= 1;
-        if together[64 * r + s] {
-            return (s as u32) + 1;
+    let flags = 64 * (row.0 as usize);
+    let mut i = from;
+    let mut end = to;
+    while i < to {
+        let s = rows[i];
+        rows[end] = s;
+        i += 1;
+        if together[flags + (s as usize)] {
+            end += 1;
         }
     }
-    0
+    end
 }
 
-// For each node, the row from which on none of the v rows extends a chain that ends there.
-fn stops_of(together: &[bool; 4096], v: usize) -> [u32; 65]
-    requires { ⌜ v ≤ 64 ⌝ }
-    ensures { λ stops. ⌜ Stopping (flagOf (now (together .entry))) v stops ⌝ }
-{
-    let mut stops = [0; 65];
-    stops[0] = v as u32;
-    let mut r: usize = 0;
-    while r < v {
-        stops[r + 1] = stop_after(together, v, r);
-        r += 1;
-    }
-    stops
-}
-
-// What is left of the cap once the chains are counted that go on from a chain that ends at this node by this row or a later one.
-// The source's stop is the number of rows.
-fn count_rows(together: &[bool; 4096], stops: &[u32; 65], end: Node, row: Row, cap: u32) -> u32
-    requires { ⌜ Counting (flagOf (now together)) (now stops) (end .0) (row .0) ⌝ }
+// What is left of the cap once the chains are counted that are some of the rows from place `from` to place `to`. A row that is taken
+// leaves those behind it that may stand with it: they are put behind the others, so that each of them is asked of one row only.
+fn count_rows(
+    together: &[bool; 4096],
+    rows: &mut [u8; 4160],
+    from: usize,
+    to: usize,
+    cap: u32,
+) -> u32
+    requires { ⌜ Counting (now rows) from to ⌝ }
     ensures { λ left.
         let joins = flagOf (now (together .entry)) in
-        let v = getD (now (stops .entry)) 0 0 in
-        ⌜ left ≡ cap - sumRowsFrom (extendsAt joins true (end .0)) (rowCount joins v) (v - row .0) (row .0) ⌝ }
+        let old = now (rows .entry) in
+        ⌜ (left ≡ cap - onward joins [] (spanOf old (to - from) from)) × Kept to old (now (rows .exit)) ⌝ }
 {
     if cap == 0 {
         return 0;
     }
-    if stops[end.0 as usize] <= row.0 {
+    if from == to {
         return cap;
     }
-    let next = Row(row.0 + 1);
-    if !extends(together, true, end, row) {
-        return count_rows(together, stops, end, next, cap);
+    let row = Row(rows[from] as u32);
+    let end = narrow(together, row, rows, from + 1, to);
+    let left = count_rows(together, rows, to, end, cap - 1);
+    count_rows(together, rows, from + 1, to, left)
+}
+
+// The first v rows, in their order.
+fn first_rows(v: usize) -> [u8; 4160]
+    requires { ⌜ v ≤ 64 ⌝ }
+    ensures { λ rows. ⌜ Counting rows 0 v × (spanOf rows v 0 ≡ rowsFrom v 0) ⌝ }
+{
+    let mut rows = [0u8; 4160];
+    let mut r: usize = 0;
+    while r < v {
+        rows[r] = r as u8;
+        r += 1;
     }
-    let longer = node_of(row);
-    if stops[longer.0 as usize] <= next.0 {
-        return count_rows(together, stops, end, next, cap - 1);
-    }
-    let left = count_rows(together, stops, longer, next, cap - 1);
-    count_rows(together, stops, end, next, left)
+    rows
 }
 
 // The smaller of N and cap.
@@ -144,9 +145,9 @@ fn count_capped(starts: &[u64], ends: &[u64], full: bool, cap: u32) -> u32
         return 1;
     }
     let together = pairs_together(starts, ends);
-    let stops = stops_of(&together, starts.len());
+    let mut rows = first_rows(starts.len());
     let others = cap - 1;
-    others - count_rows(&together, &stops, Node(0), Row(0), others) + 1
+    others - count_rows(&together, &mut rows, 0, starts.len(), others) + 1
 }
 
 // The number of chains up to a cap, or the number of a refusal.

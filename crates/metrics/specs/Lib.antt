@@ -1,5 +1,6 @@
 pub mod Similarity
 pub mod SeqsimError
+pub mod Overlap
 pub mod Letters
 pub mod Lanes
 pub mod Placed

@@ -1,6 +1,6 @@
 -- Document 01, "From letters to similarity": seqsim, sizesim and overlaps.
 use Prim.Native.Nat.{ℕ, _+_, min, max}
-use mathlib.Core.Bool.{Bool, cond, not}
+use mathlib.Core.Bool.{Bool, cond, not, _&&_, _||_}
 use lib.Dec.{leb, ltb, eqb}
 use lib.ListN.{length}
 use lib.IntN.{ℤ, pos, natAbs, _-ℤ_}
@@ -73,6 +73,10 @@ sizesimValue a b = cond (eqb a b) (whole 1) (ratioOf (min a b) (max a b))
 unfoldable pub sizesimOf : ℕ → ℕ → Sim
 sizesimOf a b = cond (ltb 8388608 (max a b)) (Refused 9) (Value (sizesimValue a b))
 
--- the larger start is less than the smaller end
+-- the first interval is zero-length, and the other's start is less than it and the other's end is greater (document 02, P5)
+abbrev pub liesInside : ℕ → ℕ → ℕ → ℕ → Bool
+liesInside s e start end = eqb s e && (ltb start s && ltb s end)
+
+-- the larger start is less than the smaller end; or one interval is zero-length and lies inside the other
 unfoldable pub overlapsOf : ℕ → ℕ → ℕ → ℕ → Bool
-overlapsOf s1 e1 s2 e2 = ltb (max s1 s2) (min e1 e2)
+overlapsOf s1 e1 s2 e2 = ltb (max s1 s2) (min e1 e2) || (liesInside s1 e1 s2 e2 || liesInside s2 e2 s1 e1)

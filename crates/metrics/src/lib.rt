@@ -1,7 +1,7 @@
 // Similarity of features and of sizes, and the overlap of intervals.
 ghost use mathlib.Core.Path.{_≡_};
 ghost use Prim.Native.Nat.{_≤_, max, min};
-ghost use Rattle.metrics.specs.Similarity.{ratioOf, seqsimValue};
+ghost use Rattle.metrics.specs.Similarity.{liesInside, ratioOf, seqsimValue};
 ghost use Rattle.metrics.specs.Promises.{SimilarityPromise, SeqsimPromise, SizesimPromise, OverlapsPromise};
 use crate::refusals::BAD_LENGTHS;
 use crate::refusals::BAD_NUMBER;
@@ -104,10 +104,23 @@ pub fn sizesim(a: u64, b: u64) -> Sim
     Sim::Value(ratio(lo, hi))
 }
 
+// Whether the first interval is zero-length and lies inside the other.
+fn lies_inside(s: u64, e: u64, start: u64, end: u64) -> bool
+    ensures { λ r. ⌜ r ≡ liesInside s e start end ⌝ }
+{
+    s == e && (start < s && s < end)
+}
+
 pub fn overlaps(s1: u64, e1: u64, s2: u64, e2: u64) -> bool
     ensures { λ r. ⌜ OverlapsPromise s1 e1 s2 e2 r ⌝ }
 {
     let start = larger(s1, s2);
     let end = smaller(e1, e2);
-    start < end
+    if start < end {
+        return true;
+    }
+    if lies_inside(s1, e1, s2, e2) {
+        return true;
+    }
+    lies_inside(s2, e2, s1, e1)
 }

@@ -1,6 +1,6 @@
 -- Demand 3 follows from one law of conservation: what is scored, and what would grow from the chains still queued, come to what would grow from the empty chain.
 -- Weighed by 1 it counts; weighed by "is it x" it says that each chain is scored once.
-use mathlib.Core.Path.{_≡_, refl, ap, _∙_}
+use mathlib.Core.Path.{_≡_, refl, sym, ap, _∙_}
 use Prim.Native.Nat.{ℕ, zero, suc, _+_, _≤_, min}
 use native.Mathlib.Omega.{arith}
 use mathlib.Core.Logic.{_⊎_, inl, inr, ⊎-elim}
@@ -9,15 +9,15 @@ use mathlib.Core.List.{List, [], _∷_, map}
 use lib.ListN.{length}
 use lib.Dec.{leb}
 use borrow.Author.Tests.{leb-true, leb-false}
-use Rattle.paths.specs.Sums.{sumBy, bit, sameRows, timesIn}
+use Rattle.paths.specs.Sums.{sumBy, bit, sameRows, timesIn, keep}
 use Rattle.paths.specs.Chains.{extensions, isChain, chainsFrom}
-use Rattle.paths.specs.Count.{mayFollow, chainCount}
+use Rattle.paths.specs.Count.{mayFollow, noPairOverlaps, ascendingLists, chainCount}
 use Rattle.paths.specs.Search.{none, pick, after, scored, left}
 use Rattle.paths.specs.Demand.{scoredChains, leftChains, Lists, NumberOfChains, SearchDemand}
 use Rattle.paths.specs.Best.{Order, best, Latest}
 use Rattle.paths.proofs.SumLaws.{sum-one, bit-le, sameRows-eq, sameRows-refl}
 use Rattle.paths.proofs.SearchLaws.{conserve}
-use Rattle.paths.proofs.CountLaws.{doc-full, doc-bare}
+use Rattle.paths.proofs.CountLaws.{chain-rule, once-counted}
 use Rattle.paths.proofs.ChainLaws.{chainsFrom-step, tree-step, tree-top, inTree}
 use Rattle.paths.proofs.BestLaws.{all-unmap, all-good, upper, all-timesIn, best-first}
 
@@ -138,10 +138,41 @@ chains-counted follows n =
     let number : length chains ≡ chainsFrom follows n [] = omega (arith, how-many follows n (λ c. 0) (chainsFrom follows n [])) in
     record { chains = chains; listed = listed; number = number; every = λ l h. lists-agree follows n l chains h listed ∙ number }
 
--- document 01's N is the number of chains
-pub count-counts : (edge : ℕ → ℕ → Bool) (n : ℕ) (full : Bool) → NumberOfChains (mayFollow edge full) n (chainCount edge n full)
-count-counts edge n true = rw (← doc-full edge n) (chains-counted (mayFollow edge true) n)
-count-counts edge n false = rw (← doc-bare edge n) (chains-counted (mayFollow edge false) n)
+-- N's own list holds each chain of a full graph once; in a bare one the empty chain is the only one
+full-lists : (joins : ℕ → ℕ → Bool) (n : ℕ) → Lists (mayFollow joins true) n (keep (noPairOverlaps joins) (ascendingLists n))
+full-lists joins n = record {
+  each-chain = λ x e. once-counted joins n x ∙ ap bit e;
+  nothing-else = λ x e. once-counted joins n x ∙ ap bit e;
+}
+
+bare-lists : (joins : ℕ → ℕ → Bool) (n : ℕ) → Lists (mayFollow joins false) n ([] ∷ [])
+bare-lists joins n = record {
+  each-chain = λ x e. only x (sym (chain-rule joins n .bare x) ∙ e);
+  nothing-else = λ x e. no-other x (sym (chain-rule joins n .bare x) ∙ e);
+}
+  where
+    only : (x : List ℕ) → none x ≡ true → timesIn x ([] ∷ []) ≡ 1
+    only [] e = refl
+    only (s ∷ x) e = cc
+
+    no-other : (x : List ℕ) → none x ≡ false → timesIn x ([] ∷ []) ≡ 0
+    no-other [] e = cc
+    no-other (s ∷ x) e = refl
+
+-- N is the number of chains
+pub count-counts : (joins : ℕ → ℕ → Bool) (n : ℕ) (full : Bool) → NumberOfChains (mayFollow joins full) n (chainCount joins n full)
+unfolding chainCount
+count-counts joins n true =
+    let chains = keep (noPairOverlaps joins) (ascendingLists n) in
+    record { chains = chains; listed = full-lists joins n; number = refl; every = λ l h. lists-agree (mayFollow joins true) n l chains h (full-lists joins n) }
+count-counts joins n false =
+    record { chains = [] ∷ []; listed = bare-lists joins n; number = refl; every = λ l h. lists-agree (mayFollow joins false) n l ([] ∷ []) h (bare-lists joins n) }
+
+-- as many grow from the empty chain
+pub chains-are-n : (joins : ℕ → ℕ → Bool) (n : ℕ) (full : Bool) → chainsFrom (mayFollow joins full) n [] ≡ chainCount joins n full
+chains-are-n joins n full =
+    let c = chains-counted (mayFollow joins full) n in
+    sym (c .number) ∙ count-counts joins n full .every (c .chains) (c .listed)
 
 module _ {R : Type 0} (P : R → Type 0) (le : R → R → Bool) (ord : Order P le) (start : R) (score : List ℕ → R) (good : (c : List ℕ) → P (score c))
     (first : le start (score []) ≡ true) (dist : List ℕ → ℕ) (ext : List ℕ → List (List ℕ)) where

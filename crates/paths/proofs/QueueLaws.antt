@@ -8,7 +8,7 @@ use mathlib.Core.List.{List, [], _∷_, _++_, map, append-nil, append-assoc}
 use lib.Dec.{ltb, eqb}
 use lib.ListN.{length, getD, set, take}
 use lib.Seq.{append-snoc, getD-set-same, getD-set-other, length-take-le}
-use borrow.Author.Tests.{eqb-true, eqb-false, lt-ltb, ltb-true}
+use borrow.Author.Tests.{eqb-true, eqb-false, lt-leb, lt-ltb, ltb-true}
 use Rattle.paths.specs.Chains.{firstAfter, extends, extensions, isChain}
 use Rattle.paths.specs.Best.{All}
 use Rattle.paths.specs.Heap.{Ordered, Heap}
@@ -155,6 +155,12 @@ module _ (follows : List ℕ → ℕ → Bool) where
   extensions-yes zero c p k = absurd (omega arith)
   extensions-yes (suc s) c p k = let e : suc s - 1 ≡ s = omega arith in rw (e, rw e at k)
 
+  -- no row below the chain's end extends it
+  extensions-none : (k : ℕ) (c : List ℕ) → k ≤ firstAfter c → extensions follows k c ≡ []
+  unfolding extensions extends
+  extensions-none zero c h = refl
+  extensions-none (suc k) c h = rw (lt-leb (firstAfter c) k h) (extensions-none k c (omega arith))
+
 -- the rows from s on are done: `added` extensions of entry e's chain stand behind the n entries, and their keys are put to the q
 pub record Queueing (follows : List ℕ → ℕ → Bool) (v : ℕ) (D : List ℕ → ℕ) (n q e : ℕ) (par₀ row₀ keys₀ par row keys : List ℕ) (added s : ℕ) : Type 0 where
   pub most : added + s ≤ v
@@ -220,9 +226,8 @@ module _ {follows : List ℕ → ℕ → Bool} {v : ℕ} {D : List ℕ → ℕ} 
         ) (h .chains);
       }
 
-  -- nothing is left
-  pub queueing-done : s ≡ 0 → Queued follows v D par₀ row₀ keys₀ q n e par row keys added
-  unfolding extensions
+  -- none is left behind the chain's last row
+  pub queueing-done : s ≤ firstAfter (chainAt par₀ row₀ e) → Queued follows v D par₀ row₀ keys₀ q n e par row keys added
   queueing-done z = record {
     most = omega (arith, h .most);
     kept = h .kept;
@@ -230,5 +235,5 @@ module _ {follows : List ℕ → ℕ → Bool} {v : ℕ} {D : List ℕ → ℕ} 
     queue = h .queue;
     late = h .late;
     heap = h .heap;
-    chains = sym (append-nil _) ∙ (rw z at (h .chains));
+    chains = sym (append-nil _) ∙ (rw (extensions-none follows s (chainAt par₀ row₀ e) z) at (h .chains));
   }

@@ -1,19 +1,21 @@
 -- Two graph rules that agree on the chains of a table give one search: what is queued are chains of the table, so both rules extend it alike.
--- Two edges that agree on each pair of the rows, the later last, give one count.
-use mathlib.Core.Path.{_≡_, refl, ap, _∙_}
-use Prim.Native.Nat.{ℕ, zero, suc, _-_, _≤_, _<_}
+-- Two rules of pairs that agree on each pair of the rows, the later last, give one search and one count.
+use mathlib.Core.Path.{_≡_, refl, sym, ap, _∙_}
+use Prim.Native.Nat.{ℕ, zero, suc, _+_, _≤_, _<_}
 use native.Mathlib.Omega.{arith}
 use mathlib.Core.Bool.{Bool, true, false, cond, _&&_}
 use mathlib.Core.List.{List, [], _∷_, _++_}
-use lib.Dec.{ltb}
-use borrow.Author.Tests.{ltb-true}
+use lib.Dec.{leb}
+use lib.ListN.{length}
+use borrow.Author.Tests.{leb-true}
 use Rattle.paths.specs.Best.{All}
-use Rattle.paths.specs.Chains.{extends, extensions, isChain}
-use Rattle.paths.specs.Count.{sumRows, rowCountWithin, rowCount, chainCount}
+use Rattle.paths.specs.Chains.{firstAfter, extends, extensions, isChain, chainsFrom}
+use Rattle.paths.specs.Count.{standsWithAll, mayFollow, chainCount}
 use Rattle.paths.specs.Search.{pick, after, scored, left}
 use Rattle.paths.specs.Demand.{scoredChains, leftChains}
 use Rattle.paths.proofs.PickLaws.{picked-all}
-use Rattle.paths.proofs.QueueLaws.{all-append, chain-longer}
+use Rattle.paths.proofs.QueueLaws.{all-append, chain-longer, chain-parts}
+use Rattle.paths.proofs.Demand.{how-many, chains-are-n}
 
 -- ---- the search
 module _ {A : Type 0} (dist : A → ℕ) (P : A → Type 0) where
@@ -73,28 +75,27 @@ module _ (f g : List ℕ → ℕ → Bool) (v : ℕ) (same : (c : List ℕ) (s :
     unfolding isChain
     left-same = all-left-same D (λ c. isChain f v c ≡ true) (λ c. extensions f v c) (λ c. extensions g v c) all-same all-chains steps ([] ∷ []) (refl, tt)
 
--- ---- the count
-sumRows-same : (p q : ℕ → Bool) (w w′ : ℕ → ℕ) (k : ℕ) → ((s : ℕ) → s < k → p s ≡ q s) → ((s : ℕ) → w s ≡ w′ s) → sumRows p w k ≡ sumRows q w′ k
-unfolding sumRows
-sumRows-same p q w w′ zero hp hw = refl
-sumRows-same p q w w′ (suc k) hp hw = rw (hp k (omega arith), hw k, sumRows-same p q w w′ k (λ s l. hp s (omega arith)) hw)
+  -- and as many chains grow
+  chains-same : chainsFrom f v [] ≡ chainsFrom g v []
+  chains-same =
+      let steps = chainsFrom f v [] + chainsFrom g v [] in
+      omega (arith, how-many f v (λ c. 0) steps, how-many g v (λ c. 0) steps, ap length (scored-same (λ c. 0) steps))
 
-module _ (edge edge′ : ℕ → ℕ → Bool) (n : ℕ) (same : (r s : ℕ) → r < s → s < n → edge r s ≡ edge′ r s) where
-  later-same : (r s : ℕ) → s < n → (ltb r s && edge r s) ≡ (ltb r s && edge′ r s)
-  later-same r s l = go (ltb r s) refl
+-- ---- one rule of pairs for another
+module _ (joins joins′ : ℕ → ℕ → Bool) (v : ℕ) (same : (r s : ℕ) → r < s → s < v → joins r s ≡ joins′ r s) (full : Bool) where
+  stands-same : (c : List ℕ) (s : ℕ) → isChain (mayFollow joins full) v c ≡ true → firstAfter c ≤ s → s < v → standsWithAll joins c s ≡ standsWithAll joins′ c s
+  stands-same [] s h l k = refl
+  stands-same (r ∷ c) s h l k =
+      let p = chain-parts (mayFollow joins full) v r c h in
+      rw (same r s l k, stands-same c s (p .0) (omega arith) k)
+
+  pub extends-same : (c : List ℕ) (s : ℕ) → isChain (mayFollow joins full) v c ≡ true → s < v → extends (mayFollow joins full) c s ≡ extends (mayFollow joins′ full) c s
+  unfolding extends
+  extends-same c s h l = go (leb (firstAfter c) s) refl
     where
-      go : (t : Bool) → ltb r s ≡ t → (t && edge r s) ≡ (t && edge′ r s)
-      go true e = same r s (ltb-true r s e) l
-      go false e = refl
+      go : (t : Bool) → leb (firstAfter c) s ≡ t → (leb (firstAfter c) s && mayFollow joins full c s) ≡ (leb (firstAfter c) s && mayFollow joins′ full c s)
+      go true e = rw (e, stands-same c s h (leb-true (firstAfter c) s e) l)
+      go false e = rw e
 
-  rowCountWithin-same : (f r : ℕ) → rowCountWithin edge n f r ≡ rowCountWithin edge′ n f r
-  unfolding rowCountWithin
-  rowCountWithin-same zero r = refl
-  rowCountWithin-same (suc f) r =
-      ap suc (sumRows-same (λ s. ltb r s && edge r s) (λ s. ltb r s && edge′ r s) (λ s. rowCountWithin edge n f s) (λ s. rowCountWithin edge′ n f s) n (later-same r) (rowCountWithin-same f))
-
-  pub chainCount-same : (full : Bool) → chainCount edge n full ≡ chainCount edge′ n full
-  unfolding chainCount rowCount
-  chainCount-same true =
-      ap suc (sumRows-same (λ s. true) (λ s. true) (λ s. rowCount edge n s) (λ s. rowCount edge′ n s) n (λ s l. refl) (λ s. rowCountWithin-same (n - suc s) s))
-  chainCount-same false = refl
+  pub chainCount-same : chainCount joins v full ≡ chainCount joins′ v full
+  chainCount-same = sym (chains-are-n joins v full) ∙ chains-same (mayFollow joins full) (mayFollow joins′ full) v extends-same ∙ chains-are-n joins′ v full

@@ -1,45 +1,61 @@
--- Document 01, "N counts the chains", word for word: c(r) = 1 + the sum of c(s) over later s with an edge from r; N = 1 + the sum of c(r) over the rows, 1 in a bare graph.
-use Prim.Native.Nat.{ℕ, zero, suc, _+_, _-_}
+-- Document 02, P5: no two rows of a chain may overlap, neighbours or not, and N is the number of ascending lists of rows without an overlapping pair, the empty one counted.
+-- `joins r s`: rows r and s, the later last, do not overlap. Lists of rows are written LAST ROW FIRST, as chains are.
+use Prim.Native.Nat.{ℕ, zero, suc, _+_}
 use mathlib.Core.Path.{_≡_}
 use mathlib.Core.Bool.{Bool, true, false, cond, _&&_}
-use mathlib.Core.List.{List, [], _∷_}
+use mathlib.Core.List.{List, [], _∷_, _++_, map}
 use lib.Dec.{ltb}
+use lib.ListN.{length}
+use Rattle.paths.specs.Sums.{bit, timesIn, keep}
+use Rattle.paths.specs.Chains.{isChain}
+use Rattle.paths.specs.Search.{none}
 
--- may row s follow the chain: only its last row is asked, any row may follow the empty chain, and none any chain in a bare graph
+-- row s overlaps no row of c
+abbrev pub standsWithAll : (ℕ → ℕ → Bool) → List ℕ → ℕ → Bool
+standsWithAll joins [] s = true
+standsWithAll joins (r ∷ c) s = joins r s && standsWithAll joins c s
+
+-- may row s follow the chain: every row of it is asked, and in a bare graph none may follow any chain
 abbrev pub mayFollow : (ℕ → ℕ → Bool) → Bool → List ℕ → ℕ → Bool
-mayFollow edge full [] s = full
-mayFollow edge full (r ∷ c) s = full && edge r s
+mayFollow joins full c s = full && standsWithAll joins c s
 
--- the sum of w over the rows below k at which p holds
-unfoldable pub sumRows : (ℕ → Bool) → (ℕ → ℕ) → ℕ → ℕ
-sumRows p w zero = 0
-sumRows p w (suc k) = cond (p k) (w k + sumRows p w k) (sumRows p w k)
+-- no two of the rows overlap
+abbrev pub noPairOverlaps : (ℕ → ℕ → Bool) → List ℕ → Bool
+noPairOverlaps joins [] = true
+noPairOverlaps joins (s ∷ c) = standsWithAll joins c s && noPairOverlaps joins c
 
-module _ (edge : ℕ → ℕ → Bool) (n : ℕ) where
-  -- c(r) by recursion on f, which is at least the number of later rows
-  unfoldable pub rowCountWithin : ℕ → ℕ → ℕ
-  rowCountWithin zero r = 1
-  rowCountWithin (suc f) r = suc (sumRows (λ s. ltb r s && edge r s) (λ s. rowCountWithin f s) n)
+-- the rows ascend, and the last is below n
+abbrev pub ascends : ℕ → List ℕ → Bool
+ascends n [] = true
+ascends n (s ∷ c) = ltb s n && ascends s c
 
-  -- c(r)
-  unfoldable pub rowCount : ℕ → ℕ
-  rowCount r = rowCountWithin (n - suc r) r
+-- the ascending lists of rows below n
+unfoldable pub ascendingLists : ℕ → List (List ℕ)
+ascendingLists zero = [] ∷ []
+ascendingLists (suc n) = map (λ c. n ∷ c) (ascendingLists n) ++ ascendingLists n
 
-  -- N
-  unfoldable pub chainCount : Bool → ℕ
-  chainCount true = suc (sumRows (λ s. true) (λ s. rowCount s) n)
-  chainCount false = 1
+-- N: how many of them have no overlapping pair; in a bare graph only the empty one is a chain
+unfoldable pub chainCount : (ℕ → ℕ → Bool) → ℕ → Bool → ℕ
+chainCount joins n true = length (keep (noPairOverlaps joins) (ascendingLists n))
+chainCount joins n false = 1
 
--- the rule as document 01 gives it, without the bound of the recursion above
-pub record CountRule (edge : ℕ → ℕ → Bool) (n : ℕ) : Type 0 where
-  -- c(r) = 1 + the sum of c(s) over later s with an edge from r
-  pub row : (r : ℕ) → rowCount edge n r ≡ 1 + sumRows (λ s. ltb r s && edge r s) (λ s. rowCount edge n s) n
-  -- N is 1 plus, for each row r, c(r)
-  pub full : chainCount edge n true ≡ 1 + sumRows (λ r. true) (λ r. rowCount edge n r) n
-  -- 1 in a bare graph
-  pub bare : chainCount edge n false ≡ 1
+-- what a chain is, without the recursion by which it grows
+pub record ChainRule (joins : ℕ → ℕ → Bool) (n : ℕ) : Type 0 where
+  -- an ascending list of rows without an overlapping pair
+  pub full : (x : List ℕ) → isChain (mayFollow joins true) n x ≡ (ascends n x && noPairOverlaps joins x)
+  -- in a bare graph only the empty one
+  pub bare : (x : List ℕ) → isChain (mayFollow joins false) n x ≡ none x
+  -- and each ascending list stands once among those that N counts
+  pub each-once : (x : List ℕ) → timesIn x (ascendingLists n) ≡ bit (ascends n x)
 
--- the sum of w over the k rows from s on at which p holds
-unfoldable pub sumRowsFrom : (ℕ → Bool) → (ℕ → ℕ) → ℕ → ℕ → ℕ
-sumRowsFrom p w zero s = 0
-sumRowsFrom p w (suc k) s = cond (p s) (w s + sumRowsFrom p w k (suc s)) (sumRowsFrom p w k (suc s))
+-- ---- as the walk of the capped count takes the rows, the first of them first. No public promise cites what follows.
+
+-- how many chains go on from c by some of these rows
+unfoldable pub onward : (ℕ → ℕ → Bool) → List ℕ → List ℕ → ℕ
+onward joins c [] = 0
+onward joins c (s ∷ l) = cond (standsWithAll joins c s) (suc (onward joins (s ∷ c) l)) 0 + onward joins c l
+
+-- k rows from row s on
+unfoldable pub rowsFrom : ℕ → ℕ → List ℕ
+rowsFrom zero s = []
+rowsFrom (suc k) s = s ∷ rowsFrom k (suc s)

@@ -1,7 +1,7 @@
 pub mod Sums
 pub mod Chains
-pub mod Count
 pub mod Search
+pub mod Count
 pub mod Best
 pub mod Order
 pub mod Demand

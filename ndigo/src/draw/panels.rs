@@ -25,8 +25,13 @@ struct Layout {
     part_names: Vec<String>,
 }
 
+/// Whether one is an insertion and lies inside the other; at the other's start or end it does not.
+fn lies_inside(insertion: &Variant, other: &Variant) -> bool {
+    insertion.start == insertion.end && other.start < insertion.start && insertion.start < other.end
+}
+
 fn overlap(a: &Variant, b: &Variant) -> bool {
-    a.start.max(b.start) < a.end.min(b.end)
+    a.start.max(b.start) < a.end.min(b.end) || lies_inside(a, b) || lies_inside(b, a)
 }
 
 /// For each row the rows that it overlaps, the same for both.
@@ -132,20 +137,26 @@ fn interval(picture: &mut Picture, scale: &Scale, v: &Variant, y: f64, half: f64
     }
 }
 
-/// Hatching where the row shares its stretch with another; touching stretches are drawn as one.
+/// Hatching where the row shares its stretch with another; touching stretches are drawn as one. An insertion inside another row is hatched itself,
+/// and the other row where it stands.
 fn shared(picture: &mut Picture, scale: &Scale, variants: &[Variant], row: usize, others: &[usize], y: f64, half: f64) {
     let mine = &variants[row];
     let mut stretches: Vec<(u64, u64)> = others.iter().map(|&other| (mine.start.max(variants[other].start), mine.end.min(variants[other].end))).collect();
     stretches.sort_unstable();
-    let mut reached = 0;
+    let mut reached = None;
     for (start, end) in stretches {
-        let start = start.max(reached);
-        if start < end {
-            let right = scale.across(end).max(scale.across(mine.start) + 3.0);
-            let left = scale.across(start).min(right - 3.0);
-            picture.rect(left, y - half, right - left, 2.0 * half, "shared");
-            reached = end;
+        if reached.is_some_and(|reached| end <= reached) {
+            continue;
         }
+        if start == end {
+            let wide = if mine.start == mine.end { half } else { 1.5 };
+            picture.rect(scale.across(start) - wide, y - half, 2.0 * wide, 2.0 * half, "shared");
+        } else {
+            let right = scale.across(end).max(scale.across(mine.start) + 3.0);
+            let left = scale.across(reached.map_or(start, |reached| start.max(reached))).min(right - 3.0);
+            picture.rect(left, y - half, right - left, 2.0 * half, "shared");
+        }
+        reached = Some(end);
     }
 }
 

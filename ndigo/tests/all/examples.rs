@@ -7,7 +7,7 @@ type Lines = Result<(&'static str, u32, u32, u32, bool, u32, bool), u32>;
 
 const ONE: u32 = 0x3f80_0000;
 
-/// Each example's answer, by document 01's rules. Insertions have no length here and overlap nothing.
+/// Each example's answer, by the documents' rules. Insertions have no length here, and none lies inside another row.
 const ANSWERS: [(&str, Lines); 12] = [
     // 13 to 12: a start is greater than its end. The deletion 5 to 9 is none of the rules' business.
     ("counted-from-1", Err(7)),

@@ -57,8 +57,21 @@ fn overlaps_are_hatched_and_named() {
     let svg = drawn(content, &["--rows", "none"]);
     let groups: Vec<&str> = svg.split("<g>").skip(1).map(|group| group.split("</g>").next().unwrap()).collect();
     let hatched: Vec<usize> = groups.iter().map(|group| group.matches("class=\"shared\"").count()).collect();
-    assert_eq!(hatched, [1, 1, 0, 0]);
-    assert!(groups[0].trim_end().ends_with(">B</text>"));
+    assert_eq!(hatched, [1, 1, 1, 0]);
+    assert!(groups[0].trim_end().ends_with(">B, C</text>"));
+    assert!(groups[2].trim_end().ends_with(">A, B</text>"));
+}
+
+/// An insertion inside a deletion and the deletion share a hatched stretch; one at its start or end, and one at the insertion's own place, share none.
+#[test]
+fn an_insertion_inside_a_deletion_is_hatched() {
+    let content = format!("{HEADINGS}A\t10\t10\t1\t\nB\t10\t20\t-4\t\nC\t15\t15\t1\t\nD\t15\t15\t1\t\nE\t20\t20\t1\t\n");
+    let svg = drawn(content, &["--rows", "none"]);
+    let groups: Vec<&str> = svg.split("<g>").skip(1).map(|group| group.split("</g>").next().unwrap()).collect();
+    let hatched: Vec<usize> = groups.iter().map(|group| group.matches("class=\"shared\"").count()).collect();
+    assert_eq!(hatched, [0, 1, 1, 1, 0]);
+    assert!(groups[1].trim_end().ends_with(">C, D</text>"));
+    assert!(groups[2].trim_end().ends_with(">B</text>"));
 }
 
 #[test]

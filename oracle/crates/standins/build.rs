@@ -25,7 +25,7 @@ fn main() {
         fs::copy(oracle.join("kplib").join(&name), Path::new(&out).join(&name)).unwrap();
     }
     if env::var("CARGO_PKG_NAME").unwrap() == "ordered" {
-        for patch in ["order.patch", "squish.patch"] {
+        for patch in ["order.patch", "squish.patch", "overlap.patch"] {
             run(Command::new("patch")
                 .args(["--strip=1", "--fuzz=0", "--no-backup-if-mismatch", "--directory", &out, "--input"])
                 .arg(oracle.join("patches").join(patch)));

@@ -15,6 +15,10 @@ pub struct Notes {
     pub score_tie: bool,
     /// A list was kept from the empty chain under squish.
     pub squish_empty: bool,
+    /// A zero-length interval lies inside another of the table.
+    pub inside: bool,
+    /// A row was kept from a chain by one of its rows that is not the last.
+    pub kept_back: bool,
 }
 
 thread_local! {
@@ -50,6 +54,14 @@ pub fn compared(a: f32, b: f32) {
 
 pub fn squish_empty() {
     change(|notes| notes.squish_empty = true);
+}
+
+pub fn inside() {
+    change(|notes| notes.inside = true);
+}
+
+pub fn kept_back() {
+    change(|notes| notes.kept_back = true);
 }
 
 pub fn stopped(scored: u64, left: usize) {

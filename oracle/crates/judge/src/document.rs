@@ -169,8 +169,10 @@ fn search(rules: &Rules, call: &Call, met: &mut Met) -> (Scored, u32, bool) {
         }
         for row in rules.extension_order(chain.last().map_or(0, |last| last + 1)..v) {
             let overlaps = |earlier: usize| rules.overlaps(call.interval(earlier), call.interval(row));
+            if s.full {
+                met.extension(call, &chain, row, overlaps);
+            }
             if rules.may_follow(s.full, &chain, &overlaps) {
-                met.extension(&chain, overlaps);
                 let size = size + i64::from(call.sizes[row]);
                 queue.insert(rules.turn(size, haplotype, queued), ([&chain[..], &[row]].concat(), size));
                 queued += 1;

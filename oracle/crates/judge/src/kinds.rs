@@ -34,6 +34,7 @@ fn of_answer(counts: &mut Counts, judged: &Judged) {
         By::Unchanged => "by: the unchanged Rust, nothing ties",
         By::Ordered => "by: the second build, something ties",
         By::Squish => "by: the second build, squish and the empty chain",
+        By::Overlap => "by: the second build, a zero-length row inside another or a row kept back by no neighbour",
     });
     if a.refusal != 0 {
         return add(counts, format!("refused {:02}", a.refusal));
@@ -124,7 +125,9 @@ fn of_met(counts: &mut Counts, met: &Met) {
         (met.fpenalty_used, "met: fpenalty taken off"),
         (met.gpenalty_used, "met: gpenalty taken off"),
         (met.nodes_tie, "met: one-to-one scores tie"),
-        (met.ends_overlap, "met: a chain whose ends overlap"),
+        (met.inside, "met: a zero-length row inside another"),
+        (met.no_neighbour, "met: a row kept back by one that is no neighbour alone"),
+        (met.touches, "met: a zero-length row at the end of another, in one chain"),
     ];
     add_seen(counts, seen);
 }

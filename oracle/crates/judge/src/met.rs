@@ -1,4 +1,5 @@
 //! What a reading of document 01 met on its way, to count what the jobs reach. Nothing here decides an answer.
+use crate::call::Call;
 use crate::document::{PartList, Verdict};
 use crate::job::Settings;
 
@@ -18,7 +19,9 @@ pub struct Met {
     pub fpenalty_used: bool,
     pub gpenalty_used: bool,
     pub nodes_tie: bool,
-    pub ends_overlap: bool,
+    pub inside: bool,
+    pub no_neighbour: bool,
+    pub touches: bool,
 }
 
 impl Met {
@@ -47,9 +50,13 @@ impl Met {
         self.n_zero |= alike.d != 0 && alike.n == 0;
     }
 
-    /// A chain was queued with one row more, which overlaps these of its rows.
-    pub fn extension(&mut self, chain: &[usize], overlaps: impl Fn(usize) -> bool) {
-        self.ends_overlap = self.ends_overlap || chain.iter().any(|&row| overlaps(row));
+    /// A chain was queued with one row more, or was not, because the row overlaps one of its rows.
+    pub fn extension(&mut self, call: &Call, chain: &[usize], row: usize, overlaps: impl Fn(usize) -> bool) {
+        let (start, end) = call.interval(row);
+        let kept_back = chain.iter().any(|&earlier| overlaps(earlier));
+        self.inside |= kept_back && start == end;
+        self.no_neighbour |= kept_back && chain.last().is_some_and(|&last| !overlaps(last));
+        self.touches |= !kept_back && start == end && chain.iter().any(|&earlier| call.interval(earlier).0 < start && call.interval(earlier).1 == start);
     }
 
     /// A node was a candidate of one-to-one.

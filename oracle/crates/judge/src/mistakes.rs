@@ -32,7 +32,13 @@ mistakes! {
     "signs of the sizes not compared": sign = |_| 1;
     "size zero taken as plus": sign = |size| if size == 0 { 1 } else { size.signum() };
     "`<=` for `<` in overlaps": overlaps = |a, b| a.0.max(b.0) <= a.1.min(b.1);
-    "no two rows of a chain may overlap": may_follow = |full, chain, overlaps| full && !chain.iter().any(|&row| overlaps(row));
+    "a zero-length interval overlaps nothing": overlaps = |a, b| a.0.max(b.0) < a.1.min(b.1);
+    "a zero-length interval at another's start lies inside it": overlaps = |a, b| DOCUMENT.overlaps(a, b) || (b.0 == b.1 && a.0 == b.0 && a.1 > b.0);
+    "a zero-length interval at another's end lies inside it": overlaps = |a, b| DOCUMENT.overlaps(a, b) || (b.0 == b.1 && a.0 < b.0 && a.1 == b.0);
+    "two zero-length intervals at one place overlap": overlaps = |a, b| DOCUMENT.overlaps(a, b) || (a.0 == a.1 && a == b);
+    "only the earlier row may lie inside": overlaps = |a, b| a.0.max(b.0) < a.1.min(b.1) || (a.0 == a.1 && b.0 < a.0 && b.1 > a.0);
+    "only neighbours are asked": may_follow = |full, chain, overlaps| full && chain.last().is_none_or(|&last| !overlaps(last));
+    "only the first row of a chain is asked": may_follow = |full, chain, overlaps| full && chain.first().is_none_or(|&first| !overlaps(first));
     "the first of two equal chains wins": chain_replaces = |score, best| score > best.score;
     "a later list wins on an equal score": list_replaces = |score, best| score >= best.score && score > 0.0;
     "part lists from the shortest up": list_lengths = |m, fnmax| DOCUMENT.list_lengths(m, fnmax).into_iter().rev().collect();

@@ -106,9 +106,11 @@ rules! {
         if a == b { 1.0 } else { a.min(b).max(1) as f32 / a.max(b).max(1) as f32 }
     }
 
-    /// "the larger start is less than the smaller end"
+    /// "the larger start is less than the smaller end"; document 02, P5: "a zero-length interval also overlaps one whose start is less
+    /// than it and whose end is greater"
     fn overlaps(a: (u64, u64), b: (u64, u64)) -> bool {
-        a.0.max(b.0) < a.1.min(b.1)
+        let inside = |point: (u64, u64), other: (u64, u64)| point.0 == point.1 && other.0 < point.0 && other.1 > point.0;
+        a.0.max(b.0) < a.1.min(b.1) || inside(a, b) || inside(b, a)
     }
 
     // Parts, graph, paths
@@ -128,9 +130,9 @@ rules! {
         row as u32
     }
 
-    /// "A chain is an ascending list of rows, empty included, whose neighbours have edges; a bare graph has only the empty one."
+    /// "a bare graph has only the empty one"; document 02, P5: "no two rows of a chain may overlap, neighbours or not"
     fn may_follow(full: bool, chain: &[usize], overlaps: &dyn Fn(usize) -> bool) -> bool {
-        full && chain.last().is_none_or(|&last| !overlaps(last))
+        full && !chain.iter().any(|&row| overlaps(row))
     }
 
     // Score of a chain

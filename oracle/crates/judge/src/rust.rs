@@ -15,6 +15,8 @@ pub enum By {
     Ordered,
     /// Squish kept a list from the empty chain, where the unchanged Rust underflows.
     Squish,
+    /// A zero-length interval lies inside another, or a row that is not the last kept one from a chain (document 02, P5).
+    Overlap,
 }
 
 #[derive(Clone, Debug)]
@@ -23,6 +25,8 @@ pub struct Judged {
     pub by: By,
     pub distance_tie: bool,
     pub score_tie: bool,
+    /// The rule of document 02, P5, was met.
+    pub overlap: bool,
     /// What the unchanged Rust said, where it differs.
     pub unchanged_differs: Option<Answer>,
 }
@@ -34,6 +38,7 @@ impl Judged {
             by: By::Table,
             distance_tie: false,
             score_tie: false,
+            overlap: false,
             unchanged_differs: None,
         }
     }
@@ -144,20 +149,26 @@ macro_rules! build {
 build!(unchanged_build, unchanged);
 build!(ordered_build, ordered);
 
-/// N, the number of chains, or the cap if there are more: document 01's c(r), from the last row to the first.
+/// How many lists of these rows have no overlapping pair, the empty one counted, or the cap if there are more: those without the
+/// first row, and those with it, whose other rows do not overlap it. `apart` has for each row a bit for each row that it does not overlap.
+fn lists(apart: &[u64], rows: u64, cap: u64) -> u64 {
+    if rows == 0 || cap < 2 {
+        return cap.min(1);
+    }
+    let others = rows & (rows - 1);
+    let without = lists(apart, others, cap);
+    without + lists(apart, others & apart[rows.trailing_zeros() as usize], cap - without)
+}
+
+/// N, the number of ascending lists of rows without an overlapping pair, or the cap if there are more (document 02, P5).
 pub fn chains(call: &Call, cap: u64) -> u64 {
     if !call.settings.full {
         return cap.min(1);
     }
-    let v = call.starts.len();
-    let mut grown = vec![0u64; v];
-    for r in (0..v).rev() {
-        let follows = |s: &usize| {
-            !unchanged::kplib::metrics::overlaps(call.starts[r], call.ends[r], call.starts[*s], call.ends[*s])
-        };
-        grown[r] = (r + 1..v).filter(follows).fold(1, |sum, s| cap.min(sum + grown[s]));
-    }
-    grown.iter().fold(1, |sum, c| cap.min(sum + c))
+    let rows = || 0..call.starts.len();
+    let is_apart = |r: usize, s: usize| !ordered::kplib::metrics::overlaps(call.starts[r], call.ends[r], call.starts[s], call.ends[s]);
+    let apart: Vec<u64> = rows().map(|r| rows().filter(|&s| is_apart(r, s)).map(|s| 1 << s).sum()).collect();
+    lists(&apart, rows().map(|r| 1 << r).sum(), cap)
 }
 
 fn one_to_one(call: &Call) -> Judged {
@@ -172,6 +183,7 @@ fn one_to_one(call: &Call) -> Judged {
         by: if score_tie { By::Ordered } else { By::Unchanged },
         distance_tie: false,
         score_tie,
+        overlap: false,
         unchanged_differs: None,
     }
 }
@@ -189,15 +201,18 @@ fn search(call: &Call) -> Judged {
         said.scored = notes.scored as u32;
         said.complete = notes.left == 0;
     }
+    let overlap = notes.inside || notes.kept_back;
     let by = if notes.squish_empty {
         By::Squish
+    } else if overlap {
+        By::Overlap
     } else if notes.distance_tie || notes.score_tie {
         By::Ordered
     } else {
         By::Unchanged
     };
-    if !notes.squish_empty && !notes.distance_tie {
-        assert_eq!(answer, unchanged, "where nothing ties both builds agree: {call:?}");
+    if !notes.squish_empty && !notes.distance_tie && !overlap {
+        assert_eq!(answer, unchanged, "where nothing ties and no rule of overlap is met both builds agree: {call:?}");
     }
     Judged {
         unchanged_differs: (unchanged != answer).then_some(unchanged),
@@ -205,6 +220,7 @@ fn search(call: &Call) -> Judged {
         by,
         distance_tie: notes.distance_tie,
         score_tie: notes.score_tie,
+        overlap,
     }
 }
 

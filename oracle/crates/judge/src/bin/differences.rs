@@ -1,4 +1,4 @@
-//! Where the unchanged Rust says something else than document 01, by class, each with the smallest input found:
+//! Where the unchanged Rust says something else than the documents, by class, each with the smallest input found:
 //! `differences [INPUTS]`.
 use judge::answer::Answer;
 use judge::generate::input;
@@ -14,10 +14,11 @@ fn main() {
     let count: u64 = std::env::args().nth(1).map_or(20_000, |n| n.parse().expect("a number of inputs"));
     let mut inputs: Vec<Vec<u8>> = exhaust::jobs().step_by(7).map(|job| job.bytes()).collect();
     inputs.extend((0..count).map(|i| input(&mut Random::new(i))));
-    let classes: [(&str, fn(&Judged) -> bool); 3] = [
-        ("queued distances tie", |j| j.distance_tie && j.by != By::Squish),
-        ("squish and the empty chain", |j| j.by == By::Squish && !j.distance_tie),
-        ("anything else", |j| !j.distance_tie && j.by != By::Squish),
+    let classes: [(&str, fn(&Judged) -> bool); 4] = [
+        ("queued distances tie", |j| j.distance_tie && j.by != By::Squish && !j.overlap),
+        ("squish and the empty chain", |j| j.by == By::Squish && !j.distance_tie && !j.overlap),
+        ("an insertion inside another, or rows that are no neighbours", |j| j.overlap && !j.distance_tie && j.by != By::Squish),
+        ("anything else", |j| !j.distance_tie && j.by != By::Squish && !j.overlap),
     ];
     for (words, of_class) in classes {
         let one_of_class = |bytes: &[u8]| program::judged(bytes).into_iter().find(|judged| judged.unchanged_differs.is_some() && of_class(judged));
@@ -28,7 +29,7 @@ fn main() {
         if let Some(small) = small {
             let judged = one_of_class(&small).expect("it still shows");
             println!("    {}", describe::bytes(&small));
-            println!("    document 01    {}", lines(&judged.answer));
+            println!("    the documents  {}", lines(&judged.answer));
             println!("    unchanged Rust {}", lines(&judged.unchanged_differs.unwrap()));
         }
     }

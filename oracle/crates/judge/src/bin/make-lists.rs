@@ -115,7 +115,7 @@ fn at_limits() -> Vec<Vec<u8>> {
     for count in [0, 8, 9, 65] {
         with(&|j| j.haplotypes = vec![vec![part(1, b"AG"); count]]);
     }
-    // 0-10, 5-5, 6-8: a chain whose ends overlap, N 7
+    // 0-10, 5-5, 6-8: N 5; 0 1 2 is no chain, 1 2 is
     with(&|j| {
         j.variants = vec![variant(0, 10, 1, b"AG"), variant(5, 5, 1, b"CT"), variant(6, 8, 1, b"GG")];
         j.haplotypes = vec![vec![part(3, b"AGCTGG")]];
