@@ -172,7 +172,6 @@ mistakes! {
     "`hap` from 1": hap_number = |at| at + 1;
     "16 looked for before 10": refusals = || &[1, 2, 3, 4, 27, 5, 6, 7, 8, 14, 9, 16, 10, 11, 12];
     "16 looked for before 9": refusals = || &[1, 2, 3, 4, 27, 5, 6, 7, 8, 14, 16, 9, 10, 11, 12];
-    "16 looked for before 14": refusals = || &[1, 2, 3, 4, 27, 5, 6, 7, 8, 16, 14, 9, 10, 11, 12];
     "16 looked for after 11": refusals = || &[1, 2, 3, 4, 27, 5, 6, 7, 8, 14, 9, 10, 11, 16, 12];
     "16 looked for after 12": refusals = || &[1, 2, 3, 4, 27, 5, 6, 7, 8, 14, 9, 10, 11, 12, 16];
     "16 not looked for": refusals = || &[1, 2, 3, 4, 27, 5, 6, 7, 8, 14, 9, 10, 11, 12];
