@@ -40,6 +40,7 @@ enum nd_refusal {
     ND_REFUSED_ANSWER_ROOM = 12, /* answer room under V rows */
     ND_REFUSED_TOO_MANY_LETTERS = 13, /* a sequence over its letter limit */
     ND_REFUSED_REPEATED_NUMBER = 14, /* a repeated record number */
+    ND_REFUSED_EMPTY_ROW = 16, /* a variant's feature row is all zero */
     ND_REFUSED_UNKNOWN_KIND = 20, /* unknown kind */
     ND_REFUSED_CUT_SHORT = 21, /* input ends inside a record or without 0x00 */
     ND_REFUSED_OUT_OF_PLACE = 22, /* out of place */
@@ -75,6 +76,7 @@ static inline const char *nd_refusal_text(uint32_t number)
     case ND_REFUSED_ANSWER_ROOM: return "answer room under V rows";
     case ND_REFUSED_TOO_MANY_LETTERS: return "a sequence over its letter limit";
     case ND_REFUSED_REPEATED_NUMBER: return "a repeated record number";
+    case ND_REFUSED_EMPTY_ROW: return "a variant's feature row is all zero";
     case ND_REFUSED_UNKNOWN_KIND: return "unknown kind";
     case ND_REFUSED_CUT_SHORT: return "input ends inside a record or without 0x00";
     case ND_REFUSED_OUT_OF_PLACE: return "out of place";
