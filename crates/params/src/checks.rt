@@ -143,7 +143,7 @@ fn all_zero(row: &[i32]) -> bool
 {
     let mut i: usize = 0;
     while i < row.len() {
-        if row[i] != 0 {
+        if magnitude(row[i]) != 0 {
             return false;
         }
         i += 1;
