@@ -156,9 +156,10 @@ struct nd_settings {
  * change nothing else of an answer. What lies in rows and records behind that stays as it was.
  * V is starts_len, m is part_sizes_len; feature rows of 4^k entries lie one behind the other. links
  * and keys, the queue, hold at least 1 + (maxpaths + 1) * V entries each in a search; their content
- * afterwards is open. Refuses by 1 to 12 and by 14 (a repeated record number), which comes after 8
- * and before 9; 6 is also for other than V record numbers, and 12 for fewer than V entries in rows
- * or in records. The report is then all zeros. */
+ * afterwards is open. Refuses by 1 to 12, by 14 (a repeated record number), which comes after 8 and
+ * before 9, and by 16 (a variant's feature row is all zero; a part's may be), after 10 and before 11;
+ * 6 is also for other than V record numbers, and 12 for fewer than V entries in rows or in records.
+ * The report is then all zeros. */
 uint32_t nd_apply_haplotype(const struct nd_settings *settings, const uint64_t *starts,
                             size_t starts_len, const uint64_t *ends, size_t ends_len,
                             const int32_t *sizes, size_t sizes_len, const int32_t *features,
