@@ -11,7 +11,7 @@ use lib.IntN.{ℤ, pos, negsuc, natAbs}
 use lib.ListN.{length, getD, drop, length-take}
 use lib.Seq.{getD-take, getD-drop}
 use Rattle.paths.proofs.BooleanLaws.{clash, and-both}
-use Rattle.metrics.specs.Letters.{everyByte, windowsReading, timesIn, signed, tableFrom, countsReading, countsOf, entriesOf}
+use Rattle.metrics.specs.Letters.{everyByte, windowsReading, timesIn, signed, tableFrom, countsReading, countsOf, entriesOf, EntriesSum, EntriesSumToLength}
 use Rattle.metrics.proofs.Windows.{signed-size}
 use Rattle.metrics.proofs.Totals.{entries-sum, entries-sum-to-length}
 use Rattle.params.specs.Numbers.{Call, Rule, rule, firstOf, rowAt, isZero, allZero, emptyRow, roomRules, callRules, firstFault}
@@ -115,12 +115,12 @@ module _ (k : ℕ) (negative : Bool) (letters : List ℕ) where
   windows = length (windowsReading everyByte k letters)
 
   windows-are : 1 ≤ k → windows ≡ length letters + 1 - k
-  unfolding countsOf
+  unfolding countsOf EntriesSum EntriesSumToLength
   windows-are h =
       sym (signed-size negative windows) ∙ (ap natAbs (sym (entries-sum everyByte k negative letters) ∙ entries-sum-to-length k negative letters h) ∙ signed-size negative (length letters + 1 - k))
 
   zero-windows : allZero row ≡ true → windows ≡ 0
-  unfolding countsOf
+  unfolding countsOf EntriesSum
   zero-windows h = sym (signed-size negative windows) ∙ ap natAbs (sym (entries-sum everyByte k negative letters) ∙ zeros-sum row h)
 
   windows-zero : windows ≡ 0 → allZero row ≡ true
