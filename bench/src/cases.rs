@@ -88,6 +88,7 @@ struct Change {
 
 impl Change {
     fn random(random: &mut Random) -> Self {
+        // more than any k: a variant without a window would be refused by 16
         let count = 50 + random.below(5_000);
         Change { letters: random.letters(count), negative: random.below(4) == 0 }
     }

@@ -49,19 +49,25 @@ static struct answer unwritten(void)
     return answer;
 }
 
-static uint32_t search(const struct nd_settings *settings, const uint32_t *record_numbers, size_t records_len, struct answer *answer)
+/* The second variant has these letters. */
+static uint32_t search_over(const char *letters, const struct nd_settings *settings, const uint32_t *record_numbers, size_t records_len, struct answer *answer)
 {
     uint64_t starts[V] = {10, 20}, ends[V] = {10, 20}, keys[ROOM];
     int32_t sizes[V] = {2, 2}, features[V * ENTRIES], part_sizes[1] = {2}, part_features[ENTRIES];
     uint32_t links[ROOM], chains = 0;
     count("AG", features);
-    count("CT", features + ENTRIES);
+    count(letters, features + ENTRIES);
     count("AG", part_features);
     expect("chain count", nd_count_chains(starts, V, ends, V, true, 4096, &chains), ND_ACCEPTED);
     expect("chains", chains, 4);
     return nd_apply_haplotype(settings, starts, V, ends, V, sizes, V, features, V * ENTRIES, record_numbers, V,
                               part_sizes, 1, part_features, ENTRIES, links, ROOM, keys, ROOM, answer->rows, V,
                               answer->records, records_len, answer->report);
+}
+
+static uint32_t search(const struct nd_settings *settings, const uint32_t *record_numbers, size_t records_len, struct answer *answer)
+{
+    return search_over("CT", settings, record_numbers, records_len, answer);
 }
 
 static void worked_example(void)
@@ -86,15 +92,29 @@ static void worked_example(void)
 }
 
 /* A refused search writes its report alone. */
-static void refused_records(const char *what, uint32_t first, uint32_t second, size_t records_len, uint32_t wanted)
+static void refused_over(const char *letters, const char *what, uint32_t first, uint32_t second, size_t records_len, uint32_t wanted)
 {
     const uint32_t record_numbers[V] = {first, second};
     struct nd_settings settings = worked_settings();
     struct answer answer = unwritten();
-    expect(what, search(&settings, record_numbers, records_len, &answer), wanted);
+    expect(what, search_over(letters, &settings, record_numbers, records_len, &answer), wanted);
     expect("its report", answer.report[ND_ROWS], 0);
     expect("its rows", answer.rows[0] == MARK && answer.rows[1] == MARK, 1);
     expect("its records", answer.records[0] == MARK && answer.records[1] == MARK, 1);
+}
+
+static void refused_records(const char *what, uint32_t first, uint32_t second, size_t records_len, uint32_t wanted)
+{
+    refused_over("CT", what, first, second, records_len, wanted);
+}
+
+/* A variant of fewer letters than k has a row all zero. */
+static void empty_row(void)
+{
+    refused_over("", "no letters", 31, 32, V, ND_REFUSED_EMPTY_ROW);
+    refused_over("", "no letters, and room for one record", 31, 32, V - 1, ND_REFUSED_EMPTY_ROW);
+    refused_over("", "no letters, and a repeated record number", 31, 31, V, ND_REFUSED_REPEATED_NUMBER);
+    expect("its words", strcmp(nd_refusal_text(ND_REFUSED_EMPTY_ROW), "a variant's feature row is all zero") == 0, 1);
 }
 
 /* What two haplotypes are lent to write their answers to. */
@@ -193,6 +213,7 @@ int main(void)
     refused_records("a repeated record number", 31, 31, V, ND_REFUSED_REPEATED_NUMBER);
     refused_records("room for one record", 31, 32, V - 1, ND_REFUSED_ANSWER_ROOM);
     refused_records("both", 31, 31, V - 1, ND_REFUSED_REPEATED_NUMBER);
+    empty_row();
     two_haplotypes();
     program_text();
     bed();

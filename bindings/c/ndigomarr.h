@@ -20,7 +20,7 @@
 extern "C" {
 #endif
 
-/* The refusals, each with the table's words. 1 to 14 and 27 are returned, and some of them stand in
+/* The refusals, each with the table's words. 1 to 14, 16 and 27 are returned, and some of them stand in
  * nd_answer's text too; 20 to 26 stand there alone; 30 is the Rattle reader's and writer's; 40 to
  * 44 are BED's.
  * Made from docs/refusals.tsv by tools/refusals --write. */
@@ -40,6 +40,7 @@ enum nd_refusal {
     ND_REFUSED_ANSWER_ROOM = 12, /* answer room under V rows */
     ND_REFUSED_TOO_MANY_LETTERS = 13, /* a sequence over its letter limit */
     ND_REFUSED_REPEATED_NUMBER = 14, /* a repeated record number */
+    ND_REFUSED_EMPTY_ROW = 16, /* a variant's feature row is all zero */
     ND_REFUSED_UNKNOWN_KIND = 20, /* unknown kind */
     ND_REFUSED_CUT_SHORT = 21, /* input ends inside a record or without 0x00 */
     ND_REFUSED_OUT_OF_PLACE = 22, /* out of place */
@@ -75,6 +76,7 @@ static inline const char *nd_refusal_text(uint32_t number)
     case ND_REFUSED_ANSWER_ROOM: return "answer room under V rows";
     case ND_REFUSED_TOO_MANY_LETTERS: return "a sequence over its letter limit";
     case ND_REFUSED_REPEATED_NUMBER: return "a repeated record number";
+    case ND_REFUSED_EMPTY_ROW: return "a variant's feature row is all zero";
     case ND_REFUSED_UNKNOWN_KIND: return "unknown kind";
     case ND_REFUSED_CUT_SHORT: return "input ends inside a record or without 0x00";
     case ND_REFUSED_OUT_OF_PLACE: return "out of place";
@@ -154,9 +156,10 @@ struct nd_settings {
  * change nothing else of an answer. What lies in rows and records behind that stays as it was.
  * V is starts_len, m is part_sizes_len; feature rows of 4^k entries lie one behind the other. links
  * and keys, the queue, hold at least 1 + (maxpaths + 1) * V entries each in a search; their content
- * afterwards is open. Refuses by 1 to 12 and by 14 (a repeated record number), which comes after 8
- * and before 9; 6 is also for other than V record numbers, and 12 for fewer than V entries in rows
- * or in records. The report is then all zeros. */
+ * afterwards is open. Refuses by 1 to 12, by 14 (a repeated record number), which comes after 8 and
+ * before 9, and by 16 (a variant's feature row is all zero; a part's may be), after 10 and before 11;
+ * 6 is also for other than V record numbers, and 12 for fewer than V entries in rows or in records.
+ * The report is then all zeros. */
 uint32_t nd_apply_haplotype(const struct nd_settings *settings, const uint64_t *starts,
                             size_t starts_len, const uint64_t *ends, size_t ends_len,
                             const int32_t *sizes, size_t sizes_len, const int32_t *features,

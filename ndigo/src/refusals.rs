@@ -1,6 +1,6 @@
 //! Refusals that can be told before running, each with its line. The library decides; this says why in the sheet's own words.
 use crate::job::{HAPLOTYPES_LIMIT, LETTERS_LIMIT};
-use crate::model::{counted, place_of, Sequence, Sheet, SETTINGS};
+use crate::model::{counted, place_of, Sequence, Sheet, Variant, K, SETTINGS};
 
 /// Document 01's table: number, name and words of each refusal, parted by tabs.
 const TABLE: &str = include_str!("../../docs/refusals.tsv");
@@ -68,8 +68,8 @@ fn of_setting(sheet: &Sheet, number: u32, place: usize, limit: &str) -> Refusal 
 }
 
 fn bad_k(sheet: &Sheet) -> Vec<Refusal> {
-    let good = (1..=6).contains(&sheet.settings.words[crate::model::K]);
-    if good { vec![] } else { vec![of_setting(sheet, 1, crate::model::K, "it must be 1 to 6")] }
+    let good = (1..=6).contains(&sheet.settings.words[K]);
+    if good { vec![] } else { vec![of_setting(sheet, 1, K, "it must be 1 to 6")] }
 }
 
 fn bad_settings(sheet: &Sheet) -> Vec<Refusal> {
@@ -115,7 +115,23 @@ fn bad_table(sheet: &Sheet) -> Vec<Refusal> {
         found.push(at(8, v.line(), reason));
     }
     found.extend(large_sizes(sheet.sequences()));
+    found.extend(sheet.variants.iter().filter_map(|variant| no_window(variant, sheet.settings.words[K])));
     found
+}
+
+/// A variant's row is all zero exactly where it has fewer letters than k: each window is counted with one sign. Of a k that is refused nothing is said.
+fn no_window(variant: &Variant, k: u32) -> Option<Refusal> {
+    let count = variant.sequence.letters.len();
+    if !(1..=6).contains(&k) || count >= k as usize {
+        return None;
+    }
+    let (has, instead) = match count {
+        0 => ("no letters".to_string(), String::new()),
+        1 => (counted(count, "letter"), " set k to 1,".to_string()),
+        _ => (counted(count, "letter"), format!(" set k to {count} or less,")),
+    };
+    let reason = format!("\"{}\" has {has} and k is {k}: it has no window of {}, so nothing can match it", variant.name(), counted(k as usize, "letter"));
+    Some(at(16, variant.line(), format!("{reason}; write all its letters,{instead} or leave the row out")))
 }
 
 fn over_parts(parts: &[Sequence]) -> Option<Refusal> {

@@ -37,6 +37,7 @@ fn strange_letters(s: &Sequence) -> Option<Warning> {
     Some(on_line(s.line, format!("\"{}\": {count} of {all} {verb} not A, G, C or T, the first is {first} at letter {}; each counts as A", s.name, place + 1)))
 }
 
+/// Of a part: a variant without windows is refused.
 const NO_WINDOWS: &str = "it has no windows and adds nothing to seqsim, which is 0 where no windows are compared";
 
 fn few_letters(s: &Sequence, k: u32) -> Option<Warning> {
@@ -89,8 +90,8 @@ pub fn of_rows(sheet: &Sheet) -> Vec<Warning> {
     for sequence in sheet.sequences() {
         found.extend(strange_letters(sequence));
         found.extend(other_size(sequence));
-        found.extend(few_letters(sequence, k));
     }
+    found.extend(sheet.parts.iter().filter_map(|part| few_letters(part, k)));
     found.extend(sheet.variants.iter().filter_map(span_of_a_deletion));
     found.extend(counted_from_one(&sheet.variants));
     if sheet.parts.is_empty() {

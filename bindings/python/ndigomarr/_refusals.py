@@ -16,6 +16,7 @@ TABLE: Dict[int, Tuple[str, str]] = {
     12: ("ANSWER_ROOM", "answer room under V rows"),
     13: ("TOO_MANY_LETTERS", "a sequence over its letter limit"),
     14: ("REPEATED_NUMBER", "a repeated record number"),
+    16: ("EMPTY_ROW", "a variant's feature row is all zero"),
     20: ("UNKNOWN_KIND", "unknown kind"),
     21: ("CUT_SHORT", "input ends inside a record or without 0x00"),
     22: ("OUT_OF_PLACE", "out of place"),

@@ -104,6 +104,18 @@ def test_a_repeated_record_number():
     assert (told.value.number, told.value.name) == (14, "REPEATED_NUMBER")
 
 
+@pytest.mark.parametrize("settings", [SETTINGS, Settings(k=1, one_to_one=True), Settings(k=1, full=False), Settings(k=1, maxnodes=0)])
+def test_a_variant_with_fewer_letters_than_k(settings):
+    table, haplotype = worked()
+    haplotype.insertion("")
+    ndigomarr.apply_haplotype(settings, table, haplotype)
+    table.add(30, 30, 2, "")
+    for call in (lambda: ndigomarr.apply_haplotype(settings, table, haplotype), lambda: ndigomarr.apply_haplotypes(settings, table, [haplotype, haplotype])):
+        with pytest.raises(Refused) as told:
+            call()
+        assert (told.value.number, told.value.name, str(told.value)) == (16, "EMPTY_ROW", "refused 16: a variant's feature row is all zero")
+
+
 @pytest.mark.parametrize("call", [
     lambda: ndigomarr.sizesim(-1, 2),
     lambda: ndigomarr.sizesim(1 << 64, 2),

@@ -51,6 +51,7 @@ mod tests {
         assert_eq!(said(1).as_deref(), Some("refused 1: k not 1 to 6"));
         assert_eq!(said(12).as_deref(), Some("refused 12: answer room under V rows"));
         assert_eq!(said(14).as_deref(), Some("refused 14: a repeated record number"));
+        assert_eq!(said(16).as_deref(), Some("refused 16: a variant's feature row is all zero"));
         assert_eq!(said(2_000).as_deref(), Some("refused 2000: not in the table of refusals"));
     }
 

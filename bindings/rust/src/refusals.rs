@@ -32,6 +32,8 @@ pub enum Refusal {
     TooManyLetters,
     /// 14: a repeated record number
     RepeatedNumber,
+    /// 16: a variant's feature row is all zero
+    EmptyRow,
     /// 20: unknown kind
     UnknownKind,
     /// 21: input ends inside a record or without 0x00
@@ -65,7 +67,7 @@ pub enum Refusal {
 }
 
 /// Number, case and words of each.
-pub(crate) const TABLE: [(u32, Refusal, &str); 28] = [
+pub(crate) const TABLE: [(u32, Refusal, &str); 29] = [
     (1, Refusal::BadK, "k not 1 to 6"),
     (2, Refusal::BadFloat, "a float setting is NaN or outside its range"),
     (3, Refusal::BadNumber, "a whole-number setting over its limit"),
@@ -80,6 +82,7 @@ pub(crate) const TABLE: [(u32, Refusal, &str); 28] = [
     (12, Refusal::AnswerRoom, "answer room under V rows"),
     (13, Refusal::TooManyLetters, "a sequence over its letter limit"),
     (14, Refusal::RepeatedNumber, "a repeated record number"),
+    (16, Refusal::EmptyRow, "a variant's feature row is all zero"),
     (20, Refusal::UnknownKind, "unknown kind"),
     (21, Refusal::CutShort, "input ends inside a record or without 0x00"),
     (22, Refusal::OutOfPlace, "out of place"),

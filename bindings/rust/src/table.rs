@@ -81,7 +81,8 @@ impl Table {
         self.add(start, start.saturating_add(letters.len() as u64), -signed(letters), letters, true)
     }
 
-    /// Adds a variant; its letters are counted, downwards for a `negative` sequence.
+    /// Adds a variant; its letters are counted, downwards for a `negative` sequence. With fewer letters than k it has no window, and a search
+    /// refuses the table by 16; a part may have as few.
     ///
     /// ```
     /// let mut table = ndigomarr::Table::new(1);

@@ -62,6 +62,19 @@ fn a_refusal_of_settings_or_table_answers_none() {
     assert_eq!(number(apply_haplotypes(&wrong, &table(), &haplotypes)), 1);
     let repeated = table().with_record_numbers(&[50, 60, 50]);
     assert_eq!(number(apply_haplotypes(&settings(), &repeated, &haplotypes)), 14);
+    let mut empty = table();
+    empty.add(9, 9, 2, b"", false).expect("no letters");
+    assert_eq!(number(apply_haplotypes(&settings(), &empty, &haplotypes)), 16);
+    // with one haplotype its parts are asked before
+    assert_eq!(number(apply_haplotypes(&settings(), &empty, &[too_large()])), 9);
+}
+
+#[test]
+fn a_part_without_letters_is_taken() {
+    let haplotypes = [haplotype(&[b"AG", b""]), haplotype(&[b""])];
+    let answers = apply_haplotypes(&settings(), &table(), &haplotypes).expect("accepted");
+    assert_eq!(answers, alone(&haplotypes));
+    assert!(answers.iter().all(Result::is_ok));
 }
 
 #[test]

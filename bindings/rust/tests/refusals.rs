@@ -138,6 +138,55 @@ fn a_repeated_record_number_comes_after_8_and_before_9() {
     assert_eq!(number(&one_letter(), &repeated(|table| table.add_counted(9, 9, 1, &row)), &part), 14);
 }
 
+/// The table with a row all zero behind it.
+fn with_empty_row(mut table: Table) -> Table {
+    table.add_counted(70, 70, 1, &[0; 4]);
+    table
+}
+
+#[test]
+fn a_variants_row_all_zero_in_every_mode() {
+    for (one_to_one, full, maxnodes) in [(false, true, 5000), (true, true, 5000), (false, false, 5000), (true, false, 5000), (false, true, 1)] {
+        let settings = Settings { one_to_one, full, maxnodes, ..one_letter() };
+        assert_eq!(number(&settings, &with_empty_row(table(0)), &haplotype(1)), 16);
+        assert_eq!(number(&settings, &with_empty_row(table(63)), &haplotype(0)), 16);
+        // one entry is enough, the last or below zero
+        let mut scarce = table(1);
+        scarce.add_counted(1, 1, 1, &[0, 0, 0, -1]);
+        assert!(apply_haplotype(&settings, &scarce, &haplotype(1)).is_ok());
+    }
+}
+
+#[test]
+fn fewer_letters_than_k() {
+    for k in 1..=6 {
+        let settings = Settings { k, ..Settings::default() };
+        let with = |letters: &[u8], part: &[u8]| {
+            let (mut table, mut haplotype) = (Table::new(k), Haplotype::new(k));
+            table.add(1, 1, 1, letters, false).expect("few letters");
+            haplotype.add(1, part, false).expect("few letters");
+            apply_haplotype(&settings, &table, &haplotype)
+        };
+        let (few, enough) = (&b"GATTACA"[..k as usize - 1], &b"GATTACA"[..k as usize]);
+        assert_eq!(with(few, enough).map_err(Refusal::number), Err(16));
+        // a part may have as few
+        assert!(with(enough, few).is_ok());
+    }
+}
+
+#[test]
+fn a_row_all_zero_comes_after_10() {
+    let mut large = table(1);
+    large.add_counted(1, 1, 1, &[131_072, -1, 0, 0]);
+    assert_eq!(number(&one_letter(), &with_empty_row(large), &haplotype(1)), 10);
+    for (size, row, wanted) in [(131_073, [1, 0, 0, 0], 9), (1, [131_073, 0, 0, 0], 10), (1, [0; 4], 16)] {
+        let mut part = haplotype(1);
+        part.add_counted(size, &row);
+        assert_eq!(number(&one_letter(), &with_empty_row(table(1)), &part), wanted);
+    }
+    assert_eq!(number(&one_letter(), &with_empty_row(table(1)).with_record_numbers(&[3, 3]), &haplotype(1)), 14);
+}
+
 #[test]
 fn letters_that_are_not_counted() {
     let mut table = Table::new(7);
@@ -154,6 +203,8 @@ fn a_refusal_says_the_tables_words() {
     assert_eq!(said.to_string(), "refused 1: k not 1 to 6");
     let repeated = refusal(&one_letter(), &table(2).with_record_numbers(&[3, 3]), &haplotype(1));
     assert_eq!(repeated.to_string(), "refused 14: a repeated record number");
+    let empty = refusal(&one_letter(), &with_empty_row(table(1)), &haplotype(1));
+    assert_eq!((empty, empty.to_string().as_str()), (Refusal::EmptyRow, "refused 16: a variant's feature row is all zero"));
     let error: Box<dyn std::error::Error> = said.into();
     assert_eq!(error.to_string(), said.to_string());
 }

@@ -3,6 +3,7 @@ pub mod Bench
 pub mod Demand3Laws
 pub mod RecordNumbersLaws
 pub mod SeveralHaplotypesLaws
+pub mod EmptyRowsLaws
 pub mod TargetLaws
 pub mod Worked
 pub mod NoParts

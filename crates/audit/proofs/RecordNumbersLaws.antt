@@ -25,7 +25,7 @@ use Rattle.audit.specs.RecordNumbers.{Shared, upToEight, RecordNumbers}
 use Rattle.audit.proofs.Demand3Laws.{demand3-holds}
 
 -- ---- two rows with one number
-any-found : (test : ℕ → Bool) (n : ℕ) → anyBelow n test ≡ true → (i : ℕ) × (i < n) × (test i ≡ true)
+pub any-found : (test : ℕ → Bool) (n : ℕ) → anyBelow n test ≡ true → (i : ℕ) × (i < n) × (test i ≡ true)
 unfolding anyBelow
 any-found test zero h = absurd (clash false refl h)
 any-found test (suc n) h = go (anyBelow n test) refl h (λ e. any-found test n e)
@@ -60,11 +60,11 @@ module _ (numbers : List ℕ) where
 -- ---- the table of refusals
 
 -- no row of the list has the number
-abbrev lacks : ℕ → List Rule → Bool
+abbrev pub lacks : ℕ → List Rule → Bool
 lacks own [] = true
 lacks own (r ∷ rows) = not (eqb (r .number) own) && lacks own rows
 
-never : (own : ℕ) (rows : List Rule) → 0 < own → lacks own rows ≡ true → firstOf rows ≡ own → ⊥
+pub never : (own : ℕ) (rows : List Rule) → 0 < own → lacks own rows ≡ true → firstOf rows ≡ own → ⊥
 never own [] h l e = omega arith
 never own (r ∷ rows) h l e =
     let both = and-both (not (eqb (r .number) own)) (lacks own rows) l in
@@ -131,7 +131,7 @@ module _ (n : Numbered) where
     none-repeated = from-six .1 .1 .1 .0
 
     pub accepted-as : numberedFault n ≡ firstFault (n .call)
-    accepted-as = same-fault (from-six .0) none-repeated (from-six .1 .1 .1 .1 .1 .1 .1 .1 .1 .1 .0)
+    accepted-as = same-fault (from-six .0) none-repeated (from-six .1 .1 .1 .1 .1 .1 .1 .1 .1 .1 .1 .0)
 
     v-numbers : length (n .numbers) ≡ length (n .call .table .starts)
     v-numbers = eqb-true (length (n .numbers)) (length (n .call .table .starts)) (not-false _ (from-six .0))

@@ -111,11 +111,12 @@ module _ (n : NumberedSeveral) (e : numberedSeveralFault n ≡ 0) where
         limits .0,
         limits .1 .1 .0,
         limits .1 .1 .1 .1 .0,
+        limits .1 .1 .1 .1 .1 .0,
       ) refl
 
   rooms-suffice : (many * variants ≤ whole .answerRoom) × ((many * variants ≤ n .recordRoom) × (many * 8 ≤ whole .reportRoom))
   rooms-suffice =
-      let last = all-passed .1 .1 .1 .1 .1 .1 .1 .1 .1 .1 .1 .1 .1 .1 .1 .1 .1 .1 .1 in
+      let last = all-passed .1 .1 .1 .1 .1 .1 .1 .1 .1 .1 .1 .1 .1 .1 .1 .1 .1 .1 .1 .1 in
       let rows = ltb-false (whole .answerRoom) (variants * many) (last .0) in
       let reports = ltb-false (whole .reportRoom) (8 * many) (last .1 .0) in
       let records = ltb-false (n .recordRoom) (variants * many) (last .1 .1 .0) in
@@ -208,7 +209,7 @@ module _ (n : Numbered) (room : ℕ) (enough : 8 ≤ room) where
     unfolding numberedFault
     rooms =
         let a = none-given (numberedRules n) refl e in
-        let last = a .1 .1 .1 .1 .1 .1 .1 .1 .1 .1 .1 .1 .1 .1 .1 .1 .1 in
+        let last = a .1 .1 .1 .1 .1 .1 .1 .1 .1 .1 .1 .1 .1 .1 .1 .1 .1 .1 in
         (ltb-false (n .call .answerRoom) v (last .0), ltb-false (n .recordRoom) v (last .1 .0))
 
   -- where it is refused nothing is laid down

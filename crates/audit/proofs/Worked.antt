@@ -7,7 +7,7 @@ use Rattle.metrics.specs.Similarity.{sumBy, magnitudeSum, overlapsOf}
 use Rattle.paths.specs.Chains.{extends, extensions}
 use Rattle.paths.specs.Search.{pick, after, scored, left}
 use Rattle.paths.specs.Best.{best}
-use Rattle.params.specs.Numbers.{firstFault, badK, badFloat, badNumber, anyBelow, startAfterEnd, fallingStart, badSize, badRow, littleQueueRoom}
+use Rattle.params.specs.Numbers.{firstFault, badK, badFloat, badNumber, anyBelow, startAfterEnd, fallingStart, badSize, badRow, allZero, emptyRow, littleQueueRoom}
 use Rattle.kplib.specs.Graph.{edge}
 use Rattle.kplib.specs.Parts.{positionsFrom, choices, fallingLists, partLists}
 use Rattle.kplib.specs.Sums.{sizeFrom, sizeOf, rowPlus, zeros, featuresFrom, featuresOf}
@@ -27,7 +27,7 @@ use Rattle.desk.specs.Desk.{jobText, readText, deskText}
 use Rattle.audit.specs.Worked.{Worked}
 
 pub worked : Worked
-unfolding answerOf rowsOf searched firstFault badK badFloat badNumber anyBelow startAfterEnd fallingStart badSize badRow littleQueueRoom magnitudeSum best resultOf scored left after
+unfolding answerOf rowsOf searched firstFault badK badFloat badNumber anyBelow startAfterEnd fallingStart badSize badRow allZero emptyRow littleQueueRoom magnitudeSum best resultOf scored left after
     pick extensions extends edge overlapsOf distanceTo sizeOf sizeFrom positionsFrom chainScore totalScore afterLists afterList listScore greaterOf partLists fallingLists choices
     featuresOf featuresFrom rowPlus zeros sumBy codeOf numberOf windowsOf timesIn tableFrom countsOf le2 le4 le8 signedOf wordOf bytes2 bytes4 bytes8 settingsIn numberBytes floatBytes
     settingsBytes kindOf bodyLen inPlace flagsOk countOf padOk tooMany faultOf afterRecord run lettersIn lettersAfter variantOf partOf variantHere partHere gather toFirst haplotypesHere

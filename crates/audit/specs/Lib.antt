@@ -2,6 +2,7 @@ pub mod Bench
 pub mod Demand3
 pub mod RecordNumbers
 pub mod SeveralHaplotypes
+pub mod EmptyRows
 pub mod Targets
 pub mod Worked
 pub mod NoParts

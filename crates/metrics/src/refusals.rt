@@ -28,6 +28,8 @@ pub const ANSWER_ROOM: u32 = 12;
 pub const TOO_MANY_LETTERS: u32 = 13;
 // a repeated record number
 pub const REPEATED_NUMBER: u32 = 14;
+// a variant's feature row is all zero
+pub const EMPTY_ROW: u32 = 16;
 // unknown kind
 pub const UNKNOWN_KIND: u32 = 20;
 // input ends inside a record or without 0x00

@@ -11,7 +11,7 @@ use lib.Dec.{leb, eqb}
 use lib.ListN.{length, getD}
 use Rattle.paths.proofs.BooleanLaws.{and-both}
 use Rattle.params.specs.declared.Settings.{Settings}
-use Rattle.params.specs.Numbers.{Table, Parts, partsOf, callOf, Rule, rule, firstOf, anyBelow, noVariants, tooMany, tableDisagrees, badSize, badRow}
+use Rattle.params.specs.Numbers.{Table, Parts, partsOf, callOf, Rule, rule, firstOf, anyBelow, noVariants, tooMany, tableDisagrees, badSize, badRow, emptyRow}
 use Rattle.params.specs.Numbers.{littleQueueRoom, littleAnswerRoom, settingsRules, boundRules, partsRules, callRules, firstFault}
 use Rattle.params.specs.Several.{Several, haplotypes, beginOf, endsDisagree, severalRules, severalFault}
 use Rattle.params.proofs.CheckLaws.{Passed, none-given, or-no}
@@ -29,9 +29,10 @@ module _ (s : Settings) (t : Table) (queue answers : ℕ) where
       ∷ (boundRules (t .starts) (t .ends)
       ++ (rule 9 (badSize (t .sizes))
       ∷ (rule 10 (badRow (4 ^ s .k) (length (t .starts)) (t .features))
+      ∷ (rule 16 (emptyRow (4 ^ s .k) (length (t .starts)) (t .features))
       ∷ (rule 11 (littleQueueRoom s (length (t .starts)) queue)
       ∷ (rule 12 (littleAnswerRoom (length (t .starts)) answers)
-      ∷ []))))))))
+      ∷ [])))))))))
 
   -- where none of them is given, the call's fault is its parts'
   by-parts : Passed table-rows → (p : Parts) → firstFault (callOf s t p queue answers) ≡ firstOf (partsRules (4 ^ s .k) p)
@@ -39,7 +40,7 @@ module _ (s : Settings) (t : Table) (queue answers : ℕ) where
   by-parts q p =
       let bounds = q .1 .1 .1 .1 .1 .1 in
       let last = bounds .1 .1 in
-      rw (q .0, q .1 .0, q .1 .1 .0, q .1 .1 .1 .0, q .1 .1 .1 .1 .0, q .1 .1 .1 .1 .1 .0, bounds .0, bounds .1 .0, last .0, last .1 .0, last .1 .1 .0, last .1 .1 .1 .0)
+      rw (q .0, q .1 .0, q .1 .1 .0, q .1 .1 .1 .0, q .1 .1 .1 .1 .0, q .1 .1 .1 .1 .1 .0, bounds .0, bounds .1 .0, last .0, last .1 .0, last .1 .1 .0, last .1 .1 .1 .0, last .1 .1 .1 .1 .0)
 
   no-parts : firstOf (partsRules (4 ^ s .k) (partsOf [] [])) ≡ 0
   unfolding badSize badRow anyBelow
@@ -71,7 +72,7 @@ module _ (s : Settings) (t : Table) (queue answers : ℕ) where
                     bounds .0,
                     (
                       bounds .1 .0,
-                      (limits .0, (limits .1 .1 .0, (limits .1 .1 .1 .1 .0, (limits .1 .1 .1 .1 .1 .0, tt)))),
+                      (limits .0, (limits .1 .1 .0, (limits .1 .1 .1 .1 .0, (limits .1 .1 .1 .1 .1 .0, (limits .1 .1 .1 .1 .1 .1 .0, tt))))),
                     ),
                   ),
                 ),
@@ -94,9 +95,10 @@ module _ (c : Several) (zeroFault : severalFault c ≡ 0) where
       let shape = rows .1 .1 in
       let bounds = shape .1 .1 .1 .1 .1 in
       let limits = bounds .1 .1 in
-      let rooms = limits .1 .1 .1 .1 in
+      let empty = limits .1 .1 .1 .1 in
+      let rooms = empty .1 in
       table-alone (c .settings) (c .table) (c .queueRoom) (length (c .table .starts))
-      (a .0, (a .1 .0, (a .1 .1 .0, (rows .0, (shape .0, (shape .1 .1 .0, (bounds .0, (bounds .1 .0, (limits .0, (limits .1 .1 .0, (rooms .0, (enough (length (c .table .starts)), tt))))))))))))
+      (a .0, (a .1 .0, (a .1 .1 .0, (rows .0, (shape .0, (shape .1 .1 .0, (bounds .0, (bounds .1 .0, (limits .0, (limits .1 .1 .0, (empty .0, (rooms .0, (enough (length (c .table .starts)), tt)))))))))))))
 
   -- the row of the stretches, its three parts
   lie-well : (endsDisagree (c .partEnds) (length (c .parts .sizes)) ≡ false) × (endsDisagree (c .featureEnds) (length (c .parts .features)) ≡ false)
@@ -122,7 +124,7 @@ module _ (c : Several) (zeroFault : severalFault c ≡ 0) where
   features-within i l = within-slice (c .featureEnds) (length (c .parts .features)) (lie-well .1) i (omega (arith, as-many-ends))
 
   abbrev rooms : Passed (rule 12 (littleAnswerRoom (length (c .table .starts) * haplotypes c) (c .answerRoom)) ∷ (rule 12 (littleAnswerRoom (8 * haplotypes c) (c .reportRoom)) ∷ []))
-  rooms = all-passed .1 .1 .1 .1 .1 .1 .1 .1 .1 .1 .1 .1 .1 .1 .1 .1 .1
+  rooms = all-passed .1 .1 .1 .1 .1 .1 .1 .1 .1 .1 .1 .1 .1 .1 .1 .1 .1 .1
 
   pub rows-suffice : length (c .table .starts) * haplotypes c ≤ c .answerRoom
   rows-suffice = ltb-false (c .answerRoom) (length (c .table .starts) * haplotypes c) (rooms .0)

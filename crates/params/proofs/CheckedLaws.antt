@@ -144,7 +144,7 @@ module _ (c : Call) (zeroFault : firstFault c ≡ 0) where
       }
 
   abbrev rooms : Passed (roomRules s (length (t .starts)) (c .queueRoom) (c .answerRoom))
-  rooms = all-passed .1 .1 .1 .1 .1 .1 .1 .1 .1 .1 .1 .1 .1 .1
+  rooms = all-passed .1 .1 .1 .1 .1 .1 .1 .1 .1 .1 .1 .1 .1 .1 .1
 
   pub queue-suffices : searchMode s (length (t .starts)) ≡ true → queueNeeds s (length (t .starts)) ≤ c .queueRoom
   unfolding littleQueueRoom

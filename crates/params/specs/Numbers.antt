@@ -1,9 +1,9 @@
 -- Document 01, "Numbers a job may hold": the table of refusals, and which of its rows a call is refused by.
 use Prim.Native.Nat.{ℕ, zero, suc, _+_, _-_, _*_, _^_}
-use mathlib.Core.Bool.{Bool, false, not, cond, _&&_, _||_}
+use mathlib.Core.Bool.{Bool, true, false, not, cond, _&&_, _||_}
 use mathlib.Core.List.{List, [], _∷_, _++_}
 use lib.Dec.{leb, ltb, eqb}
-use lib.IntN.{ℤ, pos, natAbs}
+use lib.IntN.{ℤ, pos, negsuc, natAbs}
 use lib.ListN.{length, getD, take, drop}
 use lib.Ieee.{Float, le}
 use Rattle.metrics.specs.Similarity.{whole, magnitudeSum}
@@ -115,6 +115,19 @@ badSize sizes = anyBelow (length sizes) (λ r. ltb 131072 (natAbs (getD sizes r 
 unfoldable pub badRow : ℕ → ℕ → List ℤ → Bool
 badRow e n features = anyBelow n (λ r. ltb 131072 (magnitudeSum (rowAt e features r)))
 
+abbrev pub isZero : ℤ → Bool
+isZero (pos n) = eqb n 0
+isZero (negsuc n) = false
+
+-- every entry is 0
+unfoldable pub allZero : List ℤ → Bool
+allZero [] = true
+allZero (x ∷ xs) = isZero x && allZero xs
+
+-- 16: a variant's feature row is all zero, of n rows of e entries each
+unfoldable pub emptyRow : ℕ → ℕ → List ℤ → Bool
+emptyRow e n features = anyBelow n (λ r. allZero (rowAt e features r))
+
 -- one-to-one runs when asked or when V exceeds maxnodes; any other job is in search mode
 abbrev pub searchMode : Settings → ℕ → Bool
 searchMode s v = not (s .«one_to_one» || ltb (s .maxnodes) v)
@@ -149,13 +162,15 @@ lengthRules e t p = rule 4 (noVariants (t .starts)) ∷ shapeRules e t p
 abbrev pub boundRules : List ℕ → List ℕ → List Rule
 boundRules starts ends = rule 7 (startAfterEnd starts ends) ∷ (rule 8 (fallingStart starts) ∷ [])
 
+-- a part of no entries but 0 is taken: 16 asks the variants alone
 abbrev pub limitRules : ℕ → Table → Parts → List Rule
 limitRules e t p =
     rule 9 (badSize (t .sizes))
     ∷ (rule 9 (badSize (p .sizes))
     ∷ (rule 10 (badRow e (length (t .starts)) (t .features))
     ∷ (rule 10 (badRow e (length (p .sizes)) (p .features))
-    ∷ [])))
+    ∷ (rule 16 (emptyRow e (length (t .starts)) (t .features))
+    ∷ []))))
 
 -- those that look at nothing but the parts
 abbrev pub partsRules : ℕ → Parts → List Rule

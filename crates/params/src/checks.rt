@@ -11,6 +11,7 @@ use metrics::refusals::BAD_LENGTHS;
 use metrics::refusals::BAD_NUMBER;
 use metrics::refusals::BAD_ROW;
 use metrics::refusals::BAD_SIZE;
+use metrics::refusals::EMPTY_ROW;
 use metrics::refusals::FALLING_START;
 use metrics::refusals::NO_VARIANTS;
 use metrics::refusals::QUEUE_ROOM;
@@ -19,7 +20,7 @@ use metrics::refusals::TOO_MANY;
 ghost use mathlib.Core.Path.{_≡_};
 ghost use Prim.Native.Nat.{_*_, _≤_};
 ghost use lib.ListN.{length};
-ghost use Rattle.params.specs.Numbers.{tableOf, partsOf, firstOf, startAfterEnd, fallingStart, badSize, badRow, littleQueueRoom};
+ghost use Rattle.params.specs.Numbers.{tableOf, partsOf, firstOf, startAfterEnd, fallingStart, badSize, badRow, allZero, emptyRow, littleQueueRoom};
 ghost use Rattle.params.specs.Numbers.{lengthRules, boundRules, limitRules, roomRules};
 ghost use Rattle.params.specs.CheckSteps.{Shaped};
 ghost use Rattle.params.specs.Promises.{QueueRoomPromise, CallFaultPromise, PartsFaultPromise, CountFaultPromise};
@@ -136,7 +137,37 @@ fn bad_row(features: &[i32], n: usize, e: usize) -> bool
     false
 }
 
-// 9 and 10.
+// Left at the first entry that is not 0, so that rows which hold one cost little.
+fn all_zero(row: &[i32]) -> bool
+    ensures { λ r. ⌜ r ≡ allZero (now (row .entry)) ⌝ }
+{
+    let mut i: usize = 0;
+    while i < row.len() {
+        if magnitude(row[i]) != 0 {
+            return false;
+        }
+        i += 1;
+    }
+    true
+}
+
+fn empty_row(features: &[i32], n: usize, e: usize) -> bool
+    requires { ⌜ length (now features) ≡ n * e ⌝ }
+    ensures { λ r. ⌜ r ≡ emptyRow e n (now (features .entry)) ⌝ }
+{
+    let mut r: usize = 0;
+    while r < n {
+        let from = r * e;
+        let to = from + e;
+        if all_zero(&features[from..to]) {
+            return true;
+        }
+        r += 1;
+    }
+    false
+}
+
+// 9, 10 and 16.
 fn limit_fault(
     e: usize,
     starts: &[u64],
@@ -163,6 +194,9 @@ fn limit_fault(
     }
     if bad_row(part_features, part_sizes.len(), e) {
         return BAD_ROW;
+    }
+    if empty_row(features, starts.len(), e) {
+        return EMPTY_ROW;
     }
     ACCEPTED
 }

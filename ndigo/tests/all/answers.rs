@@ -144,7 +144,7 @@ fn one_to_one() {
 
 #[test]
 fn refusals_in_words() {
-    let outcome = ask("answer", format!("{HEADINGS}A\t9\t9\t1\t\nB\t8\t8\t1\t\n"), &[]);
+    let outcome = ask("answer", format!("{HEADINGS}A\t9\t9\t4\tCCCC\nB\t8\t8\t4\tCCCC\n"), &[]);
     let words = told("line 3", 8, "\"B\" starts at 8, but \"A\" on line 2 starts at 9; sort the rows by start, or call with --sort");
     assert_eq!(outcome.status, 1);
     assert!(outcome.text().ends_with(&format!("{words}\n")));

@@ -8,7 +8,7 @@ type Lines = Result<(&'static str, u32, u32, u32, bool, u32, bool), u32>;
 const ONE: u32 = 0x3f80_0000;
 
 /// Each example's answer, by the documents' rules. Insertions have no length here, and none lies inside another row.
-const ANSWERS: [(&str, Lines); 12] = [
+const ANSWERS: [(&str, Lines); 13] = [
     // 13 to 12: a start is greater than its end. The deletion 5 to 9 is none of the rules' business.
     ("counted-from-1", Err(7)),
     // N: of the 16 sets of four rows, the 4 that hold both Reef-B and Reef-C (124 < 126) are no chains: 12. The haplotype has size
@@ -17,6 +17,8 @@ const ANSWERS: [(&str, Lines); 12] = [
     ("first-dive", Ok(("0 3", ONE, ONE, ONE, true, 12, true))),
     // Two rows that do not overlap: 4 chains. Both together have the parts' sizes (-5 + 6) and letters, so both similarities are 1.0.
     ("from-bed", Ok(("0 1", ONE, ONE, ONE, true, 4, true))),
+    // Reef-B has three letters and k is 4: no window, so its row of features is all zero. The part of three letters would be taken.
+    ("mistake-few-letters", Err(16)),
     // Sizes 2, 3 and 7; the haplotype's is 3. No other set of rows comes within 0.9 of 3 (2/3 is the nearest), so only row 1 scores.
     // Three rows without overlaps: 8 chains.
     ("mistake-names", Ok(("1", ONE, ONE, ONE, true, 8, true))),
@@ -172,7 +174,7 @@ fn printed(command: &str) -> Option<String> {
 
 #[test]
 fn the_pages_print_what_the_commands_print() {
-    for (page, count) in [("docs/FIRST-WEEK.md", 12), ("docs/COORDINATES.md", 4)] {
+    for (page, count) in [("docs/FIRST-WEEK.md", 13), ("docs/COORDINATES.md", 4)] {
         let blocks = blocks(page, "$ ");
         assert_eq!(blocks.len(), count, "{page}");
         for block in blocks {

@@ -41,7 +41,8 @@ fn around_the_limits() -> impl Strategy<Value = Sheet> {
     let counts = (0u32..8, prop_oneof![0u32..9, Just(4095), Just(4096)], prop_oneof![Just(5000u32), Just(65_535), Just(65_536)], prop_oneof![0u32..12, Just(13)]);
     let float = prop_oneof![4 => Just(0.5f32), 1 => Just(-0.0), 1 => Just(1.5), 1 => Just(f32::NAN), 1 => Just(-1.0)];
     let size = prop_oneof![5 => -20i32..20, 1 => Just(131_072), 1 => Just(-131_073)];
-    let one = (0u64..6, 0u64..6, size, "[AGCTN]{0,9}");
+    let letters = prop_oneof![6 => "[AGCTN]{6,12}", 1 => "[AGCTN]{0,6}"];
+    let one = (0u64..6, 0u64..6, size, letters);
     let rows = prop_oneof![8 => proptest::collection::vec(one.clone(), 0..5), 1 => proptest::collection::vec(one, 64..67)];
     let long = (prop::bool::weighted(0.1), prop::bool::weighted(0.1));
     (counts, float.clone(), float, rows, prop_oneof![8 => 0usize..4, 1 => 64usize..67], long).prop_map(|(counts, sizesim, fpenalty, rows, parts, long)| {

@@ -222,7 +222,7 @@ fn refused_sheets() -> Vec<(String, Vec<String>)> {
         (HEADINGS.into(), vec![told("the whole sheet", 4, "the sheet has no row under the heading variant")]),
         (table_of(65), vec![told("line 66", 5, "65 variants, the limit is 64")]),
         (table_of(1) + &parts_of(65), vec![told("line 68", 5, "65 parts, the limit is 64")]),
-        (format!("{HEADINGS}A\t9\t9\t131073\t\nB\t8\t6\t-131073\t\n"), vec![
+        (format!("{HEADINGS}A\t9\t9\t131073\tCCCC\nB\t8\t6\t-131073\tCCCC\n"), vec![
             told("line 3", 7, "\"B\" starts at 8 and ends at 6"),
             told("line 3", 8, "\"B\" starts at 8, but \"A\" on line 2 starts at 9; sort the rows by start, or call with --sort"),
             told("line 2", 9, "\"A\" has size 131073, the limit is 131072"),
@@ -235,9 +235,34 @@ fn refused_sheets() -> Vec<(String, Vec<String>)> {
     ]
 }
 
+fn no_window(name: &str, has: &str, k: &str, instead: &str) -> String {
+    let letters = if k == "1" { "letter" } else { "letters" };
+    format!("\"{name}\" has {has} and k is {k}: it has no window of {k} {letters}, so nothing can match it; write all its letters,{instead} or leave the row out")
+}
+
+/// The same of variants with fewer letters than k; parts may have as few.
+fn rows_without_a_window() -> Vec<(String, Vec<String>)> {
+    let with = |k: u32, letters: &str| format!("{HEADINGS}A\t1\t1\t5\tAGCTAG\nB\t2\t2\t5\t{letters}\n\npart\tsize\tletters\nP\t5\t{letters}\nsetting\tvalue\nk\t{k}\n");
+    let one = |k: u32, letters: &str, has: &str, instead: &str| (with(k, letters), vec![told("line 3", 16, &no_window("B", has, &k.to_string(), instead))]);
+    vec![
+        one(4, "AGC", "3 letters", " set k to 3 or less,"),
+        one(2, "A", "1 letter", " set k to 1,"),
+        one(6, "AGCTA", "5 letters", " set k to 5 or less,"),
+        one(1, "", "no letters", ""),
+        (with(3, "AG") + "one-to-one\tyes\n", vec![told("line 3", 16, &no_window("B", "2 letters", "3", " set k to 2 or less,"))]),
+        (with(3, "AG") + "full\tno\n", vec![told("line 3", 16, &no_window("B", "2 letters", "3", " set k to 2 or less,"))]),
+        // each row is told, and a size over its limit comes first
+        (format!("{HEADINGS}A\t1\t1\t1\tA\nB\t2\t2\t131073\tAG\n"), vec![
+            told("line 3", 9, "\"B\" has size 131073, the limit is 131072"),
+            told("line 2", 16, &no_window("A", "1 letter", "4", " set k to 1,")),
+            told("line 3", 16, &no_window("B", "2 letters", "4", " set k to 2 or less,")),
+        ]),
+    ]
+}
+
 #[test]
 fn each_refusal_with_its_line() {
-    for (content, lines) in refused_sheets() {
+    for (content, lines) in refused_sheets().into_iter().chain(rows_without_a_window()) {
         let outcome = ask("check", &content, &[]);
         let text = outcome.text();
         let said: Vec<&str> = text.lines().filter(|line| !line.starts_with("warning")).collect();
@@ -256,6 +281,16 @@ fn each_refusal_with_its_line() {
     }
 }
 
+/// An answer tells a refusal in the words of a check.
+#[test]
+fn an_answer_tells_the_row_without_a_window() {
+    for (content, lines) in rows_without_a_window() {
+        let answer = ask("answer", &content, &[]);
+        assert_eq!(answer.status, 1);
+        assert!(answer.text().ends_with(&(lines.join("\n") + "\n")), "{}", answer.text());
+    }
+}
+
 #[test]
 fn nothing_to_refuse() {
     let outcome = ask("check", GOOD, &[]);
@@ -264,12 +299,14 @@ fn nothing_to_refuse() {
 
 #[test]
 fn the_limits_themselves_are_accepted() {
+    let six_letters = GOOD.replace("AGCT", "AGCTAG").replace("CCCCC", "CCCCCC");
     for row in ["k\t6", "maxpaths\t4095", "maxnodes\t65535", "fnmax\t65535", "pileupmax\t12", "minkfreq\t16777216", "sizesim\t1", "seqsim\t-0", "fpenalty\t1000", "gpenalty\t0"] {
         for command in ["check", "answer"] {
-            assert_eq!(ask(command, format!("{GOOD}setting\tvalue\n{row}\n"), &[]).status, 0, "{row}");
+            assert_eq!(ask(command, format!("{six_letters}setting\tvalue\n{row}\n"), &[]).status, 0, "{row}");
         }
     }
-    for content in [table_of(64) + &parts_of(64), format!("{HEADINGS}A\t1\t1\t-131072\t\n"), format!("{HEADINGS}A\t5\t5\t1\t\nB\t5\t9\t1\t\n")] {
+    let as_many_letters_as_k = format!("{HEADINGS}A\t5\t5\t1\tAGCT\nB\t5\t9\t1\tCCCC\n\npart\tsize\tletters\nP\t1\t\n");
+    for content in [table_of(64) + &parts_of(64), format!("{HEADINGS}A\t1\t1\t-131072\tCCCC\n"), as_many_letters_as_k] {
         assert_eq!((ask("check", &content, &[]).status, ask("answer", &content, &[]).status), (0, 0));
     }
 }

@@ -53,7 +53,7 @@ fn rows_by_hand_and_none() {
 
 #[test]
 fn overlaps_are_hatched_and_named() {
-    let content = format!("{HEADINGS}A\t10\t20\t-4\t\nB\t15\t30\t-4\t\nC\t18\t18\t1\t\nD\t30\t40\t1\t\n");
+    let content = format!("{HEADINGS}A\t10\t20\t-4\tCCCC\nB\t15\t30\t-4\tCCCC\nC\t18\t18\t1\tCCCC\nD\t30\t40\t1\tCCCC\n");
     let svg = drawn(content, &["--rows", "none"]);
     let groups: Vec<&str> = svg.split("<g>").skip(1).map(|group| group.split("</g>").next().unwrap()).collect();
     let hatched: Vec<usize> = groups.iter().map(|group| group.matches("class=\"shared\"").count()).collect();
@@ -65,7 +65,7 @@ fn overlaps_are_hatched_and_named() {
 /// An insertion inside a deletion and the deletion share a hatched stretch; one at its start or end, and one at the insertion's own place, share none.
 #[test]
 fn an_insertion_inside_a_deletion_is_hatched() {
-    let content = format!("{HEADINGS}A\t10\t10\t1\t\nB\t10\t20\t-4\t\nC\t15\t15\t1\t\nD\t15\t15\t1\t\nE\t20\t20\t1\t\n");
+    let content = format!("{HEADINGS}A\t10\t10\t1\tCCCC\nB\t10\t20\t-4\tCCCC\nC\t15\t15\t1\tCCCC\nD\t15\t15\t1\tCCCC\nE\t20\t20\t1\tCCCC\n");
     let svg = drawn(content, &["--rows", "none"]);
     let groups: Vec<&str> = svg.split("<g>").skip(1).map(|group| group.split("</g>").next().unwrap()).collect();
     let hatched: Vec<usize> = groups.iter().map(|group| group.matches("class=\"shared\"").count()).collect();

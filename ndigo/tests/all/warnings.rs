@@ -28,8 +28,6 @@ fn each_warning() {
         ("A\t1\t1\t5\tAGRct", "line 2: \"A\": 1 of 5 letters is not A, G, C or T, the first is R at letter 3; each counts as A"),
         ("A\t1\t1\t6\tAGCTA", "line 2: \"A\" has size 6 and 5 letters; they are compared each by itself"),
         ("A\t1\t6\t5\tAGCTA", "line 2: \"A\" spans 5 (1 to 6) as a deletion does, and its size is above 0: 5; a deletion is written -5, and an insertion has start = end"),
-        ("A\t1\t1\t5\t", &*format!("line 2: \"A\" has no letters: {NO_WINDOWS}")),
-        ("A\t1\t1\t3\tAGC", &*format!("line 2: \"A\" has 3 letters, fewer than k 4: {NO_WINDOWS}")),
         ("A\t11\t10\t5\tAGCTA", &*format!("line 2: \"A\" ends at 10, one below its start 11, {FROM_ONE}")),
         ("A\t11\t15\t-5\tAGCTA", &*format!("every deletion spans one less than its size, {FROM_ONE}")),
     ] {
@@ -38,12 +36,12 @@ fn each_warning() {
     assert_eq!(warned(GOOD.split("\n\n").next().unwrap()), ["the sheet has no parts: there is nothing to explain"]);
 }
 
-/// No size makes up for letters that are missing: the threshold stops it.
+/// A part without windows is taken, and no size makes up for letters that are missing: the threshold stops it.
 #[test]
-fn without_windows_nothing_is_found() {
-    let bare = |row: &str, part: &str| format!("{HEADINGS}{row}\n\npart\tsize\tletters\n{part}\n");
-    for content in [bare("A\t1\t1\t5\t", "P\t5\t"), bare("A\t1\t1\t3\tAGC", "P\t3\tAGC")] {
-        assert!(warned(&content).iter().all(|words| words.ends_with(NO_WINDOWS)));
+fn of_a_part_without_windows_nothing_is_found() {
+    for (row, part, has) in [("A\t1\t1\t5\tAGCTA", "P\t5\t", "no letters"), ("A\t1\t1\t3\tAGCTA", "P\t3\tAGC", "3 letters, fewer than k 4")] {
+        let content = format!("{HEADINGS}{row}\n\npart\tsize\tletters\n{part}\n");
+        assert!(warned(&content).contains(&format!("line 5: \"P\" has {has}: {NO_WINDOWS}")), "{content}");
         let document: serde_json::Value = serde_json::from_slice(&ask("answer", &content, &["--json"]).out).unwrap();
         assert_eq!((&document["answer"]["target"], document["without_thresholds"]["seqsim"]["bits"].as_str()), (&"nothing".into(), Some("00000000")));
     }

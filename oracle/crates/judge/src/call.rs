@@ -1,4 +1,4 @@
-//! A haplotype as the library is asked for it: flat slices and lent room, and the refusals 1 to 12 and 14 in the table's order.
+//! A haplotype as the library is asked for it: flat slices and lent room, and the refusals 1 to 12, 14 and 16 in the table's order.
 use crate::job::{Job, Part, Settings};
 use crate::rules::Rules;
 use crate::rust;
@@ -96,6 +96,10 @@ impl Call {
             11 => self.searches(rules) && self.queue_room < queue_need(s, v),
             12 => self.answer_room < v || rules.second_is_short(self.record_buffer.len(), v, self.searches(rules)),
             14 => rules.repeats(&self.numbers),
+            16 => {
+                let blank = |features: &[i32]| -> Vec<bool> { features.chunks(s.entries()).map(|row| rules.is_blank(row)).collect() };
+                rules.blank_is_refused(&blank(&self.features), &blank(&self.part_features), self.searches(rules), s.full)
+            }
             27 => rules.count_is_refused(1),
             _ => unreachable!("no refusal of the table: {number}"),
         }

@@ -1,5 +1,5 @@
 //! Seeded jobs that reach what document 01 speaks of: ties, zero and negative sizes, squish, bare graphs, one-to-one,
-//! thresholds and penalties at telling values, every kind of refusal, sums at their limits, and record numbers of all kinds.
+//! thresholds and penalties at telling values, every kind of refusal, sums at their limits, record numbers of all kinds, and rows all zero.
 use crate::call::{queue_need, Call};
 use crate::job::{record_length, shape, Job, Part, Settings, Variant};
 use crate::random::Random;
@@ -198,6 +198,14 @@ fn settings(r: &mut Random, v: u64, m: u64, size: Size) -> Settings {
     }
 }
 
+/// The letters with others behind them, where they are fewer than k: a variant has at least one window.
+fn at_least(r: &mut Random, k: u8, mut letters: Vec<u8>) -> Vec<u8> {
+    while letters.len() < k.into() {
+        letters.push(r.pick(b"ACGT"));
+    }
+    letters
+}
+
 /// An accepted job of at most the given size.
 pub fn job(r: &mut Random, size: Size) -> Job {
     let v = match r.below(20) {
@@ -210,15 +218,16 @@ pub fn job(r: &mut Random, size: Size) -> Job {
         letters: (0..1 + r.below(4)).map(|_| sequence(r, size)).collect(),
         style: r.below(12),
     };
+    let settings = settings(r, v, m, size);
     let variants: Vec<Variant> = bounds(r, v)
         .into_iter()
         .map(|(start, end)| {
             let (size, negative, letters) = event(r, &pool, size);
-            Variant { start, end, size, negative, letters }
+            Variant { start, end, size, negative, letters: at_least(r, settings.k, letters) }
         })
         .collect();
     let parts = part_list(r, &variants, &pool, m, size);
-    let mut job = Job { settings: settings(r, v, m, size), variants, haplotypes: vec![parts] };
+    let mut job = Job { settings, variants, haplotypes: vec![parts] };
     match r.below(20) {
         0 | 1 => job.haplotypes[0].iter_mut().for_each(|p| p.size = 0),
         2..=8 => loosen(r, &mut job.settings),
@@ -318,9 +327,8 @@ pub fn call(r: &mut Random, budget: u64) -> Call {
     if r.chance(5) {
         disturb_job(r, &mut job);
     }
-    let mut call = lent(r, &job, budget);
-    number(r, &mut call);
-    call
+    let call = lent(r, &job, budget);
+    numbered(r, call)
 }
 
 /// A library call of the program's size, more of them at fault.
@@ -329,8 +337,17 @@ pub fn small_call(r: &mut Random) -> Call {
     if r.chance(30) {
         disturb_job(r, &mut job);
     }
-    let mut call = lent(r, &job, 100_000);
+    let call = lent(r, &job, 100_000);
+    numbered(r, call)
+}
+
+/// The call with record numbers, and now and then rows all zero, more often where it is refused anyway.
+fn numbered(r: &mut Random, mut call: Call) -> Call {
+    let refused = call.refusal(&DOCUMENT) != 0;
     number(r, &mut call);
+    if r.chance(if refused { 40 } else { 6 }) {
+        blank(r, &mut call);
+    }
     call
 }
 
@@ -524,6 +541,9 @@ pub fn several_call(r: &mut Random, size: Size, budget: u64) -> Several {
     for _ in 0..r.pick(&[0, 0, 0, 1, 1, 2]) {
         disturb_several(r, &mut several);
     }
+    if r.chance(6) {
+        blank(r, &mut several.call);
+    }
     lend_buffers(r, &mut several);
     several
 }
@@ -575,6 +595,22 @@ fn lend_buffers(r: &mut Random, several: &mut Several) {
     several.call.record_buffer = words(v * count);
     several.reports = words(8 * count);
     several.call.answer_room = several.row_buffer.len();
+}
+
+/// Rows all zero: one of the variants', mostly the first or the last, or all of them, or the parts' likewise.
+fn blank(r: &mut Random, call: &mut Call) {
+    let e = call.settings.entries();
+    let features = if r.chance(70) { &mut call.features } else { &mut call.part_features };
+    let rows = features.len() / e;
+    if rows == 0 {
+        return;
+    }
+    let any = r.below(rows as u64) as usize;
+    let at = r.pick(&[0, rows - 1, any]);
+    let all = r.chance(15);
+    for (_, row) in features.chunks_mut(e).enumerate().filter(|(row, _)| all || *row == at) {
+        row.fill(0);
+    }
 }
 
 /// Features that no letters give: any signs, up to the limit.
@@ -629,7 +665,7 @@ pub fn disturb_job(r: &mut Random, job: &mut Job) {
     let s = &mut job.settings;
     let v = job.variants.len();
     let row = r.below(v as u64) as usize;
-    match r.below(17) {
+    match r.below(20) {
         0 => s.k = r.pick(&[0u8, 5, 6, 7, 255]),
         1 => s.sizesim = r.pick(&NOT_FLOATS),
         2 => s.seqsim = r.pick(&NOT_FLOATS),
@@ -648,6 +684,15 @@ pub fn disturb_job(r: &mut Random, job: &mut Job) {
         15 => {
             let one = job.variants[v - 1].clone();
             job.variants.resize(r.pick(&[17, 65]), one);
+        }
+        16..=18 => {
+            // too few letters for one window, or k over them
+            let letters = &mut job.variants[r.pick(&[row, v - 1])].letters;
+            match r.below(4) {
+                0 => s.k = (letters.len() + 1).min(4) as u8,
+                1 => letters.clear(),
+                _ => letters.truncate(usize::from(s.k).saturating_sub(1)),
+            }
         }
         _ => {
             let one = Part { size: 1, negative: false, letters: b"A".to_vec() };

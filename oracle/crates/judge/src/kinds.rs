@@ -88,6 +88,7 @@ fn of_call(counts: &mut Counts, call: &Call) {
         (s.maxpaths == 0, "maxpaths 0"),
         (s.maxpaths == 4_095, "maxpaths 4,095"),
         (magnitudes(&call.features) == 8_388_608 && magnitudes(&call.part_features) == 8_388_608, "sums at their limit"),
+        (call.part_features.chunks(s.entries()).any(|row| DOCUMENT.is_blank(row)), "a part's row all zero"),
     ];
     add_seen(counts, seen);
     add(counts, format!("k {}", s.k));
@@ -169,6 +170,26 @@ pub fn of_numbers(counts: &mut Counts, call: &Call, answer: &Answer) {
         (answer.refusal == 12 && call.answer_room >= v && !call.searches(&DOCUMENT), "second buffer: alone the 12, one-to-one"),
         (answer.records.windows(2).any(|pair| pair[0] > pair[1]), "records: falling"),
         (!answer.records.is_empty() && answer.records != answer.rows, "records: other than the rows"),
+    ];
+    for (is, kind) in seen {
+        *counts.entry(kind.to_string()).or_default() += u64::from(is);
+    }
+}
+
+/// What the rows of a call show that are all zero, beside which other refusals. A kind that no call shows is counted too, as 0.
+pub fn of_blank_rows(counts: &mut Counts, call: &Call, answer: &Answer) {
+    let is_refused_by = |number: u32| call.is_refused_by(&DOCUMENT, number);
+    let refused = answer.refusal == 16;
+    let blank: Vec<bool> = if refused { call.features.chunks(call.settings.entries()).map(|row| DOCUMENT.is_blank(row)).collect() } else { vec![] };
+    let seen = [
+        (refused && call.searches(&DOCUMENT), "all zero: refused 16 in search mode"),
+        (refused && !call.searches(&DOCUMENT), "all zero: refused 16 in one-to-one"),
+        (refused && !call.settings.full, "all zero: refused 16 in a bare graph"),
+        (refused && blank.iter().position(|&is| is) == Some(blank.len() - 1) && blank.len() > 1, "all zero: the last row alone"),
+        (refused && is_refused_by(11), "all zero: refused 16, and 11 holds"),
+        (refused && is_refused_by(12), "all zero: refused 16, and 12 holds"),
+        ([14, 9, 10].contains(&answer.refusal) && is_refused_by(16), "all zero: refused 14, 9 or 10, and 16 holds"),
+        (answer.refusal == 10 && is_refused_by(16), "all zero: refused 10, and 16 holds"),
     ];
     for (is, kind) in seen {
         *counts.entry(kind.to_string()).or_default() += u64::from(is);

@@ -56,9 +56,10 @@ rules! {
         start < before
     }
 
-    /// "Checked in this order"; document 02, P3: "14 for a repeated number, after 8 and before 9"; P1: 27 "in the library for a count not 1 to 16, after 4"
+    /// "Checked in this order"; document 02, P3: "14 for a repeated number, after 8 and before 9"; P1: 27 "in the library for a count not 1 to 16, after 4";
+    /// P11: "16, after 10 and before 11"
     fn refusals() -> &'static [u32] {
-        &[1, 2, 3, 4, 27, 5, 6, 7, 8, 14, 9, 10, 11, 12]
+        &[1, 2, 3, 4, 27, 5, 6, 7, 8, 14, 9, 10, 16, 11, 12]
     }
 
     // From letters to similarity
@@ -359,5 +360,18 @@ rules! {
     /// "a line `hap` and its number from 0"
     fn hap_number(at: usize) -> usize {
         at
+    }
+
+    // Document 02, P11: rows that can match nothing
+
+    /// 16: a row that "is all zero"
+    fn is_blank(row: &[i32]) -> bool {
+        row.iter().all(|&x| x == 0)
+    }
+
+    /// "A variant whose feature row is all zero is now refused in every mode; a part of that kind is still taken": which variants' rows are, and which
+    /// parts'; whether the call is in search mode, and whether the graph is full
+    fn blank_is_refused(variants: &[bool], _parts: &[bool], _searches: bool, _full: bool) -> bool {
+        variants.contains(&true)
     }
 }

@@ -1,13 +1,36 @@
 //! Where the unchanged Rust says something else than the documents, by class, each with the smallest input found:
 //! `differences [INPUTS]`.
 use judge::answer::Answer;
+use judge::call::Call;
 use judge::generate::input;
 use judge::random::Random;
-use judge::rust::{By, Judged};
+use judge::rules::DOCUMENT;
+use judge::rust::{unchanged_build, By, Judged};
 use judge::{describe, exhaust, program, shrink};
 
 fn lines(answer: &Answer) -> String {
     answer.text().trim_end().replace('\n', ", ")
+}
+
+/// What the unchanged Rust finds where we refuse a row all zero (document 02, P11); nothing, if it finds nothing.
+fn found_in_blank_rows(bytes: &[u8]) -> Option<Answer> {
+    let job = program::admitted(&DOCUMENT, bytes).ok()?;
+    let call = Call::of_job(&job);
+    let found = (call.refusal(&DOCUMENT) == 16).then(|| unchanged_build::answer(&call))?;
+    (!found.rows.is_empty()).then_some(found)
+}
+
+/// How many inputs the Rust answers that we refuse by 16, and the smallest.
+fn tell_blank_rows(inputs: &[Vec<u8>]) {
+    let shows = |bytes: &[u8]| found_in_blank_rows(bytes).is_some();
+    let found: Vec<&Vec<u8>> = inputs.iter().filter(|bytes| shows(bytes)).collect();
+    println!("a variant's row all zero: {} of {} inputs", found.len(), inputs.len());
+    let small = found.into_iter().take(40).map(|bytes| shrink::bytes(bytes.clone(), shows)).min_by_key(Vec::len);
+    if let Some(small) = small {
+        println!("    {}", describe::bytes(&small));
+        println!("    the documents  {}", lines(&Answer::refused(16)));
+        println!("    unchanged Rust {}", lines(&found_in_blank_rows(&small).expect("it still shows")));
+    }
 }
 
 fn main() {
@@ -33,4 +56,5 @@ fn main() {
             println!("    unchanged Rust {}", lines(&judged.unchanged_differs.unwrap()));
         }
     }
+    tell_blank_rows(&inputs);
 }

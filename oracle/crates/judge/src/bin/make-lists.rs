@@ -60,12 +60,13 @@ fn example() -> Job {
 /// A job of exactly so many bytes.
 fn of_length(length: usize) -> Vec<u8> {
     let [end, settings, variant_record, part_record, letters_record] = [0x00, 0x01, 0x02, 0x03, 0x04].map(record_length);
-    let left = |v: usize, m: usize| length - end - settings - v * variant_record - m * part_record;
+    // each row has a letter, in a record of its own
+    let left = |v: usize, m: usize| length - end - settings - v * (variant_record + letters_record) - m * part_record;
     let shapes = (1..=16).flat_map(|v| (0..=8).map(move |m| (v, m)));
     let (v, m) = shapes.filter(|&(v, m)| left(v, m) % letters_record == 0).min().expect("some shape fits");
-    let letters = vec![b'G'; 16 * (left(v, m) / letters_record)];
+    let letters = vec![b'G'; 16 * (left(v, m) / letters_record + 1)];
     let mut job = example();
-    job.variants = (0..v as u64).map(|i| variant(i, i, 1, b"")).collect();
+    job.variants = (0..v as u64).map(|i| variant(i, i, 1, b"G")).collect();
     job.variants[0].letters = letters;
     job.haplotypes = vec![vec![part(1, b""); m]];
     job.bytes()
@@ -124,6 +125,39 @@ fn at_limits() -> Vec<Vec<u8>> {
     all
 }
 
+/// Variants and parts with one letter fewer than k, k, and one more (document 02, P11).
+fn few_letters() -> Vec<Vec<u8>> {
+    let mut all = vec![];
+    for k in 1..=4 {
+        for count in [k - 1, k, k + 1] {
+            let letters = &b"GCTAG"[..count];
+            let mut with = |change: &dyn Fn(&mut Job)| {
+                let mut job = example();
+                job.settings.k = k as u8;
+                job.variants = vec![variant(10, 10, 2, b"AGCT"), variant(20, 20, 2, b"CTAG")];
+                job.haplotypes = vec![vec![part(2, b"AGCT")]];
+                change(&mut job);
+                all.push(job.bytes());
+            };
+            with(&|j| j.variants[0].letters = letters.to_vec());
+            with(&|j| j.variants[1].letters = letters.to_vec());
+            with(&|j| j.variants = vec![variant(10, 10, 2, letters)]);
+            with(&|j| j.haplotypes[0][0].letters = letters.to_vec());
+            with(&|j| (j.settings.one_to_one, j.variants[1].letters) = (true, letters.to_vec()));
+            with(&|j| (j.settings.full, j.variants[1].letters) = (false, letters.to_vec()));
+            // 9 stands before 16
+            with(&|j| (j.variants[0].letters, j.variants[1].size) = (letters.to_vec(), 131_073));
+            with(&|j| (j.variants[0].letters, j.haplotypes[0][0].size) = (letters.to_vec(), 131_073));
+        }
+    }
+    all
+}
+
+/// Two haplotypes, one with a part of no letters.
+fn two_without() -> Vec<Vec<Part>> {
+    vec![vec![part(2, b"AG")], vec![part(2, b"AG"), part(2, b"")]]
+}
+
 /// The same for several haplotypes (document 02, P1).
 fn several_at_limits() -> Vec<Vec<u8>> {
     let (one, two) = (vec![part(2, b"AG")], vec![part(2, b"AG"), part(2, b"CT")]);
@@ -154,6 +188,10 @@ fn several_at_limits() -> Vec<Vec<u8>> {
     with(over.clone(), &|j| j.variants.clear());
     with(over.clone(), &|j| j.variants[0].start = 11);
     with(over.clone(), &|j| j.variants[1].start = 9);
+    // a row all zero is the table's: it answers the whole job, also where a part is over its limit; a part's is taken
+    with(over.clone(), &|j| j.variants[1].letters.clear());
+    with(two_without(), &|_| ());
+    with(two_without(), &|j| j.settings.one_to_one = true);
     with(over, &|j| j.settings.maxpaths = 64);
     all
 }
@@ -228,7 +266,7 @@ fn with_kinds(mut inputs: Vec<Vec<u8>>) -> Vec<(Vec<u8>, BTreeSet<String>)> {
 /// Jobs of one haplotype, and behind them those of several.
 fn program_list() -> Vec<Vec<u8>> {
     let mut have = BTreeMap::new();
-    let mut list: Vec<Vec<u8>> = at_limits();
+    let mut list: Vec<Vec<u8>> = [at_limits(), few_letters()].concat();
     take_all(&list, &mut have);
     let mut inputs: Vec<Vec<u8>> = exhaust::jobs().step_by(61).map(|job| job.bytes()).collect();
     inputs.extend((0..12_000).map(|i| input(&mut Random::new(0x5eed_0000 + i))));
@@ -431,11 +469,41 @@ fn refused_ones() -> Vec<Stored> {
     all
 }
 
+/// Rows all zero, before the rooms and behind a row over its limit, in every mode; and rows with one entry that is not, the first or the last.
+fn blank_ones() -> Vec<Stored> {
+    let mut all = vec![];
+    let mut with = |places: std::ops::Range<usize>, change: &dyn Fn(&mut Stored)| {
+        let mut stored = Stored::of(example());
+        places.for_each(|place| stored.change(0, place, 0));
+        change(&mut stored);
+        stored.call.queue_room = stored.rooms.into_iter().min().unwrap();
+        all.push(stored);
+    };
+    for row in [0..4, 4..8, 0..8] {
+        with(row.clone(), &|_| ());
+        with(row.clone(), &|s| s.change(0, 3, 131_073));
+        with(row.clone(), &|s| s.change(1, 0, -131_073));
+        with(row.clone(), &|s| s.rooms = [0; 2]);
+        with(row.clone(), &|s| s.call.answer_room = 1);
+        for (one_to_one, full) in [(true, true), (true, false), (false, false)] {
+            with(row.clone(), &|s| {
+                (s.job.settings.one_to_one, s.call.settings.one_to_one) = (one_to_one, one_to_one);
+                (s.job.settings.full, s.call.settings.full) = (full, full);
+            });
+        }
+    }
+    with(0..0, &|s| (0..4).for_each(|place| s.change(1, place, 0)));
+    with(0..8, &|s| [3, 7].into_iter().for_each(|place| s.change(0, place, 1)));
+    with(0..8, &|s| [0, 4].into_iter().for_each(|place| s.change(0, place, -1)));
+    all
+}
+
 fn library_list() -> Vec<Stored> {
     let r = &mut Random::new(0x5eed_1111);
     let mut have = BTreeMap::new();
     let mut candidates = large_ones(r);
     candidates.extend(refused_ones());
+    candidates.extend(blank_ones());
     let always = candidates.len();
     let mut small: Vec<Stored> = vec![];
     for _ in 0..12_000 {

@@ -127,6 +127,7 @@ fn compare_call(tally: &mut Tally, call: &Call, o: &Options) {
     let second = call_answer(&DOCUMENT, call, &mut met);
     kinds::of_judged(&mut tally.counts, call, &judged, &met);
     kinds::of_numbers(&mut tally.counts, call, &judged.answer);
+    kinds::of_blank_rows(&mut tally.counts, call, &judged.answer);
     if second != judged.answer {
         tally.differ(|| format!("the second reading says {second:?} of {}", describe::call(call)));
     }
