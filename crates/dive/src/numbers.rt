@@ -11,19 +11,18 @@ ghost use Rattle.params.specs.Numbers.{anyBelow};
 ghost use Rattle.dive.specs.Numbered.{repeatedNumber};
 ghost use Rattle.dive.specs.NumberChecks.{numberFault};
 
-// Whether an earlier variant has the number of variant s.
+// Whether an earlier variant has the number of variant s. All are asked, in a form that the compiler turns into vector instructions.
 fn repeats(numbers: &[u32], s: usize) -> bool
     requires { ⌜ s < length (now numbers) ⌝ }
     ensures { λ found. ⌜ found ≡ anyBelow s (λ r. eqb (getD (now (numbers .entry)) r 0) (getD (now (numbers .entry)) s 0)) ⌝ }
 {
+    let mut found = false;
     let mut r: usize = 0;
     while r < s {
-        if numbers[r] == numbers[s] {
-            return true;
-        }
+        found = found | (numbers[r] == numbers[s]);
         r += 1;
     }
-    false
+    found
 }
 
 fn repeated_number(numbers: &[u32]) -> bool

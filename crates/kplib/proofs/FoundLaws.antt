@@ -8,7 +8,7 @@ use lib.Dec.{eqb}
 use lib.ListN.{length, drop}
 use Rattle.metrics.specs.Letters.{entryCount}
 use Rattle.metrics.proofs.Entries.{power}
-use Rattle.params.specs.Numbers.{Table, Parts, Call, tableOf, partsOf, callOf, firstOf, partsRules, firstFault, searchMode}
+use Rattle.params.specs.Numbers.{Table, Parts, Call, tableOf, partsOf, callOf, firstOf, partsRules, fallingStart, callRules, firstFault, searchMode}
 use Rattle.kplib.specs.Score.{start}
 use Rattle.kplib.specs.OneToOne.{oneToOne, loneRowsAt}
 use Rattle.kplib.specs.Scoring.{unplaced}
@@ -23,6 +23,7 @@ use Rattle.kplib.specs.declared.pathscore.Target.the-variants.{Nothing, 
 use Rattle.kplib.specs.declared.onetoone.Lone.{Lone}
 use Rattle.kplib.specs.declared.traverse.Answer.{Answer}
 use Rattle.kplib.specs.declared.steps.Progress.{Progress}
+use Rattle.params.proofs.CheckLaws.{none-given}
 use Rattle.params.proofs.CheckedLaws.{accepted, queue-suffices}
 use Rattle.params.proofs.AcceptedLaws.{own-fault}
 use Rattle.kplib.proofs.ExtensionLaws.{reverse-length}
@@ -114,9 +115,13 @@ module _ (c : Call) where
         let z : _≡_ {A = ℕ} 0 1 = cc in
         absurd (omega arith)
 
+rising-starts : (c : Call) → firstFault c ≡ 0 → fallingStart (c .table .starts) ≡ false
+unfolding firstFault
+rising-starts c e = none-given (callRules c) refl e .1 .1 .1 .1 .1 .1 .1 .1 .1 .0
+
 pub startable : {s : Settings} {t : Table} {p : Parts} (links keys : List ℕ) (a : ℕ) → firstFault (callOf s t p (queueRoom links keys) a) ≡ 0 → searchMode s (length (t .starts)) ≡ true
     → Startable s t p (length links) (length keys)
 startable {s} {t} {p} links keys a e m =
     let c = callOf s t p (queueRoom links keys) a in
     let h = queue-suffices c e m in
-    record { checked = accepted c e; link-room = omega (arith, h); key-room = omega (arith, h) }
+    record { checked = accepted c e; rising = rising-starts c e; link-room = omega (arith, h); key-room = omega (arith, h) }

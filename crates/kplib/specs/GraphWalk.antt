@@ -1,7 +1,7 @@
 -- The graph's rule as a table of flags, and the walks that ask it. No public promise cites this file.
 use Prim.Native.Nat.{ℕ, zero, suc, _+_, _-_, _*_, _≤_, _<_}
 use mathlib.Core.Path.{_≡_}
-use mathlib.Core.Bool.{Bool, false}
+use mathlib.Core.Bool.{Bool, true, false}
 use mathlib.Core.List.{List, [], _∷_}
 use lib.ListN.{length, getD}
 use Rattle.paths.specs.Sums.{keep}
@@ -14,11 +14,17 @@ flagOf together r s = getD together (64 * r + s) false
 abbrev pub Together : (ℕ → ℕ → Bool) → ℕ → List Bool → Type 0
 Together joins v together = (r s : ℕ) → r < s → s < v → flagOf together r s ≡ joins r s
 
--- from t to u: the flags of row r and each later row of the v are laid, and those of the rows before r are as they were
+-- the flags from place i on are set, as all are before they are laid
+pub record SetFrom (i : ℕ) (together : List Bool) : Type 0 where
+  pub long : length together ≡ 4096
+  pub are-set : (j : ℕ) → i ≤ j → j < 4096 → getD together j false ≡ true
+
+-- from t to u: the flags of row r and each later row of the v are laid, and those before and behind them are as they were
 pub record RowLaid (joins : ℕ → ℕ → Bool) (v r : ℕ) (t u : List Bool) : Type 0 where
   pub long : length u ≡ length t
   pub laid : (s : ℕ) → r < s → s < v → flagOf u r s ≡ joins r s
   pub kept : (i : ℕ) → i < 64 * r → getD u i false ≡ getD t i false
+  pub ahead : (i : ℕ) → 64 * r + v ≤ i → getD u i false ≡ getD t i false
 
 -- ---- the rows that may follow, one flag for each
 pub record Flagged (p : ℕ → Bool) (may : List Bool) : Type 0 where

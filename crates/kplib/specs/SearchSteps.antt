@@ -12,7 +12,7 @@ use Rattle.paths.specs.Count.{mayFollow}
 use Rattle.paths.specs.Heap.{Ordered, Heap}
 use Rattle.paths.specs.Queue.{chainAt, Walk, Tree, Running, Ended}
 use Rattle.params.specs.Checked.{Flat, Sized, Checked}
-use Rattle.params.specs.Numbers.{Table, Parts}
+use Rattle.params.specs.Numbers.{Table, Parts, fallingStart}
 use Rattle.kplib.specs.Sums.{sizeOf, featuresOf, totalOf}
 use Rattle.kplib.specs.Score.{start}
 use Rattle.kplib.specs.Scoring.{AllBelow, Planned, Coded, codedScore, StandsFor}
@@ -198,6 +198,7 @@ pub record Gone (q : Told) (links : List ℕ) (at : Progress) : Type 0 where
 -- what a search is begun with
 pub record Startable (s : Settings) (t : Table) (p : Parts) (linkRoom keyRoom : ℕ) : Type 0 where
   pub checked : Checked s t p
+  pub rising : fallingStart (t .starts) ≡ false
   pub link-room : 1 + (s .maxpaths + 1) * length (t .starts) ≤ linkRoom
   pub key-room : 1 + (s .maxpaths + 1) * length (t .starts) ≤ keyRoom
 

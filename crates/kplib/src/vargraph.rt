@@ -5,11 +5,12 @@ use params::checks::count_fault;
 ghost use mathlib.Core.Path.{_≡_};
 ghost use mathlib.Core.Bool.{false, _&&_};
 ghost use mathlib.Core.List.{[]};
-ghost use Prim.Native.Nat.{_-_, _<_, _≤_, min};
+ghost use Prim.Native.Nat.{_-_, _*_, _<_, _≤_, min};
 ghost use lib.ListN.{length, getD};
 ghost use Rattle.paths.specs.Count.{onward, rowsFrom};
+ghost use Rattle.params.specs.Numbers.{fallingStart};
 ghost use Rattle.kplib.specs.Graph.{nodeOf, rowOf, edge, chainsOf};
-ghost use Rattle.kplib.specs.GraphWalk.{flagOf, Together, RowLaid, Flagged, spanOf, Kept, Counting, Narrowed};
+ghost use Rattle.kplib.specs.GraphWalk.{flagOf, Together, SetFrom, RowLaid, Flagged, spanOf, Kept, Counting, Narrowed};
 ghost use Rattle.kplib.specs.Promises.{CountChainsPromise};
 
 // A variant's row in the table, from 0.
@@ -32,13 +33,17 @@ pub(crate) fn row_of(node: Node) -> Row
     Row(node.0 - 1)
 }
 
-// The flags of row r and each later row.
+// The flags of row r and each later row, which are set before. Starts do not fall, so from the first row on that starts at row r's end or behind it none overlaps row r.
 fn lay_row(starts: &[u64], ends: &[u64], r: usize, together: &mut [bool; 4096])
-    requires { ⌜ (length (now ends) ≡ length (now starts)) × (length (now starts) ≤ 64) × (r < length (now starts)) × (length (now together) ≡ 4096) ⌝ }
+    requires { ⌜ (length (now ends) ≡ length (now starts)) × (length (now starts) ≤ 64) × (r < length (now starts))
+        × (fallingStart (now starts) ≡ false) × SetFrom (64 * r) (now together) ⌝ }
     ensures { λ _. ⌜ RowLaid (edge (now (starts .entry)) (now (ends .entry))) (length (now (starts .entry))) r (now (together .entry)) (now (together .exit)) ⌝ }
 {
     let mut s = r + 1;
     while s < starts.len() {
+        if ends[r] <= starts[s] {
+            return;
+        }
         together[64 * r + s] = !overlaps(starts[r], ends[r], starts[s], ends[s]);
         s += 1;
     }
@@ -46,10 +51,10 @@ fn lay_row(starts: &[u64], ends: &[u64], r: usize, together: &mut [bool; 4096])
 
 // Which pairs of rows may stand together: the flag of rows r and s, the later last, at 64 r + s.
 pub(crate) fn pairs_together(starts: &[u64], ends: &[u64]) -> [bool; 4096]
-    requires { ⌜ (length (now ends) ≡ length (now starts)) × (length (now starts) ≤ 64) ⌝ }
+    requires { ⌜ (length (now ends) ≡ length (now starts)) × (length (now starts) ≤ 64) × (fallingStart (now starts) ≡ false) ⌝ }
     ensures { λ r. ⌜ Together (edge (now (starts .entry)) (now (ends .entry))) (length (now (starts .entry))) r ⌝ }
 {
-    let mut together = [false; 4096];
+    let mut together = [true; 4096];
     let mut r: usize = 0;
     while r < starts.len() {
         lay_row(starts, ends, r, &mut together);
@@ -135,7 +140,7 @@ fn first_rows(v: usize) -> [u8; 4160]
 
 // The smaller of N and cap.
 fn count_capped(starts: &[u64], ends: &[u64], full: bool, cap: u32) -> u32
-    requires { ⌜ (length (now ends) ≡ length (now starts)) × (length (now starts) ≤ 64) × (cap ≤ 4096) ⌝ }
+    requires { ⌜ (length (now ends) ≡ length (now starts)) × (length (now starts) ≤ 64) × (cap ≤ 4096) × (fallingStart (now starts) ≡ false) ⌝ }
     ensures { λ r. ⌜ r ≡ min (chainsOf (now (starts .entry)) (now (ends .entry)) full) cap ⌝ }
 {
     if cap == 0 {

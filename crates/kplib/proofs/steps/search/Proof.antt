@@ -66,7 +66,7 @@ whole-size-requires : tie.Need-whole-size-requires
 whole-size-requires c κs = begin (sized (c .before .before)) .pre .checked .part-sized
 
 pairs-together-requires : tie.Need-pairs-together-requires
-pairs-together-requires c κs = let h = start c .pre .checked in (h .ends-are, omega (arith, h .sized .few, h .sizes-are))
+pairs-together-requires c κs = let h = start c .pre .checked in (h .ends-are, omega (arith, h .sized .few, h .sizes-are), start c .pre .rising)
 
 key-requires : tie.Need-key-requires
 key-requires c κs =

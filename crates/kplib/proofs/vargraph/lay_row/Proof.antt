@@ -1,5 +1,5 @@
--- The later rows one by one: those passed have their flag. Assumes nothing.
-use mathlib.Core.Path.{_≡_, ap}
+-- The later rows one by one: those passed have their flag. At the first one that starts at the row's end or behind it, so do all others. Assumes nothing.
+use mathlib.Core.Path.{_≡_, ap, _∙_}
 use mathlib.Core.Bool.{not}
 use Prim.Native.Nat.{_-_, _≤_, _<_}
 use native.Mathlib.Omega.{arith}
@@ -7,7 +7,7 @@ use lib.ListN.{length}
 use borrow.Author.Needs.{needs}
 use Rattle.kplib.specs.Graph.{edge}
 use Rattle.kplib.specs.GraphWalk.{RowLaid}
-use Rattle.kplib.proofs.TogetherLaws.{row-begin, row-on}
+use Rattle.kplib.proofs.TogetherLaws.{row-begin, row-on, row-rest, behind-all}
 use Rattle.kplib.proofs.vargraph.lay_row.Statement.{statement}
 use Rattle.kplib.proofs.vargraph.lay_row.Tie as tie
 
@@ -22,13 +22,34 @@ add-s c = search needs
 
 -- the places: a turn of the loop, and the call's beginning
 abbrev turn : tie.After-overlaps Inv-loop μ-loop → tie.At-loop Inv-loop μ-loop
-turn c = c .before .before .before .before .before .before
+turn c = c .before .before .before .before .before .before .before .before .before
+
+abbrev passed : tie.Then1 Inv-loop μ-loop → tie.At-loop Inv-loop μ-loop
+passed c = c .before .before .before .before
 
 abbrev begun : tie.At-loop Inv-loop μ-loop → tie.Start Inv-loop μ-loop
 begun l = l .before .before .before
 
 loop-holds : tie.Need-loop-holds Inv-loop μ-loop
 loop-holds c = (omega arith, omega arith, row-begin _ _ _)
+
+mul-if1 : tie.Need-mul-if1 Inv-loop μ-loop
+mul-if1 c = search needs
+
+shared-slice-read-if1 : tie.Need-shared-slice-read-if1 Inv-loop μ-loop
+shared-slice-read-if1 c = search needs
+
+mul-if1-2 : tie.Need-mul-if1-2 Inv-loop μ-loop
+mul-if1-2 c = search needs
+
+shared-slice-read-if1-2 : tie.Need-shared-slice-read-if1-2 Inv-loop μ-loop
+shared-slice-read-if1-2 c = search needs
+
+returns : tie.Need-returns Inv-loop μ-loop
+returns c =
+    let l = passed c .loop in
+    let h = begun (passed c) .pre in
+    row-rest _ _ _ (l .inv .2) (l .inv .1) (λ j q m. h .4 .are-set _ (omega (arith, h .1)) (omega (arith, h .1, h .2)) ∙ behind-all _ _ (h .3) _ _ (c .if1 .taken) j q m)
 
 mul-overlaps : tie.Need-mul-overlaps Inv-loop μ-loop
 mul-overlaps c = search needs
@@ -77,10 +98,10 @@ unfolding edge
 loop-again c =
     let l = turn c .loop in
     let h = begun (turn c) .pre in
-    (omega arith, omega arith, row-on _ _ _ _ _ _ (l .inv .2) (l .inv .0) (omega (arith, l .inv .2 .long, h .3, h .1)) (ap not (c .overlaps .ensures)))
+    (omega arith, omega arith, row-on _ _ _ _ _ _ (l .inv .2) (l .inv .0) (omega (arith, l .inv .2 .long, h .4 .long, h .1)) (ap not (c .overlaps .ensures)))
 
-returns : tie.Need-returns Inv-loop μ-loop
-returns c = let l = c .before .loop in let e : l .s ≡ length (begun (c .before) .args .starts .now) = omega arith in rw e at (l .inv .2)
+returns-2 : tie.Need-returns-2 Inv-loop μ-loop
+returns-2 c = let l = c .before .loop in let e : l .s ≡ length (begun (c .before) .args .starts .now) = omega arith in rw e at (l .inv .2)
 
 pub lay-row-spec : {M : Type 1} → statement M
 lay-row-spec =
@@ -90,6 +111,11 @@ lay-row-spec =
     μ-loop
     add-s
     loop-holds
+    mul-if1
+    shared-slice-read-if1
+    mul-if1-2
+    shared-slice-read-if1-2
+    returns
     mul-overlaps
     shared-slice-read-overlaps
     mul-overlaps-2
@@ -105,4 +131,4 @@ lay-row-spec =
     add-s-2
     loop-less
     loop-again
-    returns)
+    returns-2)

@@ -1,9 +1,7 @@
 -- Row by row: the flags of the rows passed are laid. Assumes nothing.
-use mathlib.Core.Path.{_≡_, _∙_}
-use mathlib.Core.Bool.{false}
 use Prim.Native.Nat.{_-_, _≤_}
 use native.Mathlib.Omega.{arith}
-use lib.ListN.{length, length-replicate}
+use lib.ListN.{length}
 use borrow.Author.Needs.{needs}
 use Rattle.kplib.specs.Graph.{edge}
 use Rattle.kplib.proofs.TogetherLaws.{LaidBefore, pairs-begin, pairs-on, pairs-done}
@@ -11,7 +9,7 @@ use Rattle.kplib.proofs.vargraph.pairs_together.Statement.{statement}
 use Rattle.kplib.proofs.vargraph.pairs_together.Tie as tie
 
 abbrev Inv-loop : tie.InvT-loop
-Inv-loop starts ends together₀ r₀ together r = (length together ≡ 4096) × (r ≤ length starts) × LaidBefore (edge starts ends) (length starts) r together
+Inv-loop starts ends together₀ r₀ together r = (r ≤ length starts) × LaidBefore (edge starts ends) (length starts) r together
 
 abbrev μ-loop : tie.MeasureT-loop
 μ-loop starts ends together₀ r₀ together r = length starts - r
@@ -24,10 +22,10 @@ abbrev turn : tie.After-lay-row Inv-loop μ-loop → tie.At-loop Inv-loop μ-loo
 turn c = c .before .before .before
 
 loop-holds : tie.Need-loop-holds Inv-loop μ-loop
-loop-holds c = (length-replicate 4096 false, omega arith, pairs-begin _ _ _)
+loop-holds c = (omega arith, pairs-begin _ _)
 
 lay-row-requires : tie.Need-lay-row-requires Inv-loop μ-loop
-lay-row-requires c κs = let l = c .before .before in let h = begun l .pre in (h .0, h .1, omega arith, l .loop .inv .0)
+lay-row-requires c κs = let l = c .before .before in let h = begun l .pre in (h .0, h .1, omega arith, h .2, l .loop .inv .1 .others)
 
 add-r : tie.Need-add-r Inv-loop μ-loop
 add-r c = search needs
@@ -39,10 +37,10 @@ loop-again : tie.Need-loop-again Inv-loop μ-loop
 loop-again c =
     let l = turn c .loop in
     let h = begun (turn c) .pre in
-    (c .lay-row .ensures .long ∙ l .inv .0, omega arith, pairs-on (l .inv .2) (h .1) (c .lay-row .ensures))
+    (omega arith, pairs-on (l .inv .1) (h .1) (c .lay-row .ensures))
 
 returns : tie.Need-returns Inv-loop μ-loop
-returns c = pairs-done (c .before .loop .inv .2) (omega arith)
+returns c = pairs-done (c .before .loop .inv .1) (omega arith)
 
 pub pairs-together-spec : {M : Type 1} → statement M
 pairs-together-spec =
