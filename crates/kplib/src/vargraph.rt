@@ -1,4 +1,4 @@
-// The graph of a table of variants (vargraph.rs): an edge is a test of two rows, asked once a search and once a count for each pair.
+// The graph of a table of variants (vargraph.rs): an edge is a test of two rows, asked at most once a search and once a count for each pair.
 use metrics::overlaps;
 use metrics::refusals::ACCEPTED;
 use params::checks::count_fault;
