@@ -63,7 +63,9 @@ class Table:
         self.add(start, start + len(letters), -len(letters), letters, negative=True, record=record)
 
     def add(self, start: int, end: int, size: int, letters: Letters, negative: bool = False, record: Optional[int] = None) -> None:
-        """Adds a variant; its letters are counted, downwards for a `negative` sequence. Its record number is its row number where none is given."""
+        """Adds a variant; its letters are counted, downwards for a `negative` sequence. Its record number is its row number where none is given.
+
+        With fewer letters than k it has no window, and a search refuses the table by 16; a part may have as few."""
         self.add_counted(start, end, size, seq_to_kmer(letters, self.k, negative), record)
 
     def add_counted(self, start: int, end: int, size: int, features: Numbers, record: Optional[int] = None) -> None:

@@ -44,6 +44,20 @@ fn a_refusal_of_the_table_answers_all_at_once() {
     assert_eq!(ask("answer", &crossed, &["--tsv"]).text().lines().count(), 2);
 }
 
+/// A variant without a window is the table's fault: it answers the whole sheet, though a part of the second haplotype is over its size.
+#[test]
+fn a_variant_without_a_window_answers_all_at_once() {
+    let short = sheet("P\tx\t5\tCCCCC\nQ\ty\t131073\tAGCT\n").replace("14\t-4\tAGCT", "14\t-4\tAGC");
+    let words = "\"A\" has 3 letters and k is 4: it has no window of 4 letters, so nothing can match it; write all its letters, set k to 3 or less, or leave the row out";
+    let outcome = ask("answer", &short, &[]);
+    assert_eq!((outcome.status, outcome.text().matches("refused").count()), (1, 1), "{}", outcome.text());
+    assert!(outcome.text().ends_with(&format!("{}\n", told("line 2", 16, words))), "{}", outcome.text());
+    let rows = ask("answer", &short, &["--tsv"]).text();
+    assert_eq!(rows.lines().map(|row| row.split('\t').nth(1).unwrap()).collect::<Vec<_>>(), ["refused", "16"]);
+    let checked = ask("check", &short, &[]).text();
+    assert!(checked.ends_with("the library gives the first: refused 16\n"), "{checked}");
+}
+
 #[test]
 fn sixteen_and_seventeen() {
     let parts = |count: usize| (0..count).map(|place| format!("P{place}\th{place}\t5\tCCCCC\n")).collect::<String>();
