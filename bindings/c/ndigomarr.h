@@ -54,6 +54,7 @@ enum nd_refusal {
     ND_REFUSED_TOO_MANY_LINES = 42, /* a sixty-fifth line of BED */
     ND_REFUSED_LITTLE_TEXT_ROOM = 43, /* too little room for BED text */
     ND_REFUSED_MISSING_ROW = 44, /* a row that isn't there */
+    ND_REFUSED_NOT_ITS_SHEET = 49, /* a sheet that isn't its table's, or a table that breaks 5 to 8 */
 };
 
 /* The table's words for a refusal's number, for a message. */
@@ -89,6 +90,7 @@ static inline const char *nd_refusal_text(uint32_t number)
     case ND_REFUSED_TOO_MANY_LINES: return "a sixty-fifth line of BED";
     case ND_REFUSED_LITTLE_TEXT_ROOM: return "too little room for BED text";
     case ND_REFUSED_MISSING_ROW: return "a row that isn't there";
+    case ND_REFUSED_NOT_ITS_SHEET: return "a sheet that isn't its table's, or a table that breaks 5 to 8";
     default: return "not in the table of refusals";
     }
 }
