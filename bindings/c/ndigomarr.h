@@ -22,7 +22,7 @@ extern "C" {
 
 /* The refusals, each with the table's words. 1 to 14 and 27 are returned, and some of them stand in
  * nd_answer's text too; 20 to 26 stand there alone; 30 is the Rattle reader's and writer's; 40 to
- * 44 are BED's.
+ * 44 are BED's; 44 and 49 the companions sheet's.
  * Made from docs/refusals.tsv by tools/refusals --write. */
 enum nd_refusal {
     ND_ACCEPTED = 0,
@@ -225,6 +225,36 @@ uint32_t nd_write_bed(const uint8_t *name, size_t name_len, const uint64_t *star
                       size_t starts_len, const uint64_t *ends, size_t ends_len,
                       const uint32_t *rows, size_t rows_len, uint8_t *text, size_t text_len,
                       uint64_t *written);
+
+/* A companions sheet: beside a table of up to 64 rows, for every row the later rows that it does not
+ * overlap. So many starts and ends are lent, and so many flags; that of row r and a later row s
+ * stands at 64 r + s. A table of no rows has a sheet of no flags: begin with all of them false and
+ * rows 0. Each call refuses first by 49 (a sheet that isn't its table's, or a table that breaks 5 to
+ * 8); nothing is changed on a refusal. */
+enum { ND_COMPANION_ROWS = 64, ND_COMPANION_FLAGS = 4096 };
+
+/* Adds a row at the end. Refuses by 49, 5 (a sixty-fifth row), 7, 8. */
+uint32_t nd_companions_add(uint64_t starts[ND_COMPANION_ROWS], uint64_t ends[ND_COMPANION_ROWS],
+                           bool sheet[ND_COMPANION_FLAGS], uint32_t *rows, uint64_t start,
+                           uint64_t end);
+
+/* Takes the last row away; starts and ends stay as they lie. Refuses by 49, 44 (there is no row). */
+uint32_t nd_companions_remove(const uint64_t starts[ND_COMPANION_ROWS],
+                              const uint64_t ends[ND_COMPANION_ROWS],
+                              bool sheet[ND_COMPANION_FLAGS], uint32_t *rows);
+
+/* May rows a and b stand together, in either order? *yes is 1 or 0, and 0 for a row with itself.
+ * Refuses by 49, 44 (a row that isn't there), with *yes 0. */
+uint32_t nd_companions_together(const uint64_t starts[ND_COMPANION_ROWS],
+                                const uint64_t ends[ND_COMPANION_ROWS],
+                                const bool sheet[ND_COMPANION_FLAGS], uint32_t rows, uint32_t a,
+                                uint32_t b, uint32_t *yes);
+
+/* How many later companions has a row? Refuses by 49, 44 (a row that isn't there), with *count 0. */
+uint32_t nd_companions_count(const uint64_t starts[ND_COMPANION_ROWS],
+                             const uint64_t ends[ND_COMPANION_ROWS],
+                             const bool sheet[ND_COMPANION_FLAGS], uint32_t rows, uint32_t row,
+                             uint32_t *count);
 
 #ifdef __cplusplus
 }

@@ -1,14 +1,13 @@
 -- Document 02, P8, as a whole: what holds of a sheet from one change to the next, and what its answers come to.
-use Prim.Native.Nat.{ℕ, _+_, _<_}
+use Prim.Native.Nat.{ℕ, _<_}
 use mathlib.Core.Path.{_≡_}
 use mathlib.Core.Logic.{_≢_}
 use mathlib.Core.Bool.{false, not, _&&_}
-use mathlib.Core.List.{List, [], _∷_}
+use mathlib.Core.List.{List}
 use lib.Dec.{ltb}
 use lib.ListN.{length, take, replicate}
-use Rattle.params.specs.Numbers.{rule, firstOf, boundRules}
 use Rattle.companions.specs.Companions.{Companions, lentOf, rowsOverlap, entryOf, sheetOf, notItsSheet}
-use Rattle.companions.specs.Changes.{startsBeforeLast, addFault, removeFault, addedTo, takenFrom}
+use Rattle.companions.specs.Changes.{addFault, removeFault, addedTo, takenFrom}
 use Rattle.companions.specs.Questions.{togetherOf, howManyBelow, laterOf}
 
 -- 49 is not given
@@ -22,14 +21,10 @@ Places c = (length (c .starts) ≡ 64) × (length (c .ends) ≡ 64)
 pub record CompanionsKept : Type 0 where
   -- the sheet is the one worked out afresh from the rows present, and from nothing else
   pub afresh : (c : Companions) → Sound c → c .sheet ≡ sheetOf (take (c .rows) (c .starts)) (take (c .rows) (c .ends)) (c .rows)
-  -- so it begins, with no rows and no flag, and so it stays after each change
+  -- so it begins, with no rows and no flag, and so it stays after each change: who begins with none and only adds and takes away is never refused by 49
   pub begins : (starts ends : List ℕ) → Sound (lentOf starts ends (replicate 4096 false) 0)
   pub added : (c : Companions) (start end : ℕ) → Places c → addFault c start end ≡ 0 → Sound (addedTo c start end)
-  pub taken : (c : Companions) → removeFault c ≡ 0 → Sound (takenFrom c)
-  -- 7 and 8 of the row that is added are those of the table with it
-  pub as-ever : (c : Companions) (start end : ℕ) → Places c → Sound c → c .rows < 64
-      → firstOf (rule 7 (ltb end start) ∷ (rule 8 (startsBeforeLast c start) ∷ []))
-      ≡ firstOf (boundRules (take (c .rows + 1) (addedTo c start end .starts)) (take (c .rows + 1) (addedTo c start end .ends)))
+  pub taken : (c : Companions) → Places c → removeFault c ≡ 0 → Sound (takenFrom c)
   -- adding changes earlier rows' sets by the new row only
   pub new-row-only : (c : Companions) (start end : ℕ) → addFault c start end ≡ 0 → (r s : ℕ) → r < 64 → s < 64 → s ≢ c .rows
       → entryOf (addedTo c start end .sheet) r s ≡ entryOf (c .sheet) r s

@@ -13,7 +13,8 @@ use metrics::refusals::NOT_ITS_SHEET;
 use metrics::refusals::START_AFTER_END;
 use metrics::refusals::TOO_MANY;
 ghost use mathlib.Core.Path.{_≡_};
-ghost use Prim.Native.Nat.{_<_};
+ghost use mathlib.Core.Bool.{cond};
+ghost use Prim.Native.Nat.{_<_, _≤_};
 ghost use Rattle.companions.specs.Companions.{lentOf};
 ghost use Rattle.companions.specs.Changes.{addFault};
 ghost use Rattle.companions.specs.Questions.{laterOf};
@@ -127,6 +128,12 @@ pub fn together(
     Paired::Answer(sheet[64 * i + j] | sheet[64 * j + i])
 }
 
+fn one_if(flag: bool) -> u32
+    ensures { λ r. ⌜ (r ≡ cond flag 1 0) × (r ≤ 1) ⌝ }
+{
+    if flag { 1 } else { 0 }
+}
+
 // The flags of one row, counted.
 fn count_flags(sheet: &[bool; 4096], row: usize) -> u32
     requires { ⌜ row < 64 ⌝ }
@@ -135,9 +142,7 @@ fn count_flags(sheet: &[bool; 4096], row: usize) -> u32
     let mut n: u32 = 0;
     let mut s: usize = 0;
     while s < 64 {
-        if sheet[64 * row + s] {
-            n += 1;
-        }
+        n += one_if(sheet[64 * row + s]);
         s += 1;
     }
     n

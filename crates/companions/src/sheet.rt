@@ -1,6 +1,7 @@
 // The sheet: one row's flags laid or cleared, the whole worked out afresh, and two compared.
 use metrics::overlaps;
 ghost use mathlib.Core.Path.{_≡_};
+ghost use mathlib.Core.Bool.{cond, not};
 ghost use Prim.Native.Nat.{_+_, _<_, _≤_};
 ghost use lib.ListN.{length};
 ghost use Rattle.companions.specs.Companions.{sheetOf, sameFlags};
@@ -50,13 +51,23 @@ pub(crate) fn fresh(starts: &[u64; 64], ends: &[u64; 64], n: usize) -> [bool; 40
     sheet
 }
 
+fn differ(x: bool, y: bool) -> bool
+    ensures { λ r. ⌜ r ≡ cond x (not y) y ⌝ }
+{
+    if x {
+        return !y;
+    }
+    y
+}
+
 // Whether all flags are the same.
-pub(crate) fn same_flags(a: &[bool; 4096], b: &[bool; 4096]) -> bool
+pub(crate) fn same_flags(a: &[bool], b: &[bool]) -> bool
+    requires { ⌜ (length (now a) ≡ 4096) × (length (now b) ≡ 4096) ⌝ }
     ensures { λ r. ⌜ r ≡ sameFlags (now (a .entry)) (now (b .entry)) ⌝ }
 {
     let mut i: usize = 0;
     while i < 4096 {
-        if a[i] != b[i] {
+        if differ(a[i], b[i]) {
             return false;
         }
         i += 1;

@@ -2,6 +2,7 @@
 pub mod CheckLaws
 pub mod CheckedLaws
 mod CallLaws
+pub mod BoundLaws
 pub mod TableOrderLaws
 pub mod EndLaws
 pub mod SeveralLaws
