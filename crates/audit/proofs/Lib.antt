@@ -10,4 +10,5 @@ pub mod PartOrderLaws
 pub mod AnchorsLaws
 pub mod EdgesLaws
 pub mod NoAnchorLaws
+pub mod CompanionsTogetherLaws
 pub mod UniqueLaws

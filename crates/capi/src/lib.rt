@@ -4,6 +4,7 @@ ghost use Rattle.capi.specs.Promises.{NdApplyHaplotypePromise, NdApplyHa
 ghost use Rattle.capi.specs.Promises.{NdCompanionsAddPromise, NdCompanionsRemovePromise, NdCompanionsTogetherPromise, NdCompanionsCountPromise};
 use crate::words::length_word;
 use crate::words::settings_of_words;
+use crate::words::word_of_flag;
 use bed::BedRead;
 use bed::BedWritten;
 use companions::Later;
@@ -273,7 +274,7 @@ pub extern "C" fn nd_companions_together(
     let paired = companions::together(starts, ends, sheet, rows, a, b);
     match paired {
         Paired::Answer(may) => {
-            *yes = may as u32;
+            *yes = word_of_flag(may);
             ACCEPTED
         }
         Paired::Refused(n) => {
