@@ -41,13 +41,12 @@ fn step(companions: &mut Companions, rows: &mut Vec<(u64, u64)>, drawn: &mut Dra
     if drawn.below(100) < steady {
         let start = (last + drawn.below(4)).saturating_sub(drawn.below(2));
         let end = (start + drawn.below(6)).saturating_sub(u64::from(drawn.below(8) == 0));
-        let wanted = match () {
-            () if rows.len() == 64 => Err(Refusal::TooMany),
-            () if start > end => Err(Refusal::StartAfterEnd),
-            () if start < last => Err(Refusal::FallingStart),
-            () => Ok(rows.push((start, end))),
-        };
+        let faults = [(rows.len() == 64, Refusal::TooMany), (start > end, Refusal::StartAfterEnd), (start < last, Refusal::FallingStart)];
+        let wanted = faults.into_iter().find(|fault| fault.0).map_or(Ok(()), |fault| Err(fault.1));
         assert_eq!(companions.add(start, end), wanted);
+        if wanted.is_ok() {
+            rows.push((start, end));
+        }
     } else {
         let wanted = rows.pop().map(|_| ()).ok_or(Refusal::MissingRow);
         assert_eq!(companions.remove(), wanted);
