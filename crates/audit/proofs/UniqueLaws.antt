@@ -139,6 +139,6 @@ unique = record {
   nd-write-bed = λ name starts ends rows text written x y u v p q. two x y u v (both u p) (both v q);
   nd-companions-add = λ starts ends sheet rows start end. two;
   nd-companions-remove = λ starts ends sheet rows. removed;
-  nd-companions-together = λ starts ends sheet rows a b yes. two;
+  nd-companions-together = λ starts ends sheet rows a b word. two;
   nd-companions-count = λ starts ends sheet rows row count. two;
 }

@@ -171,5 +171,5 @@ pub record Unique : Type 0 where
   pub nd-companions-add : (starts ends : List ℕ) (sheet : List Bool) (rows start end : ℕ)
       → Two Companions ℕ (λ x. NdCompanionsAddPromise starts ends sheet rows start end (x .starts) (x .ends) (x .sheet) (x .rows))
   pub nd-companions-remove : (starts ends : List ℕ) (sheet : List Bool) (rows : ℕ) → Two (List Bool × ℕ) ℕ (λ x. NdCompanionsRemovePromise starts ends sheet rows (x .0) (x .1))
-  pub nd-companions-together : (starts ends : List ℕ) (sheet : List Bool) (rows a b yes : ℕ) → Two ℕ ℕ (NdCompanionsTogetherPromise starts ends sheet rows a b yes)
+  pub nd-companions-together : (starts ends : List ℕ) (sheet : List Bool) (rows a b word : ℕ) → Two ℕ ℕ (NdCompanionsTogetherPromise starts ends sheet rows a b word)
   pub nd-companions-count : (starts ends : List ℕ) (sheet : List Bool) (rows row count : ℕ) → Two ℕ ℕ (NdCompanionsCountPromise starts ends sheet rows row count)

@@ -78,9 +78,9 @@ abbrev pub NdCompanionsRemovePromise : List ℕ → List ℕ → List Bool → �
 NdCompanionsRemovePromise starts ends sheet rows sheet' rows' r = RemovePromise starts ends sheet rows sheet' rows' r
 
 abbrev pub NdCompanionsTogetherPromise : List ℕ → List ℕ → List Bool → ℕ → ℕ → ℕ → ℕ → ℕ → ℕ → Type 0
-NdCompanionsTogetherPromise starts ends sheet rows a b yes yes' r =
+NdCompanionsTogetherPromise starts ends sheet rows a b word word' r =
     let told = pairOf (lentOf starts ends sheet rows) a b in
-    (r ≡ pairNumber told) × (yes' ≡ pairYes told)
+    (r ≡ pairNumber told) × (word' ≡ pairYes told)
 
 abbrev pub NdCompanionsCountPromise : List ℕ → List ℕ → List Bool → ℕ → ℕ → ℕ → ℕ → ℕ → Type 0
 NdCompanionsCountPromise starts ends sheet rows row count count' r =
