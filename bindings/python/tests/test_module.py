@@ -231,6 +231,8 @@ def test_what_the_pages_show():
     for module in (ndigomarr, _library):
         result = doctest.testmod(module)
         assert result.attempted and not result.failed
+    told = doctest.testfile(str(ROOT / "docs/FIRST-WEEK.md"), module_relative=False, encoding="utf-8")
+    assert told.attempted and not told.failed
     text = (ROOT / "bindings/python/README.md").read_text(encoding="utf-8")
     shown = text.split("```python\n")[1].split("```")[0]
     place = {}
