@@ -1,7 +1,6 @@
 -- The sheet is the one worked out afresh from the rows present, and each entry of that one is the graph's edge.
-use Prim.Native.Nat.{ℕ, _≤_, _<_}
 use native.Mathlib.Omega.{arith}
-use mathlib.Core.Path.{_≡_, sym, ap, _∙_}
+use mathlib.Core.Path.{sym, ap, _∙_}
 use mathlib.Core.Bool.{Bool}
 use mathlib.Core.List.{List}
 use Rattle.paths.proofs.BooleanLaws.{and-true}

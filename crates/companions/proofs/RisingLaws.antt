@@ -34,7 +34,8 @@ module _ (n : ℕ) (starts ends : List ℕ) (room : n ≤ length starts) where
       let p = none-given (boundRules (take n starts) (take n ends)) refl z in
       record {
         seven = λ r l.
-            let h = ltb-false (getD (take n ends) r 0) (getD (take n starts) r 0) (any-where (λ r. ltb (getD (take n ends) r 0) (getD (take n starts) r 0)) (length (take n starts)) (p .0) r (rw long l)) in
+            let h = ltb-false (getD (take n ends) r 0) (getD (take n starts) r 0)
+            (any-where (λ r. ltb (getD (take n ends) r 0) (getD (take n starts) r 0)) (length (take n starts)) (p .0) r (rw long l)) in
             rw (at starts r l, at ends r l) at h;
         eight = λ r l.
             let here : r < n = omega arith in

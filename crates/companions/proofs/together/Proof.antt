@@ -11,7 +11,7 @@ use Rattle.companions.proofs.together.Statement.{statement}
 use Rattle.companions.proofs.together.Tie as tie
 
 -- the sheet is its table's
-own : (c : tie.Else1) → notItsSheet (lentOf (now (c .before .before .args .starts)) (now (c .before .before .args .ends)) (now (c .before .before .args .sheet)) (c .before .before .args .rows)) ≡ false
+own : (c : tie.Else1) → let a = c .before .before .args in notItsSheet (lentOf (now (a .starts)) (now (a .ends)) (now (a .sheet)) (a .rows)) ≡ false
 own c = sym (c .before .not-its-sheet .ensures) ∙ c .if1 .left
 
 not-its-sheet-requires : tie.Need-not-its-sheet-requires
