@@ -18,7 +18,9 @@ use crate::{checked, raw, Refusal};
 /// assert_eq!((companions.len(), companions.count(0)?), (2, 0));
 /// # Ok::<(), ndigomarr::Refusal>(())
 /// ```
-#[derive(Clone, PartialEq, Eq)]
+///
+/// Two are equal where their rows are.
+#[derive(Clone)]
 pub struct Companions(Box<raw::Sheet>);
 
 impl Companions {
@@ -73,6 +75,15 @@ impl Companions {
     }
 }
 
+// what lies behind the last row is no part of the table, and the sheet follows from the rows
+impl PartialEq for Companions {
+    fn eq(&self, other: &Self) -> bool {
+        (self.starts(), self.ends()) == (other.starts(), other.ends())
+    }
+}
+
+impl Eq for Companions {}
+
 impl Default for Companions {
     fn default() -> Self {
         Self::new()
@@ -84,6 +95,9 @@ impl std::fmt::Debug for Companions {
         f.debug_struct("Companions").field("starts", &self.starts()).field("ends", &self.ends()).finish_non_exhaustive()
     }
 }
+
+#[cfg(test)]
+mod drawn;
 
 /// What a safe caller cannot see: the lent arrays, and the 49.
 #[cfg(test)]

@@ -4,7 +4,7 @@ use mathlib.Core.Path.{sym, ap, _∙_}
 use mathlib.Core.Bool.{Bool}
 use mathlib.Core.List.{List}
 use Rattle.paths.proofs.BooleanLaws.{and-true}
-use Rattle.companions.specs.Companions.{Companions, companion, entryOf}
+use Rattle.companions.specs.Companions.{Companions, companion, sheetFlag}
 use Rattle.companions.specs.Sheets.{Sound}
 use Rattle.companions.proofs.SheetLaws.{sheet-entry, there}
 use Rattle.companions.proofs.TableLaws.{table-within, sound-table}
@@ -17,7 +17,7 @@ pairs : (c : Companions) → Sound c → Together (edge (presentStarts c) (prese
 unfolding edge
 pairs c own r s h l =
     let few = table-within (c .rows) (c .starts) (c .ends) (sound-table c own) in
-    ap (λ (t : List Bool). entryOf t r s) (companions-kept .afresh c own)
+    ap (λ (t : List Bool). sheetFlag t r s) (companions-kept .afresh c own)
     ∙ sheet-entry (companion (presentStarts c) (presentEnds c) (c .rows)) r s (omega arith) (omega arith)
     ∙ there (presentStarts c) (presentEnds c) (c .rows) r s h l
 

@@ -4,7 +4,7 @@ use mathlib.Core.Path.{_≡_}
 use mathlib.Core.Bool.{Bool, true}
 use mathlib.Core.List.{List, [], _∷_}
 use lib.ListN.{take}
-use Rattle.companions.specs.Companions.{Companions, entryOf}
+use Rattle.companions.specs.Companions.{Companions, sheetFlag}
 use Rattle.companions.specs.Sheets.{Sound}
 use Rattle.kplib.specs.Graph.{edge, mayFollowIn}
 use Rattle.kplib.specs.GraphWalk.{flagOf, Together}
@@ -21,7 +21,7 @@ pub record CompanionsAreTogether : Type 0 where
   pub a-table-of-pairs : (c : Companions) → Sound c → Together (edge (presentStarts c) (presentEnds c)) (c .rows) (c .sheet)
   -- so of two rows, the later last, it says what whichever table the search has laid says
   pub same-flags : (c : Companions) → Sound c → (together : List Bool) → Together (edge (presentStarts c) (presentEnds c)) (c .rows) together
-      → (r s : ℕ) → r < s → s < c .rows → entryOf (c .sheet) r s ≡ flagOf together r s
+      → (r s : ℕ) → r < s → s < c .rows → sheetFlag (c .sheet) r s ≡ flagOf together r s
   -- and that is whether, in a full graph, the later may follow the earlier alone
   pub may-follow : (c : Companions) → Sound c → (r s : ℕ) → r < s → s < c .rows
-      → mayFollowIn (presentStarts c) (presentEnds c) true (r ∷ []) s ≡ entryOf (c .sheet) r s
+      → mayFollowIn (presentStarts c) (presentEnds c) true (r ∷ []) s ≡ sheetFlag (c .sheet) r s

@@ -298,7 +298,7 @@ pub extern "C" fn nd_companions_count(
 {
     let counted = companions::count(starts, ends, sheet, rows, row);
     match counted {
-        Later::Number(n) => {
+        Later::Count(n) => {
             *count = n;
             ACCEPTED
         }

@@ -11,16 +11,16 @@ use lib.Seq.{getD-set-other}
 use Rattle.params.specs.Numbers.{rule}
 use Rattle.params.proofs.CheckLaws.{Passed, none-given}
 use Rattle.companions.specs.Companions.{Companions, lentOf, sheetOf, notItsSheet}
-use Rattle.companions.specs.Changes.{addRules, addFault, removeFault, addedTo, takenFrom, unlessRefused}
+use Rattle.companions.specs.Changes.{addRules, addFault, removeFault, addedTo, takenFrom, changedUnless}
 use Rattle.companions.proofs.SheetLaws.{only-present}
 use Rattle.companions.proofs.TableLaws.{table-within, sound-table, sound-sheet}
 
 -- nothing changed on a refusal
-pub kept-refused : {f : ℕ} (fault : ℕ) (new old : Companions) → f ≡ fault → (f ≡ 0 → ⊥) → old ≡ unlessRefused fault new old
+pub kept-refused : {f : ℕ} (fault : ℕ) (new old : Companions) → f ≡ fault → (f ≡ 0 → ⊥) → old ≡ changedUnless fault new old
 kept-refused zero new old e h = absurd (h e)
 kept-refused (suc n) new old e h = refl
 
-pub changed : (fault : ℕ) (new old : Companions) → fault ≡ 0 → new ≡ unlessRefused fault new old
+pub changed : (fault : ℕ) (new old : Companions) → fault ≡ 0 → new ≡ changedUnless fault new old
 changed fault new old z = rw z
 
 -- ---- adding
@@ -69,15 +69,16 @@ module _ (starts ends : List ℕ) (sheet : List Bool) (rows start end : ℕ) {f 
   pub add-room : rows < 64
   add-room = let h = ltb-false 64 (rows + 1) (add-passed before start end accepted .1 .0) in omega arith
 
-  pub add-ready : sheet ≡ sheetOf (set starts rows start) (set ends rows end) rows
-  add-ready = sound-sheet before (add-passed before start end accepted .0)
-      ∙ only-present starts ends (set starts rows start) (set ends rows end) rows
-      (λ i l. sym (getD-set-other starts rows i start 0 (λ q. omega arith)))
-      (λ i l. sym (getD-set-other ends rows i end 0 (λ q. omega arith)))
+  -- whatever is laid behind the last row plays no part in the sheet before
+  pub add-ready : (x y : ℕ) → sheet ≡ sheetOf (set starts rows x) (set ends rows y) rows
+  add-ready x y = sound-sheet before (add-passed before start end accepted .0)
+      ∙ only-present starts ends (set starts rows x) (set ends rows y) rows
+      (λ i l. sym (getD-set-other starts rows i x 0 (λ q. omega arith)))
+      (λ i l. sym (getD-set-other ends rows i y 0 (λ q. omega arith)))
 
   pub add-done : {sheet' : List Bool} → sheet' ≡ sheetOf (set starts rows start) (set ends rows end) (rows + 1)
       → (0 ≡ addFault before start end)
-      × (lentOf (set starts rows start) (set ends rows end) sheet' (rows + 1) ≡ unlessRefused (addFault before start end) (addedTo before start end) before)
+      × (lentOf (set starts rows start) (set ends rows end) sheet' (rows + 1) ≡ changedUnless (addFault before start end) (addedTo before start end) before)
   add-done k =
       (sym accepted, ap (λ (s : List Bool). lentOf (set starts rows start) (set ends rows end) s (rows + 1)) k ∙ changed (addFault before start end) (addedTo before start end) before accepted)
 
@@ -92,7 +93,7 @@ module _ (c : Companions) where
     unfolding removeFault
     remove-empty z = rw (own, eq-eqb (c .rows) 0 z)
 
-    remove-some : (c .rows ≡ 0 → ⊥) → removeFault c ≡ 0
+    pub remove-some : (c .rows ≡ 0 → ⊥) → removeFault c ≡ 0
     unfolding removeFault
     remove-some n = rw (own, ne-eqb (c .rows) 0 n)
 
@@ -104,14 +105,14 @@ module _ (starts ends : List ℕ) (sheet : List Bool) (rows : ℕ) where
   abbrev lent : Companions
   lent = lentOf starts ends sheet rows
 
-  pub remove-not-its : notItsSheet lent ≡ true → (49 ≡ removeFault lent) × (lent ≡ unlessRefused (removeFault lent) (takenFrom lent) lent)
+  pub remove-not-its : notItsSheet lent ≡ true → (49 ≡ removeFault lent) × (lent ≡ changedUnless (removeFault lent) (takenFrom lent) lent)
   remove-not-its h = (told, kept-refused (removeFault lent) (takenFrom lent) lent told (λ z. omega arith))
     where
       told : 49 ≡ removeFault lent
       told = remove-first lent h
 
   module _ (own : notItsSheet lent ≡ false) where
-    pub remove-none : rows ≡ 0 → (44 ≡ removeFault lent) × (lent ≡ unlessRefused (removeFault lent) (takenFrom lent) lent)
+    pub remove-none : rows ≡ 0 → (44 ≡ removeFault lent) × (lent ≡ changedUnless (removeFault lent) (takenFrom lent) lent)
     remove-none z = (told, kept-refused (removeFault lent) (takenFrom lent) lent told (λ q. omega arith))
       where
         told : 44 ≡ removeFault lent
@@ -124,7 +125,7 @@ module _ (starts ends : List ℕ) (sheet : List Bool) (rows : ℕ) where
         (omega arith, sound-sheet lent own ∙ ap (λ (k : ℕ). sheetOf starts ends k) back)
 
     pub remove-done : (rows ≡ 0 → ⊥) → {sheet' : List Bool} → sheet' ≡ sheetOf starts ends (rows - 1)
-        → (0 ≡ removeFault lent) × (lentOf starts ends sheet' (rows - 1) ≡ unlessRefused (removeFault lent) (takenFrom lent) lent)
+        → (0 ≡ removeFault lent) × (lentOf starts ends sheet' (rows - 1) ≡ changedUnless (removeFault lent) (takenFrom lent) lent)
     remove-done n k =
         let z = remove-some lent own n in
         (sym z, ap (λ (s : List Bool). lentOf starts ends s (rows - 1)) k ∙ changed (removeFault lent) (takenFrom lent) lent z)

@@ -10,15 +10,15 @@ use lib.Dec.{leb, ltb}
 use lib.ListN.{getD, take, set, replicate, length-set}
 use lib.Seq.{getD-take}
 use Rattle.metrics.proofs.OverlapLaws.{overlap-rule}
-use Rattle.companions.specs.Companions.{Companions, lentOf, rowsOverlap, companion, entryOf, sheetOf}
+use Rattle.companions.specs.Companions.{Companions, lentOf, rowsOverlap, companion, sheetFlag, sheetOf}
 use Rattle.companions.specs.Changes.{addFault, removeFault, addedTo, takenFrom}
 use Rattle.companions.specs.Questions.{togetherOf, howManyBelow, laterOf}
 use Rattle.companions.specs.Sheets.{Sound, Places, CompanionsKept}
 use Rattle.companions.proofs.SheetLaws.{sheet-entry, not-later, not-there, there, other-columns, no-rows, only-present}
 use Rattle.companions.proofs.TableLaws.{table-few, table-empty, table-within, table-bounds, sound-table, sound-sheet, sound}
 use Rattle.companions.proofs.CountLaws.{count-same, count-past}
-use Rattle.companions.proofs.ChangeLaws.{add-passed, add-ready, remove-passed}
-use Rattle.companions.proofs.RisingLaws.{bounds-told, bounds-made, rising-less, rising-more}
+use Rattle.companions.proofs.ChangeLaws.{add-passed, add-ready, remove-some, remove-passed}
+use Rattle.companions.proofs.GoodRowsLaws.{bounds-told, bounds-made, good-less, good-more}
 
 or-comm : (a b : Bool) → (a || b) ≡ (b || a)
 or-comm true true = refl
@@ -35,8 +35,8 @@ module _ (c : Companions) (own : Sound c) where
   few = table-within (c .rows) (c .starts) (c .ends) (sound-table c own)
 
   -- each entry is the rule's own
-  pub entry : (r s : ℕ) → r < 64 → s < 64 → entryOf (c .sheet) r s ≡ companion (c .starts) (c .ends) (c .rows) r s
-  entry r s h l = ap (λ (t : List Bool). entryOf t r s) (sound-sheet c own) ∙ sheet-entry (companion (c .starts) (c .ends) (c .rows)) r s h l
+  pub entry : (r s : ℕ) → r < 64 → s < 64 → sheetFlag (c .sheet) r s ≡ companion (c .starts) (c .ends) (c .rows) r s
+  entry r s h l = ap (λ (t : List Bool). sheetFlag t r s) (sound-sheet c own) ∙ sheet-entry (companion (c .starts) (c .ends) (c .rows)) r s h l
 
   afresh : c .sheet ≡ sheetOf (take (c .rows) (c .starts)) (take (c .rows) (c .ends)) (c .rows)
   afresh = sound-sheet c own
@@ -52,13 +52,13 @@ module _ (c : Companions) (own : Sound c) where
   unfolding togetherOf
   apart a b h l n = go (ltb a b) refl
     where
-      early : (a b : ℕ) → a < b → b < c .rows → entryOf (c .sheet) a b ≡ not (rowsOverlap (c .starts) (c .ends) a b)
+      early : (a b : ℕ) → a < b → b < c .rows → sheetFlag (c .sheet) a b ≡ not (rowsOverlap (c .starts) (c .ends) a b)
       early a b k l = let m = few in entry a b (omega arith) (omega arith) ∙ there (c .starts) (c .ends) (c .rows) a b k l
 
-      late : (a b : ℕ) → a < b → b < c .rows → entryOf (c .sheet) b a ≡ false
+      late : (a b : ℕ) → a < b → b < c .rows → sheetFlag (c .sheet) b a ≡ false
       late a b k l = let m = few in entry b a (omega arith) (omega arith) ∙ not-later (c .starts) (c .ends) (c .rows) b a (omega arith)
 
-      go : (t : Bool) → ltb a b ≡ t → (entryOf (c .sheet) a b || entryOf (c .sheet) b a) ≡ not (rowsOverlap (c .starts) (c .ends) a b)
+      go : (t : Bool) → ltb a b ≡ t → (sheetFlag (c .sheet) a b || sheetFlag (c .sheet) b a) ≡ not (rowsOverlap (c .starts) (c .ends) a b)
       go true e = let k = ltb-true a b e in rw (late a b k l, early a b k l) (or-false (not (rowsOverlap (c .starts) (c .ends) a b)))
       go false e =
           let q = ltb-false a b e in
@@ -70,7 +70,7 @@ module _ (c : Companions) (own : Sound c) where
   unfolding laterOf companion
   counted row h =
       let m = few in
-      count-same (entryOf (c .sheet) row) (companion (c .starts) (c .ends) (c .rows) row) 64 (λ s l. entry row s (omega arith) l)
+      count-same (sheetFlag (c .sheet) row) (companion (c .starts) (c .ends) (c .rows) row) 64 (λ s l. entry row s (omega arith) l)
       ∙ count-past (companion (c .starts) (c .ends) (c .rows) row) (c .rows) 64 m (λ s l. not-there (c .starts) (c .ends) (c .rows) row s l)
       ∙ count-same (companion (c .starts) (c .ends) (c .rows) row) (λ s. ltb row s && not (rowsOverlap (c .starts) (c .ends) row s)) (c .rows) (λ s l. rw (lt-ltb s (c .rows) l))
 
@@ -87,15 +87,15 @@ module _ (c : Companions) (start end : ℕ) (z : addFault c start end ≡ 0) whe
 
   -- the row behind the last plays no part in the sheet before
   unchanged : c .sheet ≡ sheetOf (set (c .starts) (c .rows) start) (set (c .ends) (c .rows) end) (c .rows)
-  unchanged = add-ready (c .starts) (c .ends) (c .sheet) (c .rows) start end refl z
+  unchanged = add-ready (c .starts) (c .ends) (c .sheet) (c .rows) start end refl z start end
 
   -- of the earlier rows' flags only those of the new row's column can differ
-  new-row-only : (r s : ℕ) → r < 64 → s < 64 → s ≢ c .rows → entryOf (addedTo c start end .sheet) r s ≡ entryOf (c .sheet) r s
+  new-row-only : (r s : ℕ) → r < 64 → s < 64 → s ≢ c .rows → sheetFlag (addedTo c start end .sheet) r s ≡ sheetFlag (c .sheet) r s
   new-row-only r s h l n =
       sheet-entry (companion (set (c .starts) (c .rows) start) (set (c .ends) (c .rows) end) (c .rows + 1)) r s h l
       ∙ sym (other-columns (set (c .starts) (c .rows) start) (set (c .ends) (c .rows) end) (c .rows) r s n)
       ∙ sym (sheet-entry (companion (set (c .starts) (c .rows) start) (set (c .ends) (c .rows) end) (c .rows)) r s h l)
-      ∙ ap (λ (t : List Bool). entryOf t r s) (sym unchanged)
+      ∙ ap (λ (t : List Bool). sheetFlag t r s) (sym unchanged)
 
   back : (takenFrom (addedTo c start end) .sheet ≡ c .sheet) × (takenFrom (addedTo c start end) .rows ≡ c .rows)
   back =
@@ -106,9 +106,9 @@ module _ (c : Companions) (start end : ℕ) (z : addFault c start end ≡ 0) whe
   added places =
       let p = add-passed c start end z in
       let h = room in
-      let rising = bounds-told (c .rows) (c .starts) (c .ends) (omega (arith, places .0)) (table-bounds (c .rows) (c .starts) (c .ends) (sound-table c own)) in
+      let good = bounds-told (c .rows) (c .starts) (c .ends) (omega (arith, places .0)) (table-bounds (c .rows) (c .starts) (c .ends) (sound-table c own)) in
       let ahead = ltb-false end start (p .1 .1 .0) in
-      let more = rising-more (c .rows) (c .starts) (c .ends) start end rising (omega (arith, places .0)) (omega (arith, places .1)) ahead (λ some. last some (p .1 .1 .1 .0)) in
+      let more = good-more (c .rows) (c .starts) (c .ends) start end good (omega (arith, places .0)) (omega (arith, places .1)) ahead (λ some. last some (p .1 .1 .1 .0)) in
       let size = length-set (c .starts) (c .rows) start in
       let bounds = bounds-made (c .rows + 1) (set (c .starts) (c .rows) start) (set (c .ends) (c .rows) end) (omega (arith, places .0)) more in
       sound (addedTo c start end) (sym (table-few (c .rows + 1) (set (c .starts) (c .rows) start) (set (c .ends) (c .rows) end) (omega arith) (sym bounds))) refl
@@ -116,13 +116,16 @@ module _ (c : Companions) (start end : ℕ) (z : addFault c start end ≡ 0) whe
       last : 1 ≤ c .rows → (leb 1 (c .rows) && ltb start (getD (c .starts) (c .rows - 1) 0)) ≡ false → getD (c .starts) (c .rows - 1) 0 ≤ start
       last some h = ltb-false start (getD (c .starts) (c .rows - 1) 0) (rw (le-leb 1 (c .rows) some) at h)
 
+  taken-again : Places c → removeFault (addedTo c start end) ≡ 0
+  taken-again places = remove-some (addedTo c start end) (added places) (λ n. omega arith)
+
 -- ---- taking away
 taken : (c : Companions) → Places c → removeFault c ≡ 0 → Sound (takenFrom c)
 taken c places z =
     let own = remove-passed c z .0 in
     let some = table-within (c .rows) (c .starts) (c .ends) (sound-table c own) in
-    let rising = bounds-told (c .rows) (c .starts) (c .ends) (omega (arith, places .0)) (table-bounds (c .rows) (c .starts) (c .ends) (sound-table c own)) in
-    let bounds = bounds-made (c .rows - 1) (c .starts) (c .ends) (omega (arith, places .0)) (rising-less (c .rows) (c .starts) (c .ends) rising) in
+    let good = bounds-told (c .rows) (c .starts) (c .ends) (omega (arith, places .0)) (table-bounds (c .rows) (c .starts) (c .ends) (sound-table c own)) in
+    let bounds = bounds-made (c .rows - 1) (c .starts) (c .ends) (omega (arith, places .0)) (good-less (c .rows) (c .starts) (c .ends) good) in
     sound (takenFrom c) (sym (table-few (c .rows - 1) (c .starts) (c .ends) (omega arith) (sym bounds))) refl
 
 pub companions-kept : CompanionsKept
@@ -134,7 +137,8 @@ companions-kept = record {
   taken = taken;
   new-row-only = new-row-only;
   back = back;
-  in-either-order = λ c a b. or-comm (entryOf (c .sheet) a b) (entryOf (c .sheet) b a);
+  taken-again = λ c start end places z. taken-again c start end z places;
+  in-either-order = λ c a b. or-comm (sheetFlag (c .sheet) a b) (sheetFlag (c .sheet) b a);
   itself = itself;
   apart = apart;
   counted = counted;

@@ -4,5 +4,5 @@ pub mod TableLaws
 pub mod CountLaws
 pub mod ChangeLaws
 pub mod QuestionLaws
-pub mod RisingLaws
+pub mod GoodRowsLaws
 pub mod KeptLaws

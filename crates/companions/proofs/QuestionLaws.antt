@@ -41,6 +41,6 @@ module _ (c : Companions) (row : ℕ) where
     unfolding laterIn laterFault
     later-missing h = rw (own, le-leb (c .rows) row h)
 
-    pub later-told : row < c .rows → {n : ℕ} → n ≡ laterOf (c .sheet) row → L.Number n ≡ laterIn c row
+    pub later-told : row < c .rows → {n : ℕ} → n ≡ laterOf (c .sheet) row → L.Count n ≡ laterIn c row
     unfolding laterIn laterFault
     later-told l e = rw (own, lt-leb (c .rows) row l, e)

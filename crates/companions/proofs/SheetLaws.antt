@@ -14,7 +14,7 @@ use lib.Dec.{ltb, eqb}
 use lib.ListN.{length, getD, set, drop, replicate, length-set, length-replicate, getD-replicate, drop-of-length-le}
 use lib.Seq.{getD-set-same, getD-set-other, drop-cons, ext-getD}
 use Rattle.paths.proofs.BooleanLaws.{clash, and-false}
-use Rattle.companions.specs.Companions.{rowsOverlap, companion, flagsFrom, sheetBy, entryOf, sheetOf, sameFlags}
+use Rattle.companions.specs.Companions.{rowsOverlap, companion, flagsFrom, sheetBy, sheetFlag, sheetOf, sameFlags}
 use Rattle.companions.specs.Steps.{Passing}
 
 -- ---- entries
@@ -43,7 +43,7 @@ module _ (f : ℕ → ℕ → Bool) where
   unfolding sheetBy
   sheet-length = flags-length (λ i. f (i / 64) (i % 64)) 0 4096
 
-  pub sheet-entry : (r s : ℕ) → r < 64 → s < 64 → entryOf (sheetBy f) r s ≡ f r s
+  pub sheet-entry : (r s : ℕ) → r < 64 → s < 64 → sheetFlag (sheetBy f) r s ≡ f r s
   unfolding sheetBy
   sheet-entry r s h l =
       let row : (0 + (64 * r + s)) / 64 ≡ r = omega arith in
@@ -51,7 +51,7 @@ module _ (f : ℕ → ℕ → Bool) where
       flags-at (λ i. f (i / 64) (i % 64)) 0 4096 (64 * r + s) (omega arith) ∙ ap (λ (q : ℕ). f q ((0 + (64 * r + s)) % 64)) row ∙ ap (f r) column
 
   -- a sheet whose entries are f's is f's
-  pub sheet-known : (sheet : List Bool) → length sheet ≡ 4096 → ((r s : ℕ) → r < 64 → s < 64 → entryOf sheet r s ≡ f r s) → sheet ≡ sheetBy f
+  pub sheet-known : (sheet : List Bool) → length sheet ≡ 4096 → ((r s : ℕ) → r < 64 → s < 64 → sheetFlag sheet r s ≡ f r s) → sheet ≡ sheetBy f
   sheet-known sheet long h = ext-getD false sheet (sheetBy f) (long ∙ sym sheet-length) (λ i l.
       let place : i ≡ 64 * (i / 64) + i % 64 = omega arith in
       let row : i / 64 < 64 = omega arith in
@@ -70,14 +70,14 @@ module _ (f g : ℕ → ℕ → Bool) where
   passing-begin sheet e = record {
     long = ap length e ∙ sheet-length f;
     done = λ q s h. absurd (omega arith);
-    left = λ q s h k l. ap (λ (t : List Bool). entryOf t q s) e ∙ sheet-entry f q s k l;
+    left = λ q s h k l. ap (λ (t : List Bool). sheetFlag t q s) e ∙ sheet-entry f q s k l;
   }
 
   -- the rows from r on are as g says too
   pub passing-end : (r : ℕ) (sheet : List Bool) → Passing f g r sheet → ((q s : ℕ) → r ≤ q → s < 64 → f q s ≡ g q s) → sheet ≡ sheetBy g
   passing-end r sheet p h = sheet-known g sheet (p .long) (λ q s k l. go q s k l (ltb q r) refl)
     where
-      go : (q s : ℕ) → q < 64 → s < 64 → (b : Bool) → ltb q r ≡ b → entryOf sheet q s ≡ g q s
+      go : (q s : ℕ) → q < 64 → s < 64 → (b : Bool) → ltb q r ≡ b → sheetFlag sheet q s ≡ g q s
       go q s k l true e = p .done q s (ltb-true q r e) k l
       go q s k l false e = let late = ltb-false q r e in p .left q s late k l ∙ h q s late l
 
@@ -87,28 +87,28 @@ module _ (f g : ℕ → ℕ → Bool) where
     abbrev next : List Bool
     next = set sheet (64 * r + column) flag
 
-    other : (q s : ℕ) → q ≢ r → s < 64 → entryOf next q s ≡ entryOf sheet q s
+    other : (q s : ℕ) → q ≢ r → s < 64 → sheetFlag next q s ≡ sheetFlag sheet q s
     other q s n l = let ne : 64 * q + s ≢ 64 * r + column = λ z. n (omega arith) in getD-set-other sheet (64 * r + column) (64 * q + s) flag false ne
 
-    before : (q s : ℕ) → q < r → q < 64 → s < 64 → entryOf next q s ≡ g q s
+    before : (q s : ℕ) → q < r → q < 64 → s < 64 → sheetFlag next q s ≡ g q s
     before q s h k l = other q s (λ z. omega arith) l ∙ p .done q s h k l
 
     room : 64 * r + column < length sheet
     room = let h = p .long in omega arith
 
-    off : (s : ℕ) → s < 64 → s ≢ column → entryOf next r s ≡ g r s
+    off : (s : ℕ) → s < 64 → s ≢ column → sheetFlag next r s ≡ g r s
     off s l n =
         let ne : 64 * r + s ≢ 64 * r + column = λ z. n (omega arith) in
         getD-set-other sheet (64 * r + column) (64 * r + s) flag false ne ∙ p .left r s (omega arith) few l ∙ same r s n
 
-    at : (s : ℕ) → s < 64 → (b : Bool) → eqb s column ≡ b → entryOf next r s ≡ g r s
+    at : (s : ℕ) → s < 64 → (b : Bool) → eqb s column ≡ b → sheetFlag next r s ≡ g r s
     at s l true t = rw (eqb-true s column t) (getD-set-same sheet (64 * r + column) flag false room ∙ e)
     at s l false t = off s l (eqb-false s column t)
 
     pub passing-on : Passing f g (r + 1) next
     passing-on = record {
       long = length-set sheet (64 * r + column) flag ∙ p .long;
-      done = λ q s h. below-more (λ q. q < 64 → s < 64 → entryOf next q s ≡ g q s) r (λ q h k l. before q s h k l) (λ k l. at s l (eqb s column) refl) q h;
+      done = λ q s h. below-more (λ q. q < 64 → s < 64 → sheetFlag next q s ≡ g q s) r (λ q h k l. before q s h k l) (λ k l. at s l (eqb s column) refl) q h;
       left = λ q s h k l. other q s (λ z. omega arith) l ∙ p .left q s (omega arith) k l;
     }
 

@@ -39,6 +39,6 @@ abbrev pub takenFrom : Companions → Companions
 takenFrom c = record { starts = c .starts; ends = c .ends; sheet = sheetOf (c .starts) (c .ends) (c .rows - 1); rows = c .rows - 1 }
 
 -- sheet and table stay unchanged on a refusal
-abbrev pub unlessRefused : ℕ → Companions → Companions → Companions
-unlessRefused zero new old = new
-unlessRefused (suc f) new old = old
+abbrev pub changedUnless : ℕ → Companions → Companions → Companions
+changedUnless zero new old = new
+changedUnless (suc f) new old = old

@@ -34,8 +34,8 @@ flagsFrom f i (suc n) = f i ∷ flagsFrom f (suc i) n
 unfoldable pub sheetBy : (ℕ → ℕ → Bool) → List Bool
 sheetBy f = flagsFrom (λ i. f (i / 64) (i % 64)) 0 4096
 
-abbrev pub entryOf : List Bool → ℕ → ℕ → Bool
-entryOf sheet r s = getD sheet (64 * r + s) false
+abbrev pub sheetFlag : List Bool → ℕ → ℕ → Bool
+sheetFlag sheet r s = getD sheet (64 * r + s) false
 
 -- the sheet worked out afresh from the rows present: every entry of a row or column at or past their number is no
 abbrev pub sheetOf : List ℕ → List ℕ → ℕ → List Bool

@@ -5,7 +5,7 @@ use mathlib.Core.Path.{_≡_}
 use mathlib.Core.Bool.{Bool}
 use mathlib.Core.List.{List}
 use Rattle.companions.specs.Companions.{lentOf}
-use Rattle.companions.specs.Changes.{addFault, removeFault, addedTo, takenFrom, unlessRefused}
+use Rattle.companions.specs.Changes.{addFault, removeFault, addedTo, takenFrom, changedUnless}
 use Rattle.companions.specs.Questions.{pairOf, laterIn}
 use Rattle.companions.specs.declared.Paired.{Paired}
 use Rattle.companions.specs.declared.Later.{Later}
@@ -13,12 +13,12 @@ use Rattle.companions.specs.declared.Later.{Later}
 abbrev pub AddPromise : List ℕ → List ℕ → List Bool → ℕ → ℕ → ℕ → List ℕ → List ℕ → List Bool → ℕ → ℕ → Type 0
 AddPromise starts ends sheet rows start end starts' ends' sheet' rows' r =
     let c = lentOf starts ends sheet rows in
-    (r ≡ addFault c start end) × (lentOf starts' ends' sheet' rows' ≡ unlessRefused (addFault c start end) (addedTo c start end) c)
+    (r ≡ addFault c start end) × (lentOf starts' ends' sheet' rows' ≡ changedUnless (addFault c start end) (addedTo c start end) c)
 
 abbrev pub RemovePromise : List ℕ → List ℕ → List Bool → ℕ → List Bool → ℕ → ℕ → Type 0
 RemovePromise starts ends sheet rows sheet' rows' r =
     let c = lentOf starts ends sheet rows in
-    (r ≡ removeFault c) × (lentOf starts ends sheet' rows' ≡ unlessRefused (removeFault c) (takenFrom c) c)
+    (r ≡ removeFault c) × (lentOf starts ends sheet' rows' ≡ changedUnless (removeFault c) (takenFrom c) c)
 
 abbrev pub TogetherPromise : List ℕ → List ℕ → List Bool → ℕ → ℕ → ℕ → Paired → Type 0
 TogetherPromise starts ends sheet rows a b r = r ≡ pairOf (lentOf starts ends sheet rows) a b

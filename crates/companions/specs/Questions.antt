@@ -4,7 +4,7 @@ use mathlib.Core.Bool.{Bool, cond, _||_}
 use mathlib.Core.List.{List, [], _∷_}
 use lib.Dec.{leb}
 use Rattle.params.specs.Numbers.{rule, firstOf}
-use Rattle.companions.specs.Companions.{Companions, entryOf, notItsSheet}
+use Rattle.companions.specs.Companions.{Companions, sheetFlag, notItsSheet}
 use Rattle.companions.specs.declared.Paired.{Paired}
 use Rattle.companions.specs.declared.Paired.the-variants as P
 use Rattle.companions.specs.declared.Later.{Later}
@@ -12,7 +12,7 @@ use Rattle.companions.specs.declared.Later.the-variants as L
 
 -- in either order
 unfoldable pub togetherOf : List Bool → ℕ → ℕ → Bool
-togetherOf sheet a b = entryOf sheet a b || entryOf sheet b a
+togetherOf sheet a b = sheetFlag sheet a b || sheetFlag sheet b a
 
 -- how many numbers below n pass a test
 unfoldable pub howManyBelow : ℕ → (ℕ → Bool) → ℕ
@@ -21,7 +21,7 @@ howManyBelow (suc n) test = howManyBelow n test + cond (test n) 1 0
 
 -- the row's own 64 flags, counted
 unfoldable pub laterOf : List Bool → ℕ → ℕ
-laterOf sheet row = howManyBelow 64 (entryOf sheet row)
+laterOf sheet row = howManyBelow 64 (sheetFlag sheet row)
 
 -- 44: a row that isn't there
 unfoldable pub pairFault : Companions → ℕ → ℕ → ℕ
@@ -36,7 +36,7 @@ pairCase zero may = P.Answer may
 pairCase (suc f) may = P.Refused (suc f)
 
 abbrev pub laterCase : ℕ → ℕ → Later
-laterCase zero n = L.Number n
+laterCase zero n = L.Count n
 laterCase (suc f) n = L.Refused (suc f)
 
 unfoldable pub pairOf : Companions → ℕ → ℕ → Paired
@@ -55,9 +55,9 @@ pairYes (P.Answer may) = cond may 1 0
 pairYes (P.Refused n) = 0
 
 abbrev pub laterNumber : Later → ℕ
-laterNumber (L.Number k) = 0
+laterNumber (L.Count k) = 0
 laterNumber (L.Refused n) = n
 
 abbrev pub laterCount : Later → ℕ
-laterCount (L.Number k) = k
+laterCount (L.Count k) = k
 laterCount (L.Refused n) = 0

@@ -6,7 +6,7 @@ use mathlib.Core.Bool.{false, not, _&&_}
 use mathlib.Core.List.{List}
 use lib.Dec.{ltb}
 use lib.ListN.{length, take, replicate}
-use Rattle.companions.specs.Companions.{Companions, lentOf, rowsOverlap, entryOf, sheetOf, notItsSheet}
+use Rattle.companions.specs.Companions.{Companions, lentOf, rowsOverlap, sheetFlag, sheetOf, notItsSheet}
 use Rattle.companions.specs.Changes.{addFault, removeFault, addedTo, takenFrom}
 use Rattle.companions.specs.Questions.{togetherOf, howManyBelow, laterOf}
 
@@ -27,10 +27,12 @@ pub record CompanionsKept : Type 0 where
   pub taken : (c : Companions) → Places c → removeFault c ≡ 0 → Sound (takenFrom c)
   -- adding changes earlier rows' sets by the new row only
   pub new-row-only : (c : Companions) (start end : ℕ) → addFault c start end ≡ 0 → (r s : ℕ) → r < 64 → s < 64 → s ≢ c .rows
-      → entryOf (addedTo c start end .sheet) r s ≡ entryOf (c .sheet) r s
+      → sheetFlag (addedTo c start end .sheet) r s ≡ sheetFlag (c .sheet) r s
   -- taking away what was added gives the sheet before, and the number of rows
   pub back : (c : Companions) (start end : ℕ) → addFault c start end ≡ 0
       → (takenFrom (addedTo c start end) .sheet ≡ c .sheet) × (takenFrom (addedTo c start end) .rows ≡ c .rows)
+  -- and that is never refused
+  pub taken-again : (c : Companions) (start end : ℕ) → Places c → addFault c start end ≡ 0 → removeFault (addedTo c start end) ≡ 0
   -- two rows may stand together where they do not overlap, in either order; a row with itself is a no
   pub in-either-order : (c : Companions) (a b : ℕ) → togetherOf (c .sheet) a b ≡ togetherOf (c .sheet) b a
   pub itself : (c : Companions) → Sound c → (a : ℕ) → a < c .rows → togetherOf (c .sheet) a a ≡ false

@@ -28,7 +28,7 @@ pub enum Paired {
 
 // How many later companions a row has, or the refusal's number.
 pub enum Later {
-    Number(u32),
+    Count(u32),
     Refused(u32),
 }
 
@@ -164,5 +164,5 @@ pub fn count(
     if row >= rows {
         return Later::Refused(MISSING_ROW);
     }
-    Later::Number(count_flags(sheet, row as usize))
+    Later::Count(count_flags(sheet, row as usize))
 }

@@ -27,7 +27,7 @@ lay-last-requires : tie.Need-lay-last-requires
 lay-last-requires c κs =
     let passed = c .before .before .before in
     let e = passed .before .add-fault .ensures in
-    (add-room _ _ _ _ _ _ e (passed .if1 .left), add-ready _ _ _ _ _ _ e (passed .if1 .left))
+    (add-room _ _ _ _ _ _ e (passed .if1 .left), add-ready _ _ _ _ _ _ e (passed .if1 .left) _ _)
 
 add-rows : tie.Need-add-rows
 add-rows c =

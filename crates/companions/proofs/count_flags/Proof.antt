@@ -3,14 +3,14 @@ use mathlib.Core.Path.{_≡_, refl}
 use Prim.Native.Nat.{_-_, _≤_}
 use native.Mathlib.Omega.{arith}
 use borrow.Author.Needs.{needs}
-use Rattle.companions.specs.Companions.{entryOf}
+use Rattle.companions.specs.Companions.{sheetFlag}
 use Rattle.companions.specs.Questions.{howManyBelow, laterOf}
 use Rattle.companions.proofs.CountLaws.{count-on}
 use Rattle.companions.proofs.count_flags.Statement.{statement}
 use Rattle.companions.proofs.count_flags.Tie as tie
 
 abbrev Inv-loop : tie.InvT-loop
-Inv-loop sheet row n₀ s₀ n s = (s ≤ 64) × ((n ≤ s) × (n ≡ howManyBelow s (entryOf sheet row)))
+Inv-loop sheet row n₀ s₀ n s = (s ≤ 64) × ((n ≤ s) × (n ≡ howManyBelow s (sheetFlag sheet row)))
 
 abbrev μ-loop : tie.MeasureT-loop
 μ-loop sheet row n₀ s₀ n s = 64 - s

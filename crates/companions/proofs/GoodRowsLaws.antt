@@ -12,7 +12,7 @@ use Rattle.params.specs.Numbers.{firstOf, boundRules, startAfterEnd, fallingSta
 use Rattle.params.proofs.CheckLaws.{none-given, any-where}
 
 -- each of the first n rows passes 7, and each but the last 8 of the next
-pub record Rising (n : ℕ) (starts ends : List ℕ) : Type 0 where
+pub record GoodRows (n : ℕ) (starts ends : List ℕ) : Type 0 where
   pub seven : (r : ℕ) → r < n → getD starts r 0 ≤ getD ends r 0
   pub eight : (r : ℕ) → r + 1 < n → getD starts r 0 ≤ getD starts (r + 1) 0
 
@@ -28,7 +28,7 @@ module _ (n : ℕ) (starts ends : List ℕ) (room : n ≤ length starts) where
   at : (l : List ℕ) (r : ℕ) → r < n → getD (take n l) r 0 ≡ getD l r 0
   at l r h = getD-take n l r 0 h
 
-  pub bounds-told : firstOf (boundRules (take n starts) (take n ends)) ≡ 0 → Rising n starts ends
+  pub bounds-told : firstOf (boundRules (take n starts) (take n ends)) ≡ 0 → GoodRows n starts ends
   unfolding startAfterEnd fallingStart
   bounds-told z =
       let p = none-given (boundRules (take n starts) (take n ends)) refl z in
@@ -45,7 +45,7 @@ module _ (n : ℕ) (starts ends : List ℕ) (room : n ≤ length starts) where
             rw (at starts (r + 1) l, at starts r here) at h;
       }
 
-  pub bounds-made : Rising n starts ends → firstOf (boundRules (take n starts) (take n ends)) ≡ 0
+  pub bounds-made : GoodRows n starts ends → firstOf (boundRules (take n starts) (take n ends)) ≡ 0
   unfolding startAfterEnd fallingStart
   bounds-made p = rw (
     none-below (length (take n starts)) (λ r. ltb (getD (take n ends) r 0) (getD (take n starts) r 0)) (λ r l. pass7 r (rw long at l)),
@@ -61,16 +61,16 @@ module _ (n : ℕ) (starts ends : List ℕ) (room : n ≤ length starts) where
           let here : r < n = omega arith in
           rw (at starts (r + 1) next, at starts r here) (le-ltb (getD starts (r + 1) 0) (getD starts r 0) (p .eight r next))
 
-pub rising-less : (n : ℕ) (starts ends : List ℕ) → Rising n starts ends → Rising (n - 1) starts ends
-rising-less n starts ends p = record { seven = λ r l. p .seven r (omega arith); eight = λ r l. p .eight r (omega arith) }
+pub good-less : (n : ℕ) (starts ends : List ℕ) → GoodRows n starts ends → GoodRows (n - 1) starts ends
+good-less n starts ends p = record { seven = λ r l. p .seven r (omega arith); eight = λ r l. p .eight r (omega arith) }
 
 -- one row more, behind the last
-module _ (n : ℕ) (starts ends : List ℕ) (start end : ℕ) (p : Rising n starts ends) (room : n < length starts) (others : n < length ends) where
+module _ (n : ℕ) (starts ends : List ℕ) (start end : ℕ) (p : GoodRows n starts ends) (room : n < length starts) (others : n < length ends) where
   same : (l : List ℕ) (x r : ℕ) → r < n → getD (set l n x) r 0 ≡ getD l r 0
   same l x r h = getD-set-other l n r x 0 (λ q. omega arith)
 
-  pub rising-more : start ≤ end → (1 ≤ n → getD starts (n - 1) 0 ≤ start) → Rising (n + 1) (set starts n start) (set ends n end)
-  rising-more ahead behind = record { seven = λ r l. seven' r l (ltb r n) refl; eight = λ r l. eight' r l (ltb (r + 1) n) refl }
+  pub good-more : start ≤ end → (1 ≤ n → getD starts (n - 1) 0 ≤ start) → GoodRows (n + 1) (set starts n start) (set ends n end)
+  good-more ahead behind = record { seven = λ r l. seven' r l (ltb r n) refl; eight = λ r l. eight' r l (ltb (r + 1) n) refl }
     where
       seven' : (r : ℕ) → r < n + 1 → (b : Bool) → ltb r n ≡ b → getD (set starts n start) r 0 ≤ getD (set ends n end) r 0
       seven' r l true e = let h = ltb-true r n e in rw (same starts start r h, same ends end r h) (p .seven r h)
