@@ -4,8 +4,8 @@
  * and that what is written overlaps nothing else that is lent. An empty slice still needs a pointer
  * that is not null.
  * Each but nd_answer, which returns a length, returns 0 or the number of a refusal. On a refusal
- * every lent buffer is as it was, but for *place, *count, the report of one search, the counts and
- * *written, which are then 0.
+ * every lent buffer is as it was, but for *place, *count, *yes, the report of one search, the counts
+ * and *written, which are then 0.
  *
  * What a call promises is proved of the Rattle source; tools/prototypes holds this header to it.
  */
@@ -227,10 +227,10 @@ uint32_t nd_write_bed(const uint8_t *name, size_t name_len, const uint64_t *star
                       uint64_t *written);
 
 /* A companions sheet: beside a table of up to 64 rows, for every row the later rows that it does not
- * overlap. So many starts and ends are lent, and so many flags; that of row r and a later row s
- * stands at 64 r + s. A table of no rows has a sheet of no flags: begin with all of them false and
- * rows 0. Each call refuses first by 49 (a sheet that isn't its table's, or a table that breaks 5 to
- * 8); nothing is changed on a refusal. */
+ * overlap. ND_COMPANION_ROWS starts and ends are lent, and ND_COMPANION_FLAGS flags; that of row r
+ * and a later row s stands at 64 r + s. A table of no rows has a sheet of no flags: begin with all of
+ * them false and rows 0. Each call refuses first by 49 (a sheet that isn't its table's, or a table
+ * that breaks 5 to 8); table and sheet are unchanged on a refusal. */
 enum { ND_COMPANION_ROWS = 64, ND_COMPANION_FLAGS = 4096 };
 
 /* Adds a row at the end. Refuses by 49, 5 (a sixty-fifth row), 7, 8. */

@@ -21,6 +21,7 @@ from ._settings import Settings
 from ._table import Haplotype, Table
 
 __all__ = [
-    "Answer", "Bed", "Companions", "Haplotype", "Refused", "Settings", "Table", "answer", "apply_haplotype", "apply_haplotypes", "count_chains", "read_bed", "seq_to_kmer", "seqsim", "sizesim", "write_bed",
+    "Answer", "Bed", "Companions", "Haplotype", "Refused", "Settings", "Table", "answer", "apply_haplotype", "apply_haplotypes",
+    "count_chains", "read_bed", "seq_to_kmer", "seqsim", "sizesim", "write_bed",
 ]
 __version__ = "0.1.0"

@@ -1,4 +1,4 @@
-// Words for C and Rust: the settings of a search as thirteen of them, and the length of a text as one.
+// Words for C and Rust: the settings of a search as thirteen of them, a flag as one, and the length of a text as one.
 ghost use mathlib.Core.Path.{_≡_};
 ghost use mathlib.Core.Bool.{cond};
 ghost use Prim.Native.Nat.{_≤_};
