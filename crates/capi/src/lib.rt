@@ -303,7 +303,7 @@ pub extern "C" fn nd_companions_count(
             ACCEPTED
         }
         Later::Refused(n) => {
-            *count = 0;
+            *count = 0u32;
             n
         }
     }
