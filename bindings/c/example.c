@@ -192,6 +192,31 @@ static void bed(void)
     expect("its counts", counts[0] == 0 && counts[1] == 0, 1);
 }
 
+/* Rows 0 to 10, 5 to 5 inside it, and 10 to 12, which only touches it. */
+static void companions(void)
+{
+    uint64_t starts[ND_COMPANION_ROWS] = {0}, ends[ND_COMPANION_ROWS] = {0};
+    bool sheet[ND_COMPANION_FLAGS] = {false};
+    uint32_t rows = 0, answer = MARK;
+    expect("a first row", nd_companions_add(starts, ends, sheet, &rows, 0, 10), ND_ACCEPTED);
+    expect("a row inside it", nd_companions_add(starts, ends, sheet, &rows, 5, 5), ND_ACCEPTED);
+    expect("a row behind it", nd_companions_add(starts, ends, sheet, &rows, 10, 12), ND_ACCEPTED);
+    expect("a falling start", nd_companions_add(starts, ends, sheet, &rows, 9, 12), ND_REFUSED_FALLING_START);
+    expect("their flags", !sheet[1] && sheet[2] && sheet[64 + 2], 1);
+    expect("the last and the first", nd_companions_together(starts, ends, sheet, rows, 2, 0, &answer), ND_ACCEPTED);
+    expect("a yes", answer, 1);
+    expect("a row with itself", nd_companions_together(starts, ends, sheet, rows, 1, 1, &answer), ND_ACCEPTED);
+    expect("a no", answer, 0);
+    expect("later companions", nd_companions_count(starts, ends, sheet, rows, 0, &answer), ND_ACCEPTED);
+    expect("of the first row", answer, 1);
+    expect("a fourth row", nd_companions_count(starts, ends, sheet, rows, 3, &answer), ND_REFUSED_MISSING_ROW);
+    sheet[ND_COMPANION_FLAGS - 1] = true;
+    expect("a sheet that isn't its table's", nd_companions_remove(starts, ends, sheet, &rows), ND_REFUSED_NOT_ITS_SHEET);
+    sheet[ND_COMPANION_FLAGS - 1] = false;
+    expect("the last taken away", nd_companions_remove(starts, ends, sheet, &rows), ND_ACCEPTED);
+    expect("what is left", rows == 2 && !sheet[2] && !sheet[64 + 2] && starts[2] == 10, 1);
+}
+
 static void similarities(void)
 {
     float value = 2;
@@ -217,6 +242,7 @@ int main(void)
     two_haplotypes();
     program_text();
     bed();
+    companions();
     similarities();
     puts(failed ? "the " LANGUAGE " binding differs" : "the " LANGUAGE " binding agrees");
     return failed;

@@ -4,8 +4,8 @@
  * and that what is written overlaps nothing else that is lent. An empty slice still needs a pointer
  * that is not null.
  * Each but nd_answer, which returns a length, returns 0 or the number of a refusal. On a refusal
- * every lent buffer is as it was, but for *place, *count, the report of one search, the counts and
- * *written, which are then 0.
+ * every lent buffer is as it was, but for *place, *count, *yes, the report of one search, the counts
+ * and *written, which are then 0.
  *
  * What a call promises is proved of the Rattle source; tools/prototypes holds this header to it.
  */
@@ -22,7 +22,7 @@ extern "C" {
 
 /* The refusals, each with the table's words. 1 to 14, 16 and 27 are returned, and some of them stand in
  * nd_answer's text too; 20 to 26 stand there alone; 30 is the Rattle reader's and writer's; 40 to
- * 44 are BED's.
+ * 44 are BED's; 44 and 49 the companions sheet's.
  * Made from docs/refusals.tsv by tools/refusals --write. */
 enum nd_refusal {
     ND_ACCEPTED = 0,
@@ -55,6 +55,7 @@ enum nd_refusal {
     ND_REFUSED_TOO_MANY_LINES = 42, /* a sixty-fifth line of BED */
     ND_REFUSED_LITTLE_TEXT_ROOM = 43, /* too little room for BED text */
     ND_REFUSED_MISSING_ROW = 44, /* a row that isn't there */
+    ND_REFUSED_NOT_ITS_SHEET = 49, /* a sheet that isn't its table's, or a table that breaks 5 to 8 */
 };
 
 /* The table's words for a refusal's number, for a message. */
@@ -91,6 +92,7 @@ static inline const char *nd_refusal_text(uint32_t number)
     case ND_REFUSED_TOO_MANY_LINES: return "a sixty-fifth line of BED";
     case ND_REFUSED_LITTLE_TEXT_ROOM: return "too little room for BED text";
     case ND_REFUSED_MISSING_ROW: return "a row that isn't there";
+    case ND_REFUSED_NOT_ITS_SHEET: return "a sheet that isn't its table's, or a table that breaks 5 to 8";
     default: return "not in the table of refusals";
     }
 }
@@ -226,6 +228,36 @@ uint32_t nd_write_bed(const uint8_t *name, size_t name_len, const uint64_t *star
                       size_t starts_len, const uint64_t *ends, size_t ends_len,
                       const uint32_t *rows, size_t rows_len, uint8_t *text, size_t text_len,
                       uint64_t *written);
+
+/* A companions sheet: beside a table of up to 64 rows, for every row the later rows that it does not
+ * overlap. ND_COMPANION_ROWS starts and ends are lent, and ND_COMPANION_FLAGS flags; that of row r
+ * and a later row s stands at 64 r + s. A table of no rows has a sheet of no flags: begin with all of
+ * them false and rows 0. Each call refuses first by 49 (a sheet that isn't its table's, or a table
+ * that breaks 5 to 8); table and sheet are unchanged on a refusal. */
+enum { ND_COMPANION_ROWS = 64, ND_COMPANION_FLAGS = 4096 };
+
+/* Adds a row at the end. Refuses by 49, 5 (a sixty-fifth row), 7, 8. */
+uint32_t nd_companions_add(uint64_t starts[ND_COMPANION_ROWS], uint64_t ends[ND_COMPANION_ROWS],
+                           bool sheet[ND_COMPANION_FLAGS], uint32_t *rows, uint64_t start,
+                           uint64_t end);
+
+/* Takes the last row away; starts and ends stay as they lie. Refuses by 49, 44 (there is no row). */
+uint32_t nd_companions_remove(const uint64_t starts[ND_COMPANION_ROWS],
+                              const uint64_t ends[ND_COMPANION_ROWS],
+                              bool sheet[ND_COMPANION_FLAGS], uint32_t *rows);
+
+/* May rows a and b stand together, in either order? *yes is 1 or 0, and 0 for a row with itself.
+ * Refuses by 49, 44 (a row that isn't there), with *yes 0. */
+uint32_t nd_companions_together(const uint64_t starts[ND_COMPANION_ROWS],
+                                const uint64_t ends[ND_COMPANION_ROWS],
+                                const bool sheet[ND_COMPANION_FLAGS], uint32_t rows, uint32_t a,
+                                uint32_t b, uint32_t *yes);
+
+/* How many later companions has a row? Refuses by 49, 44 (a row that isn't there), with *count 0. */
+uint32_t nd_companions_count(const uint64_t starts[ND_COMPANION_ROWS],
+                             const uint64_t ends[ND_COMPANION_ROWS],
+                             const bool sheet[ND_COMPANION_FLAGS], uint32_t rows, uint32_t row,
+                             uint32_t *count);
 
 #ifdef __cplusplus
 }

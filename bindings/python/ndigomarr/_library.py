@@ -3,7 +3,7 @@ import ctypes
 import os
 import pathlib
 from dataclasses import dataclass
-from typing import List, Union
+from typing import Iterable, List, Tuple, Union
 
 from ._exports import declare
 from ._lent import Numbers, array, letters, word
@@ -138,6 +138,50 @@ def write_bed(bed: Bed, rows: Numbers) -> bytes:
     given = named, len(named), starts, len(starts), ends, len(ends), chosen, len(chosen)
     accepted(LIBRARY.nd_write_bed(*given, text, len(text), ctypes.byref(written)))
     return bytes(text[:written.value])
+
+
+class Companions:
+    """Which variants can go together: a table of up to 64 rows, and for every row the later rows that it does not overlap.
+
+    It begins empty and changes only by `add` and `remove`, so its sheet is always its table's, and 49 is never given.
+
+    >>> companions = Companions([(0, 10), (5, 5), (10, 12)])
+    >>> companions.together(1, 0), companions.together(0, 2), companions.count(0)
+    (False, True, 1)
+    """
+
+    def __init__(self, rows: Iterable[Tuple[int, int]] = ()):
+        self._starts, self._ends = (ctypes.c_uint64 * 64)(), (ctypes.c_uint64 * 64)()
+        self._sheet, self._rows = (ctypes.c_bool * 4096)(), ctypes.c_uint32()
+        for start, end in rows:
+            self.add(start, end)
+
+    def __len__(self) -> int:
+        return self._rows.value
+
+    def __repr__(self) -> str:
+        return f"Companions({list(zip(self._starts[:len(self)], self._ends[:len(self)]))})"
+
+    def add(self, start: int, end: int) -> None:
+        """Adds a row at the end. Refused by 5, 7 and 8; nothing is changed then."""
+        bounds = array([start, end], ctypes.c_uint64)
+        accepted(LIBRARY.nd_companions_add(self._starts, self._ends, self._sheet, ctypes.byref(self._rows), bounds[0], bounds[1]))
+
+    def remove(self) -> None:
+        """Takes the last row away. Refused by 44 where there is none."""
+        accepted(LIBRARY.nd_companions_remove(self._starts, self._ends, self._sheet, ctypes.byref(self._rows)))
+
+    def together(self, a: int, b: int) -> bool:
+        """May these two rows stand together, in either order? A row with itself is a no. Refused by 44."""
+        yes = ctypes.c_uint32()
+        accepted(LIBRARY.nd_companions_together(self._starts, self._ends, self._sheet, self._rows, word(a), word(b), ctypes.byref(yes)))
+        return yes.value == 1
+
+    def count(self, row: int) -> int:
+        """How many later companions a row has. Refused by 44."""
+        count = ctypes.c_uint32()
+        accepted(LIBRARY.nd_companions_count(self._starts, self._ends, self._sheet, self._rows, word(row), ctypes.byref(count)))
+        return count.value
 
 
 def answer(job: bytes) -> str:

@@ -31,4 +31,5 @@ TABLE: Dict[int, Tuple[str, str]] = {
     42: ("TOO_MANY_LINES", "a sixty-fifth line of BED"),
     43: ("LITTLE_TEXT_ROOM", "too little room for BED text"),
     44: ("MISSING_ROW", "a row that isn't there"),
+    49: ("NOT_ITS_SHEET", "a sheet that isn't its table's, or a table that breaks 5 to 8"),
 }

@@ -1,5 +1,6 @@
 """The module over the proved library: the worked example, lists and numpy arrays, every refusal's words, and numbers that no type holds."""
 import doctest
+import itertools
 import pathlib
 import pickle
 from fractions import Fraction
@@ -209,6 +210,30 @@ def test_bed_there_and_back():
     assert told.value.number == 44
 
 
+def refused(call, *given):
+    with pytest.raises(Refused) as told:
+        call(*given)
+    return told.value.number
+
+
+def test_companions():
+    rows = [(0, 10), (5, 5), (10, 12), (10, 10), (11, 20)]
+    companions = ndigomarr.Companions(rows)
+    # a point at an end does not overlap, one strictly inside does
+    apart = {(0, 2), (0, 3), (0, 4), (1, 2), (1, 3), (1, 4), (2, 3), (3, 4)}
+    for a, b in itertools.product(range(5), repeat=2):
+        assert companions.together(a, b) == (tuple(sorted((a, b))) in apart)
+    assert [companions.count(row) for row in range(5)] == [3, 3, 1, 1, 0]
+    assert (refused(companions.add, 10, 11), refused(companions.add, 12, 11), refused(companions.count, 5), refused(companions.together, 0, 5)) == (8, 7, 44, 44)
+    assert (len(companions), repr(companions)) == (5, f"Companions({rows})")
+    companions.remove()
+    assert [companions.count(row) for row in range(4)] == [2, 2, 1, 0]
+    for row in range(60):
+        companions.add(20 + row, 20 + row)
+    assert (refused(companions.add, 99, 99), companions.count(0)) == (5, 62)
+    assert refused(ndigomarr.Companions().remove) == 44
+
+
 def test_letters_outside_ascii_are_told():
     with pytest.raises(UnicodeEncodeError):
         ndigomarr.seq_to_kmer("AÄ", 1)
@@ -218,6 +243,8 @@ def test_what_the_pages_show():
     for module in (ndigomarr, _library):
         result = doctest.testmod(module)
         assert result.attempted and not result.failed
+    told = doctest.testfile(str(ROOT / "docs/FIRST-WEEK.md"), module_relative=False, encoding="utf-8")
+    assert told.attempted and not told.failed
     text = (ROOT / "bindings/python/README.md").read_text(encoding="utf-8")
     shown = text.split("```python\n")[1].split("```")[0]
     place = {}

@@ -33,6 +33,7 @@
 struct Readme;
 
 mod bed;
+mod companions;
 mod raw;
 mod refusal;
 mod refusals;
@@ -40,6 +41,7 @@ mod settings;
 mod table;
 
 pub use bed::Bed;
+pub use companions::Companions;
 pub use refusals::Refusal;
 pub use settings::Settings;
 pub use table::{Haplotype, Table};

@@ -35,6 +35,32 @@ mod archive {
             text_len: usize,
             written: *mut u64,
         ) -> u32;
+        pub fn nd_companions_add(
+            starts: *mut [u64; 64],
+            ends: *mut [u64; 64],
+            sheet: *mut [bool; 4096],
+            rows: *mut u32,
+            start: u64,
+            end: u64,
+        ) -> u32;
+        pub fn nd_companions_remove(starts: *const [u64; 64], ends: *const [u64; 64], sheet: *mut [bool; 4096], rows: *mut u32) -> u32;
+        pub fn nd_companions_together(
+            starts: *const [u64; 64],
+            ends: *const [u64; 64],
+            sheet: *const [bool; 4096],
+            rows: u32,
+            a: u32,
+            b: u32,
+            yes: *mut u32,
+        ) -> u32;
+        pub fn nd_companions_count(
+            starts: *const [u64; 64],
+            ends: *const [u64; 64],
+            sheet: *const [bool; 4096],
+            rows: u32,
+            row: u32,
+            count: *mut u32,
+        ) -> u32;
         pub fn nd_apply_haplotype(
             settings: *const [u32; 13],
             starts: *const u64,
@@ -145,6 +171,33 @@ pub fn write_bed(name: &[u8], starts: &[u64], ends: &[u64], rows: &[u32], text: 
             text.len(),
             written,
         )
+    }
+}
+
+/// A table of up to 64 rows and its companions sheet, as they are lent.
+#[derive(Clone, PartialEq, Eq)]
+pub struct Sheet {
+    pub starts: [u64; 64],
+    pub ends: [u64; 64],
+    pub flags: [bool; 4096],
+    pub rows: u32,
+}
+
+impl Sheet {
+    pub fn add(&mut self, start: u64, end: u64) -> u32 {
+        unsafe { archive::nd_companions_add(&mut self.starts, &mut self.ends, &mut self.flags, &mut self.rows, start, end) }
+    }
+
+    pub fn remove(&mut self) -> u32 {
+        unsafe { archive::nd_companions_remove(&self.starts, &self.ends, &mut self.flags, &mut self.rows) }
+    }
+
+    pub fn together(&self, a: u32, b: u32, yes: &mut u32) -> u32 {
+        unsafe { archive::nd_companions_together(&self.starts, &self.ends, &self.flags, self.rows, a, b, yes) }
+    }
+
+    pub fn count(&self, row: u32, count: &mut u32) -> u32 {
+        unsafe { archive::nd_companions_count(&self.starts, &self.ends, &self.flags, self.rows, row, count) }
     }
 }
 

@@ -62,12 +62,14 @@ pub enum Refusal {
     LittleTextRoom,
     /// 44: a row that isn't there
     MissingRow,
+    /// 49: a sheet that isn't its table's, or a table that breaks 5 to 8
+    NotItsSheet,
     /// A number that this table has not: the library that is linked is of another edition than this crate.
     Other(u32),
 }
 
 /// Number, case and words of each.
-pub(crate) const TABLE: [(u32, Refusal, &str); 29] = [
+pub(crate) const TABLE: [(u32, Refusal, &str); 30] = [
     (1, Refusal::BadK, "k not 1 to 6"),
     (2, Refusal::BadFloat, "a float setting is NaN or outside its range"),
     (3, Refusal::BadNumber, "a whole-number setting over its limit"),
@@ -97,4 +99,5 @@ pub(crate) const TABLE: [(u32, Refusal, &str); 29] = [
     (42, Refusal::TooManyLines, "a sixty-fifth line of BED"),
     (43, Refusal::LittleTextRoom, "too little room for BED text"),
     (44, Refusal::MissingRow, "a row that isn't there"),
+    (49, Refusal::NotItsSheet, "a sheet that isn't its table's, or a table that breaks 5 to 8"),
 ];

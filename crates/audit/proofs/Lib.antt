@@ -11,4 +11,5 @@ pub mod PartOrderLaws
 pub mod AnchorsLaws
 pub mod EdgesLaws
 pub mod NoAnchorLaws
+pub mod CompanionsTogetherLaws
 pub mod UniqueLaws

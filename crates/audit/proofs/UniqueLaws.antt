@@ -7,6 +7,7 @@ use Rattle.metrics.specs.Letters.{countsOf, rowAfter}
 use Rattle.form.specs.Job.{jobBytes}
 use Rattle.writer.specs.Writing.{jobFrom, outAfter}
 use Rattle.text.specs.Written.{Written}
+use Rattle.companions.specs.Companions.{Companions, lentOf}
 use Rattle.audit.specs.Unique.{Agree, Filled, Unique}
 
 one : {A : Type 0} {z : A} (x y : A) → x ≡ z → y ≡ z → x ≡ y
@@ -63,6 +64,11 @@ filled x y u v p q =
     let n = p .1 .1 .1 ∙ sym (q .1 .1 .1) in
     ((λ i. record { starts = s i; ends = e i; name = n i }), p .0 ∙ sym (q .0))
 
+-- a table's sheet and number of rows, by an equation of the whole
+removed : {starts ends : List ℕ} {c : Companions} {n : ℕ} (x y : List Bool × ℕ) (u v : ℕ)
+    → (u ≡ n) × (lentOf starts ends (x .0) (x .1) ≡ c) → (v ≡ n) × (lentOf starts ends (y .0) (y .1) ≡ c) → (x ≡ y) × (u ≡ v)
+removed x y u v p q = (ap (λ (c : Companions). (c .sheet, c .rows)) (p .1 ∙ sym (q .1)), p .0 ∙ sym (q .0))
+
 pub unique : Unique
 unique = record {
   sizesim = λ a b. one;
@@ -115,6 +121,10 @@ unique = record {
   put-answer = λ out at rows records a. stored;
   read-bed = λ text starts ends name. filled;
   write-bed = λ name starts ends rows text. two;
+  add = λ starts ends sheet rows start end. two;
+  remove = λ starts ends sheet rows. removed;
+  together = λ starts ends sheet rows a b. one;
+  count = λ starts ends sheet rows row. one;
   answer = λ input out. two;
   nd-seq-to-kmer = λ letters k negative row. two;
   nd-seqsim = λ a b minkfreq place. two;
@@ -127,4 +137,8 @@ unique = record {
       agree x y (recorded-both (x .says) p) (recorded-both (y .says) q);
   nd-read-bed = λ text starts ends name counts x y u v p q. filled x y u v (both u p) (both v q);
   nd-write-bed = λ name starts ends rows text written x y u v p q. two x y u v (both u p) (both v q);
+  nd-companions-add = λ starts ends sheet rows start end. two;
+  nd-companions-remove = λ starts ends sheet rows. removed;
+  nd-companions-together = λ starts ends sheet rows a b word. two;
+  nd-companions-count = λ starts ends sheet rows row count. two;
 }

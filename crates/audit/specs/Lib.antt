@@ -10,4 +10,5 @@ pub mod PartOrder
 pub mod Anchors
 pub mod Edges
 pub mod NoAnchor
+pub mod CompanionsTogether
 pub mod Unique

@@ -35,10 +35,15 @@ use Rattle.text.specs.Promises.{PutBytesPromise, PutDigitsPromise, PutRefusedPr
 use Rattle.bed.specs.declared.BedRead.{BedRead}
 use Rattle.bed.specs.declared.BedWritten.{BedWritten}
 use Rattle.bed.specs.Promises.{ReadBedPromise, WriteBedPromise}
+use Rattle.companions.specs.Companions.{Companions}
+use Rattle.companions.specs.declared.Paired.{Paired}
+use Rattle.companions.specs.declared.Later.{Later}
+use Rattle.companions.specs.Promises.{AddPromise, RemovePromise, TogetherPromise, CountPromise}
 use Rattle.desk.specs.Promises.{AnswerPromise}
 use Rattle.capi.specs.Words.{settingsOfWords}
 use Rattle.capi.specs.Promises.{NdSeqToKmerPromise, NdSeqsimPromise, NdSizesimPromise, NdCountChainsPromise, NdAnswerPromise, NdApplyHaplotypePromise, NdApplyHaplotypesPromise}
 use Rattle.capi.specs.Promises.{NdReadBedPromise, NdWriteBedPromise}
+use Rattle.capi.specs.Promises.{NdCompanionsAddPromise, NdCompanionsRemovePromise, NdCompanionsTogetherPromise, NdCompanionsCountPromise}
 
 -- at most one result meets a promise of a value, and at most one pair a promise of what a slice holds at exit and a value
 abbrev pub One : (A : Type 0) → (A → Type 0) → Type 0
@@ -138,6 +143,11 @@ pub record Unique : Type 0 where
   pub put-answer : (out : List ℕ) (at : ℕ) (rows records : List ℕ) (a : Answer) → Two (List ℕ) ℕ (PutAnswerPromise out at rows records a)
   pub read-bed : (text starts ends name : List ℕ) → Two Filled BedRead (λ x. ReadBedPromise text starts ends name (x .starts) (x .ends) (x .name))
   pub write-bed : (name starts ends rows text : List ℕ) → Two (List ℕ) BedWritten (WriteBedPromise name starts ends rows text)
+  pub add : (starts ends : List ℕ) (sheet : List Bool) (rows start end : ℕ)
+      → Two Companions ℕ (λ x. AddPromise starts ends sheet rows start end (x .starts) (x .ends) (x .sheet) (x .rows))
+  pub remove : (starts ends : List ℕ) (sheet : List Bool) (rows : ℕ) → Two (List Bool × ℕ) ℕ (λ x. RemovePromise starts ends sheet rows (x .0) (x .1))
+  pub together : (starts ends : List ℕ) (sheet : List Bool) (rows a b : ℕ) → One Paired (TogetherPromise starts ends sheet rows a b)
+  pub count : (starts ends : List ℕ) (sheet : List Bool) (rows row : ℕ) → One Later (CountPromise starts ends sheet rows row)
   pub answer : (input out : List ℕ) → Two (List ℕ) ℕ (AnswerPromise input out)
   pub nd-seq-to-kmer : (letters : List ℕ) (k : ℕ) (negative : Bool) (row : List ℤ) → Two (List ℤ) ℕ (NdSeqToKmerPromise letters k negative row)
   pub nd-seqsim : (a b : List ℤ) (minkfreq : ℕ) (place : Float) → Two Float ℕ (NdSeqsimPromise a b minkfreq place)
@@ -158,3 +168,8 @@ pub record Unique : Type 0 where
       (λ x u. NdReadBedPromise text starts ends name counts (x .starts) (x .ends) (x .name) (u .0) (u .1))
   pub nd-write-bed : (name starts ends rows text : List ℕ) (written : ℕ) → Two (List ℕ) (ℕ × ℕ)
       (λ x u. NdWriteBedPromise name starts ends rows text written x (u .0) (u .1))
+  pub nd-companions-add : (starts ends : List ℕ) (sheet : List Bool) (rows start end : ℕ)
+      → Two Companions ℕ (λ x. NdCompanionsAddPromise starts ends sheet rows start end (x .starts) (x .ends) (x .sheet) (x .rows))
+  pub nd-companions-remove : (starts ends : List ℕ) (sheet : List Bool) (rows : ℕ) → Two (List Bool × ℕ) ℕ (λ x. NdCompanionsRemovePromise starts ends sheet rows (x .0) (x .1))
+  pub nd-companions-together : (starts ends : List ℕ) (sheet : List Bool) (rows a b word : ℕ) → Two ℕ ℕ (NdCompanionsTogetherPromise starts ends sheet rows a b word)
+  pub nd-companions-count : (starts ends : List ℕ) (sheet : List Bool) (rows row count : ℕ) → Two ℕ ℕ (NdCompanionsCountPromise starts ends sheet rows row count)

@@ -11,8 +11,9 @@ use lib.ListN.{length, take, drop, set, length-drop, length-set, drop-of-length-
 use lib.Seq.{drop-drop, take-all, take-suc-set, append-snoc}
 use borrow.Author.Tests.{le-leb, lt-leb, lt-ltb, le-ltb, eq-eqb, ne-eqb}
 use Rattle.metrics.specs.Placed.{placed}
-use Rattle.params.specs.Numbers.{firstOf, boundRules, startAfterEnd, fallingStart, anyBelow, chainCountFault}
+use Rattle.params.specs.Numbers.{firstOf, boundRules}
 use Rattle.params.proofs.CheckLaws.{given, passed, numbered, Passed, none-given, stops, goes-on}
+use Rattle.params.proofs.BoundLaws.{no-bounds}
 use Rattle.bed.specs.Bed.{tab, newline}
 use Rattle.bed.specs.Reading.{sameBytes, linesOf, upTo, behindFirst, nameIn, startIn, endIn, goodLine, lineRules, linesFrom, textRules, startsIn, endsIn, readFault, readAnswer, unlessRefused}
 use Rattle.bed.specs.Steps.{firstLine, Rows, Scanned, Checked}
@@ -174,15 +175,6 @@ lines-numbered name i (line ∷ lines) = lines-numbered name (suc i) lines
 pub text-passed : (text : List ℕ) → firstOf (textRules text) ≡ 0 → Passed (textRules text)
 unfolding textRules
 text-passed text z = none-given (linesFrom (nameIn text) 0 (linesOf text)) (lines-numbered (nameIn text) 0 (linesOf text)) z
-
-no-bounds : (starts ends : List ℕ) → starts ≡ [] → 0 ≡ firstOf (boundRules starts ends)
-unfolding startAfterEnd fallingStart anyBelow
-no-bounds starts ends e = rw e
-
-pub count-bounds : (starts ends : List ℕ) → 1 ≤ length starts → length starts ≤ 64 → length ends ≡ length starts
-    → chainCountFault 0 starts ends ≡ firstOf (boundRules starts ends)
-unfolding chainCountFault
-count-bounds starts ends l h e = rw (ne-eqb (length starts) 0 (λ z. omega arith), le-ltb 64 (length starts) h, eq-eqb (length ends) (length starts) e)
 
 module _ {text s e : List ℕ} {found : Found} (w : Scanned text s e found) where
   pub check-stopped : (found .fault ≡ 0 → ⊥) → Checked text s e found

@@ -17,6 +17,9 @@ use Rattle.dive.specs.Promises.{numberedLent, NumberedQueueKept, ApplyNumberedH
 use Rattle.desk.specs.Desk.{deskText}
 use Rattle.bed.specs.Reading.{nameIn, startsIn, endsIn, readFault, readAnswer, readNumber, readCounts, unlessRefused}
 use Rattle.bed.specs.Writing.{rowsText, writeFault, writeAnswer, writtenNumber, writtenBytes}
+use Rattle.companions.specs.Companions.{lentOf}
+use Rattle.companions.specs.Questions.{pairOf, laterIn, pairNumber, pairYes, laterNumber, laterCount}
+use Rattle.companions.specs.Promises.{AddPromise, RemovePromise}
 use Rattle.capi.specs.Words.{settingsOfWords}
 
 abbrev pub NdSeqToKmerPromise : List ℕ → ℕ → Bool → List ℤ → List ℤ → ℕ → Type 0
@@ -67,3 +70,19 @@ NdWriteBedPromise name starts ends rows text written text' written' r =
     let fault = writeFault name starts ends rows (length text) in
     let all = rowsText name starts ends rows in
     (r ≡ writtenNumber (writeAnswer fault all)) × ((written' ≡ writtenBytes (writeAnswer fault all)) × (text' ≡ placed text (unlessRefused fault all)))
+
+abbrev pub NdCompanionsAddPromise : List ℕ → List ℕ → List Bool → ℕ → ℕ → ℕ → List ℕ → List ℕ → List Bool → ℕ → ℕ → Type 0
+NdCompanionsAddPromise starts ends sheet rows start end starts' ends' sheet' rows' r = AddPromise starts ends sheet rows start end starts' ends' sheet' rows' r
+
+abbrev pub NdCompanionsRemovePromise : List ℕ → List ℕ → List Bool → ℕ → List Bool → ℕ → ℕ → Type 0
+NdCompanionsRemovePromise starts ends sheet rows sheet' rows' r = RemovePromise starts ends sheet rows sheet' rows' r
+
+abbrev pub NdCompanionsTogetherPromise : List ℕ → List ℕ → List Bool → ℕ → ℕ → ℕ → ℕ → ℕ → ℕ → Type 0
+NdCompanionsTogetherPromise starts ends sheet rows a b word word' r =
+    let told = pairOf (lentOf starts ends sheet rows) a b in
+    (r ≡ pairNumber told) × (word' ≡ pairYes told)
+
+abbrev pub NdCompanionsCountPromise : List ℕ → List ℕ → List Bool → ℕ → ℕ → ℕ → ℕ → ℕ → Type 0
+NdCompanionsCountPromise starts ends sheet rows row count count' r =
+    let told = laterIn (lentOf starts ends sheet rows) row in
+    (r ≡ laterNumber told) × (count' ≡ laterCount told)

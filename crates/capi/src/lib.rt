@@ -1,10 +1,14 @@
 // What Rust and C link: the library's calls on numbers and slices. Each gives back the refusal's number, 0 for an accepted call.
 ghost use Rattle.capi.specs.Promises.{NdSeqToKmerPromise, NdSeqsimPromise, NdSizesimPromise, NdCountChainsPromise, NdAnswerPromise};
 ghost use Rattle.capi.specs.Promises.{NdApplyHaplotypePromise, NdApplyHaplotypesPromise, NdReadBedPromise, NdWriteBedPromise};
+ghost use Rattle.capi.specs.Promises.{NdCompanionsAddPromise, NdCompanionsRemovePromise, NdCompanionsTogetherPromise, NdCompanionsCountPromise};
 use crate::words::length_word;
 use crate::words::settings_of_words;
+use crate::words::word_of_flag;
 use bed::BedRead;
 use bed::BedWritten;
+use companions::Later;
+use companions::Paired;
 use kplib::report::put_report;
 use kplib::vargraph::ChainCount;
 use metrics::Sim;
@@ -220,6 +224,86 @@ pub extern "C" fn nd_write_bed(
         }
         BedWritten::Refused(n) => {
             *written = 0;
+            n
+        }
+    }
+}
+
+// A row at the end of a table, and the table's sheet with it.
+#[no_mangle]
+pub extern "C" fn nd_companions_add(
+    starts: &mut [u64; 64],
+    ends: &mut [u64; 64],
+    sheet: &mut [bool; 4096],
+    rows: &mut u32,
+    start: u64,
+    end: u64,
+) -> u32
+    ensures { λ r. ⌜ NdCompanionsAddPromise (now (starts .entry)) (now (ends .entry)) (now (sheet .entry)) (now (rows .entry)) start end
+        (now (starts .exit)) (now (ends .exit)) (now (sheet .exit)) (now (rows .exit)) r ⌝ }
+{
+    companions::add(starts, ends, sheet, rows, start, end)
+}
+
+// The last row taken away.
+#[no_mangle]
+pub extern "C" fn nd_companions_remove(
+    starts: &[u64; 64],
+    ends: &[u64; 64],
+    sheet: &mut [bool; 4096],
+    rows: &mut u32,
+) -> u32
+    ensures { λ r. ⌜ NdCompanionsRemovePromise (now (starts .entry)) (now (ends .entry)) (now (sheet .entry)) (now (rows .entry)) (now (sheet .exit)) (now (rows .exit)) r ⌝ }
+{
+    companions::remove(starts, ends, sheet, rows)
+}
+
+// Yes is 1, no is 0; 0 on a refusal.
+#[no_mangle]
+pub extern "C" fn nd_companions_together(
+    starts: &[u64; 64],
+    ends: &[u64; 64],
+    sheet: &[bool; 4096],
+    rows: u32,
+    a: u32,
+    b: u32,
+    yes: &mut u32,
+) -> u32
+    ensures { λ r. ⌜ NdCompanionsTogetherPromise (now (starts .entry)) (now (ends .entry)) (now (sheet .entry)) rows a b (now (yes .entry)) (now (yes .exit)) r ⌝ }
+{
+    let paired = companions::together(starts, ends, sheet, rows, a, b);
+    match paired {
+        Paired::Answer(may) => {
+            *yes = word_of_flag(may);
+            ACCEPTED
+        }
+        Paired::Refused(n) => {
+            *yes = 0;
+            n
+        }
+    }
+}
+
+// How many later companions a row has; 0 on a refusal.
+#[no_mangle]
+pub extern "C" fn nd_companions_count(
+    starts: &[u64; 64],
+    ends: &[u64; 64],
+    sheet: &[bool; 4096],
+    rows: u32,
+    row: u32,
+    count: &mut u32,
+) -> u32
+    ensures { λ r. ⌜ NdCompanionsCountPromise (now (starts .entry)) (now (ends .entry)) (now (sheet .entry)) rows row (now (count .entry)) (now (count .exit)) r ⌝ }
+{
+    let counted = companions::count(starts, ends, sheet, rows, row);
+    match counted {
+        Later::Count(n) => {
+            *count = n;
+            ACCEPTED
+        }
+        Later::Refused(n) => {
+            *count = 0u32;
             n
         }
     }

@@ -1,5 +1,6 @@
-// Words for C and Rust: the settings of a search as thirteen of them, and the length of a text as one.
+// Words for C and Rust: the settings of a search as thirteen of them, a flag as one, and the length of a text as one.
 ghost use mathlib.Core.Path.{_≡_};
+ghost use mathlib.Core.Bool.{cond};
 ghost use Prim.Native.Nat.{_≤_};
 ghost use lib.ListN.{length};
 ghost use Rattle.capi.specs.Words.{flagOfWord, settingsOfWords};
@@ -38,6 +39,13 @@ pub(crate) fn settings_of_words(words: &[u32; 13]) -> Settings
         fpenalty: float_of(words[11]),
         gpenalty: float_of(words[12]),
     }
+}
+
+// A yes as 1, a no as 0.
+pub(crate) fn word_of_flag(flag: bool) -> u32
+    ensures { λ r. ⌜ r ≡ cond flag 1 0 ⌝ }
+{
+    if flag { 1 } else { 0 }
 }
 
 // It fits, because the text stands in a buffer of this length.

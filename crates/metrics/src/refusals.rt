@@ -58,3 +58,5 @@ pub const TOO_MANY_LINES: u32 = 42;
 pub const LITTLE_TEXT_ROOM: u32 = 43;
 // a row that isn't there
 pub const MISSING_ROW: u32 = 44;
+// a sheet that isn't its table's, or a table that breaks 5 to 8
+pub const NOT_ITS_SHEET: u32 = 49;

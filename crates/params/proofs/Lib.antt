@@ -3,6 +3,7 @@ pub mod CheckLaws
 pub mod CheckedLaws
 mod CallLaws
 mod EmptyRowLaws
+pub mod BoundLaws
 pub mod TableOrderLaws
 pub mod EndLaws
 pub mod SeveralLaws

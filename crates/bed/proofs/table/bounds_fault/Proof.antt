@@ -2,7 +2,7 @@
 use mathlib.Core.Path.{sym, _∙_}
 use lib.ListN.{take}
 use lib.Seq.{length-take-le}
-use Rattle.bed.proofs.TableLaws.{count-bounds}
+use Rattle.params.proofs.BoundLaws.{count-bounds}
 use borrow.Author.Needs.{needs}
 use native.Mathlib.Omega.{arith}
 use denote.Ref.{now}
