@@ -14,7 +14,7 @@ use crate::work::{shown_name, Told};
 use ndigomarr::{Bed, Target};
 
 /// The sheet and what was noted while it was read; all its faults where it has any.
-fn read(data: &[u8], sort: bool) -> Result<(Sheet, Vec<String>), Failure> {
+pub fn read(data: &[u8], sort: bool) -> Result<(Sheet, Vec<String>), Failure> {
     let read = sorted(sheet::read(data), sort);
     if read.faults.is_empty() { Ok((read.sheet, read.notes)) } else { Err(Failure::Sheet { faults: read.faults, notes: read.notes }) }
 }

@@ -116,9 +116,9 @@ fn write(file: &str, told: &Told, sink: &Sink, several: bool) -> Result<(), (Str
 }
 
 /// Shows how far it is, on a terminal, once it has taken a second.
-fn watched<T>(count: usize, work: impl FnOnce(&ProgressBar) -> T) -> T {
+pub fn watched<T>(count: usize, template: &str, work: impl FnOnce(&ProgressBar) -> T) -> T {
     let bar = ProgressBar::with_draw_target(Some(count as u64), ProgressDrawTarget::hidden());
-    if let Ok(style) = ProgressStyle::with_template("{spinner} {pos} of {len} files, {elapsed}") {
+    if let Ok(style) = ProgressStyle::with_template(template) {
         bar.set_style(style);
     }
     let (done, waits) = mpsc::channel::<()>();
@@ -152,7 +152,7 @@ pub fn run(files: &[String], sink: &Sink, work: impl Fn(&str, &[u8]) -> Told + S
     if first > 0 {
         return first;
     }
-    watched(files.len(), |bar| {
+    watched(files.len(), "{spinner} {pos} of {len} files, {elapsed}", |bar| {
         let mut status = 0;
         for some in files.chunks(AT_ONCE) {
             let each = |file: &String| { let told = one(file); bar.inc(1); told };
