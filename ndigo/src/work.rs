@@ -1,6 +1,6 @@
 //! The commands over their files: read, worked side by side, written in the order of the files.
 use crate::fault::Failure;
-use indicatif::{ProgressBar, ProgressDrawTarget, ProgressStyle};
+use indicatif::{ProgressBar, ProgressDrawTarget, ProgressState, ProgressStyle};
 use rayon::prelude::*;
 use std::collections::HashSet;
 use std::io::{Read, Write};
@@ -119,7 +119,11 @@ fn write(file: &str, told: &Told, sink: &Sink, several: bool) -> Result<(), (Str
 pub fn watched<T>(count: usize, template: &str, work: impl FnOnce(&ProgressBar) -> T) -> T {
     let bar = ProgressBar::with_draw_target(Some(count as u64), ProgressDrawTarget::hidden());
     if let Ok(style) = ProgressStyle::with_template(template) {
-        bar.set_style(style);
+        // the bar's own rate has four places behind the point
+        let rate = |state: &ProgressState, out: &mut dyn std::fmt::Write| {
+            let _ = write!(out, "{:.0} a second", state.per_sec());
+        };
+        bar.set_style(style.with_key("rate", rate));
     }
     let (done, waits) = mpsc::channel::<()>();
     std::thread::scope(|scope| {

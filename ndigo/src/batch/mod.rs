@@ -32,7 +32,10 @@ pub struct Asked {
 /// How many tables may be begun before the first of them is written: what bounds the memory where one takes long.
 const AHEAD: u64 = 4096;
 
-const BAR: &str = "{bar:30} {pos} of {len} tables, {per_sec}, {eta} left";
+const BAR: &str = "{bar:30} {pos} of {len} tables, {rate}, {eta} left";
+
+/// Where nobody knows how many there will be.
+const COUNT: &str = "{spinner} {pos} tables, {rate}, {elapsed}";
 
 /// How far it is.
 #[derive(Default)]
@@ -108,7 +111,8 @@ fn write_in_order(done: mpsc::Receiver<(u64, Lines)>, queue: &Queue, output: &mu
 }
 
 fn work(queue: &Queue, maker: &Maker, workers: usize, output: &mut Output) -> std::io::Result<Tally> {
-    watched(0, BAR, |bar| {
+    let template = if locked(&queue.source).expected().is_some() { BAR } else { COUNT };
+    watched(0, template, |bar| {
         std::thread::scope(|scope| {
             let (told, done) = mpsc::channel();
             for _ in 0..workers {
@@ -155,7 +159,9 @@ pub fn run(asked: &Asked) -> u8 {
             tally.status()
         }
         Err(fault) => {
-            say(&format!("{}: cannot be written ({fault}); what was answered stands in {}: make room there, and start again to go on", asked.out.display(), output::unfinished(&asked.out).display()));
+            let full = matches!(fault.kind(), std::io::ErrorKind::StorageFull | std::io::ErrorKind::QuotaExceeded);
+            let instead = if full { "make room there, and start again to go on" } else { "start again to go on, or name another --out" };
+            say(&format!("{}: cannot be written ({fault}); what was answered stands in {}: {instead}", asked.out.display(), output.unfinished().display()));
             3
         }
     }
