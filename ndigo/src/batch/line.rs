@@ -3,11 +3,12 @@ use super::earlier::Earlier;
 use super::source::{Content, Ended, Table};
 use super::tally::{Status, Tally};
 use crate::answer::{left_out, listed_names, parted_by_commas};
-use crate::asked::{read, table_line};
+use crate::asked::{read, sort_rows, table_line};
 use crate::fault::Failure;
 use crate::model::Sheet;
 use crate::refusals::{self, Refusal};
 use crate::search::{self, Own};
+use crate::sheet::marked;
 use crate::{float, job, warnings};
 use ndigomarr::Target;
 use sha2::{Digest, Sha256};
@@ -51,14 +52,15 @@ impl Said {
         Self { haplotype: haplotype.into(), status, refused, words, answer: vec![String::new(); 8] }
     }
 
-    fn refused(haplotype: &str, reasons: &[Refusal]) -> Self {
-        Self::without_answer(Status::Refused, haplotype, reasons.first().map(|reason| reason.number), joined(reasons))
+    fn refused(haplotype: &str, reasons: &[Refusal], whole: &str) -> Self {
+        let words: Vec<String> = reasons.iter().map(|reason| reason.told_of(whole)).collect();
+        Self::without_answer(Status::Refused, haplotype, reasons.first().map(|reason| reason.number), joined(&words))
     }
 
-    fn of(sheet: &Sheet, haplotype: &str, answer: &Own) -> Self {
+    fn of(sheet: &Sheet, haplotype: &str, answer: &Own, whole: &str) -> Self {
         let answer = match answer {
             Ok(answer) => answer,
-            Err(reasons) => return Self::refused(haplotype, reasons),
+            Err(reasons) => return Self::refused(haplotype, reasons, whole),
         };
         let status = if answer.target == Target::Nothing { Status::Nothing } else { Status::Answered };
         let mut cells = vec![listed_names(sheet, answer), parted_by_commas(answer.records.iter())];
@@ -73,12 +75,12 @@ fn joined<T: ToString>(words: &[T]) -> String {
     words.iter().map(T::to_string).collect::<Vec<_>>().join(BETWEEN)
 }
 
-/// A line for each haplotype; one for a sheet that is refused as a whole, under no haplotype's name.
-fn said_of(sheet: &Sheet) -> Vec<Said> {
+/// A line for each haplotype; one for a sheet that is refused as a whole, under no haplotype's name. `whole` is what a reason without a line is said of.
+fn said_of(sheet: &Sheet, whole: &str) -> Vec<Said> {
     let name = |at: usize| sheet.haplotypes.get(at).map_or("", |haplotype| haplotype.name.as_str());
     match search::answers(sheet) {
-        Ok(answers) => answers.iter().enumerate().map(|(at, answer)| Said::of(sheet, name(at), answer)).collect(),
-        Err(reasons) => vec![Said::refused("", &reasons)],
+        Ok(answers) => answers.iter().enumerate().map(|(at, answer)| Said::of(sheet, name(at), answer, whole)).collect(),
+        Err(reasons) => vec![Said::refused("", &reasons, whole)],
     }
 }
 
@@ -86,33 +88,41 @@ fn unread(number: Option<u32>, words: String) -> Vec<Said> {
     vec![Said::without_answer(Status::Unread, "", number, words)]
 }
 
+fn remarks(notes: &[String], sheet: &Sheet) -> String {
+    let notes = notes.iter().map(|note| format!("note: {note}"));
+    joined(&notes.chain(warnings::of_rows(sheet).iter().map(|warning| warning.to_string())).collect::<Vec<_>>())
+}
+
 fn of_sheet(data: &[u8], sort: bool) -> (Vec<Said>, String) {
+    if data.starts_with(&table_line(&HEADINGS)) {
+        return (unread(None, "this is the output of ndigo batch; leave it out".into()), String::new());
+    }
     match read(data, sort) {
-        Ok((sheet, notes)) => {
-            let notes = notes.iter().map(|note| format!("note: {note}"));
-            let warnings: Vec<String> = notes.chain(warnings::of_rows(&sheet).iter().map(|warning| warning.to_string())).collect();
-            (said_of(&sheet), joined(&warnings))
+        Ok((sheet, notes)) => (said_of(&sheet, "the whole sheet"), remarks(&notes, &sheet)),
+        Err(failure) => {
+            // every job ends with a zero byte, and no text without a mark holds one
+            let or_job = if data.contains(&0) && !marked(data) { "; or, if it is a job, its first byte must be 1: make it again with `ndigo job SHEET`" } else { "" };
+            (unread(None, joined(&failure.reasons()) + or_job), String::new())
         }
-        Err(failure) => (unread(None, joined(&failure.reasons())), String::new()),
     }
 }
 
-fn of_job(bytes: &[u8], begins: u64, ended: Ended) -> (Vec<Said>, String) {
-    let lost = match ended {
-        Ended::ByItself => "",
-        Ended::Lost | Ended::TooLong => "; where the next job would begin cannot be told, so nothing behind it was read: make the file again from whole jobs",
+fn of_job(bytes: &[u8], begins: u64, ended: Ended, sort: bool) -> (Vec<Said>, String) {
+    let instead = match ended {
+        Ended::ByItself => "make the job again with `ndigo job SHEET`",
+        Ended::Lost | Ended::TooLong => "where the next job would begin cannot be told, so nothing behind it was read: make the file again from whole jobs",
     };
     if ended == Ended::TooLong {
-        return (unread(None, format!("the job that begins at byte {begins} has {} bytes and no end yet, more than any that can be answered{lost}", bytes.len())), String::new());
+        return (unread(None, format!("the job that begins at byte {begins} has {} bytes and no end yet, more than any that can be answered; {instead}", bytes.len())), String::new());
     }
     match job::read(bytes) {
-        Ok(sheet) => {
-            let warnings = joined(&warnings::of_rows(&sheet));
-            (said_of(&sheet), warnings)
+        Ok(mut sheet) => {
+            let notes: Vec<String> = sort.then(|| sort_rows(&mut sheet)).into_iter().collect();
+            (said_of(&sheet, "the whole job"), remarks(&notes, &sheet))
         }
         Err(fault) => {
             let place = begins + fault.place as u64;
-            let words = format!("refused {}: {}: the record at byte {place} of the file, in the job that begins at byte {begins}{lost}", fault.number, refusals::words(fault.number));
+            let words = format!("refused {}: {}: the record at byte {place} of the file, in the job that begins at byte {begins}; {instead}", fault.number, refusals::words(fault.number));
             (unread(Some(fault.number), words), String::new())
         }
     }
@@ -155,11 +165,13 @@ impl Maker {
             Ok(data) => data,
         };
         let made_from = self.made_from(&data);
-        if let Some(lines) = self.earlier.lines(&file, &job, &made_from) {
+        let earlier = self.earlier.lines(&file, &job, &made_from);
+        // what is wrong with a job is told by its place in the file, which may be another now
+        if let Some(lines) = earlier.filter(|lines| in_archive.is_none() || !lines.tally.any_unread()) {
             return lines;
         }
         let said = match in_archive {
-            Some((begins, ended)) => of_job(&data, begins, ended),
+            Some((begins, ended)) => of_job(&data, begins, ended, self.sort),
             None => of_sheet(&data, self.sort),
         };
         written(&file, &job, &said, &made_from)

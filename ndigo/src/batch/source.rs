@@ -1,8 +1,9 @@
 //! The tables of all files, one after the other. A sheet is one table, a file of jobs has as many as jobs stand in it.
-use crate::fault::Failure;
+use crate::fault::{instead_of, Failure};
 use crate::job;
 use std::fs::File;
-use std::io::{BufRead, BufReader, Read};
+use std::io::{BufRead, BufReader, Read, Seek};
+use std::iter::Peekable;
 
 type Bytes = BufReader<Box<dyn Read + Send>>;
 
@@ -90,7 +91,9 @@ impl Archive {
     /// How many jobs are still to come if they are as long as those before.
     fn to_come(&self) -> Option<u64> {
         let rest = self.length?.saturating_sub(self.place);
-        Some(if self.lost { 0 } else { rest * self.jobs / self.place.max(1) })
+        // bytes times jobs may be more than 64 bits hold
+        let to_come = u128::from(rest) * u128::from(self.jobs) / u128::from(self.place.max(1));
+        Some(if self.lost { 0 } else { u64::try_from(to_come).unwrap_or(u64::MAX) })
     }
 }
 
@@ -98,8 +101,8 @@ impl Archive {
 type Names = Box<dyn Iterator<Item = (String, Option<String>)> + Send>;
 
 pub struct Source {
-    names: Names,
-    /// How many names there are; unknown where a list comes by a pipe.
+    names: Peekable<Names>,
+    /// How many names there are; unknown where names, or who knows how many jobs, come by a pipe.
     named: Option<u64>,
     archive: Option<Archive>,
     opened: u64,
@@ -144,10 +147,13 @@ fn names_of(list: &str) -> std::io::Result<(Names, Option<u64>)> {
     if list == "-" {
         return Ok((listed(list, BufReader::new(std::io::stdin())), None));
     }
-    let names = BufReader::new(File::open(list)?);
-    let regular = File::open(list)?.metadata()?.is_file();
-    let count = if regular { Some(listed(list, BufReader::new(File::open(list)?)).count() as u64) } else { None };
-    Ok((listed(list, names), count))
+    let mut file = File::open(list)?;
+    let mut count = None;
+    if file.metadata()?.is_file() {
+        count = Some(listed(list, BufReader::new(file.try_clone()?)).count() as u64);
+        file.rewind()?;
+    }
+    Ok((listed(list, BufReader::new(file)), count))
 }
 
 impl Source {
@@ -157,11 +163,16 @@ impl Source {
             return Err("standard input (-) can be read once only".into());
         }
         let (listed, count): (Names, Option<u64>) = match list {
-            Some(list) => names_of(list).map_err(|fault| format!("{list}: the list cannot be read ({fault})"))?,
+            Some(list) => names_of(list).map_err(|fault| format!("{list}: the list cannot be read ({fault}){}", instead_of(&fault)))?,
             None => (Box::new(std::iter::empty()), Some(0)),
         };
-        let named = count.map(|count| count + files.len() as u64);
-        let names = Box::new(files.to_vec().into_iter().map(|file| (file, None)).chain(listed));
+        let by_pipe = files.iter().any(|file| file == "-");
+        let named = count.filter(|_| !by_pipe).map(|count| count + files.len() as u64);
+        let names: Names = Box::new(files.to_vec().into_iter().map(|file| (file, None)).chain(listed));
+        let mut names = names.peekable();
+        if names.peek().is_none() {
+            return Err(format!("{}: the list names no file; write their names there, one a line", crate::work::shown_name(list.unwrap_or("-"))));
+        }
         Ok(Self { names, named, archive: None, opened: 0, taken: 0 })
     }
 
@@ -197,6 +208,6 @@ impl Source {
     pub fn expected(&self) -> Option<u64> {
         let unopened = self.named?.saturating_sub(self.opened);
         let to_come = self.archive.as_ref().map_or(Some(0), Archive::to_come)?;
-        Some(self.taken + to_come + unopened)
+        Some(self.taken.saturating_add(to_come).saturating_add(unopened))
     }
 }

@@ -51,10 +51,13 @@ impl Tally {
         self.kept += other.kept;
     }
 
+    pub fn any_unread(&self) -> bool {
+        self.lines[Status::Unread as usize] > 0
+    }
+
     /// 2 where any could not be read, else 1 where any was refused.
     pub fn status(&self) -> u8 {
-        let [_, _, refused, unread] = self.lines;
-        if unread > 0 { 2 } else { u8::from(refused > 0) }
+        if self.any_unread() { 2 } else { u8::from(self.lines[Status::Refused as usize] > 0) }
     }
 }
 

@@ -149,7 +149,7 @@ fn goes_on_after_a_bad_sheet() {
     let words = place.cells("words");
     assert_eq!(words[0], told("line 3", 8, "\"B\" starts at 8, but \"A\" on line 2 starts at 9; sort the rows by start, or call with --sort"));
     assert!(words[1].starts_with("line 3, column 2 (start): \"thirty\""), "{}", words[1]);
-    assert_eq!(words[2], "cannot be read (No such file or directory (os error 2))");
+    assert_eq!(words[2], "cannot be read (No such file or directory (os error 2)); name a file that is there");
     assert!(place.cells("warnings")[0].starts_with("line 2: \"A\" has no letters: "));
     assert_eq!(place.run(&[good.clone(), refused.clone()], &[]).status, 1);
     assert_eq!(place.run(&[good, refused], &["--sort"]).status, 0);
@@ -179,7 +179,8 @@ fn a_spoilt_job_among_jobs() {
     let one = place.put("flag.jobs", [&worked[..], &flag, &worked].concat());
     assert_eq!(place.run(&[one], &[]).status, 2);
     assert_eq!((place.cells("status"), place.cells("refused")), (["answered", "unread", "answered"].map(String::from).to_vec(), ["", "24", ""].map(String::from).to_vec()));
-    assert_eq!(place.cells("words")[1], format!("refused 24: {}: the record at byte 155 of the file, in the job that begins at byte 155", refusal_words(24)));
+    let again = "make the job again with `ndigo job SHEET`";
+    assert_eq!(place.cells("words")[1], format!("refused 24: {}: the record at byte 155 of the file, in the job that begins at byte 155; {again}", refusal_words(24)));
     let lost = "; where the next job would begin cannot be told, so nothing behind it was read: make the file again from whole jobs";
     for (spoilt, number, at) in [([&worked[..], &[9], &worked].concat(), 20, 155), ([&worked[..], &worked[..100]].concat(), 21, 155 + 84)] {
         let file = place.put("lost.jobs", spoilt);
@@ -191,6 +192,77 @@ fn a_spoilt_job_among_jobs() {
     }
 }
 
+/// Its words name its place, and that is another where a job before it became longer.
+#[test]
+fn a_spoilt_job_that_moved() {
+    let place = Place::new("moved");
+    let (short, long) = (job(example("worked-example")), job(example("two-divers")));
+    let mut flag = short.clone();
+    flag[2] = 2;
+    let file = place.put("dives.jobs", [&short[..], &flag, &short].concat());
+    place.run(&[file], &[]);
+    let file = place.put("dives.jobs", [&long[..], &flag, &short].concat());
+    let again = place.run(&[file], &[]);
+    assert!(again.err.contains(": 3 tables (1 of them kept from an earlier run), "), "{}", again.err);
+    let unread = place.lines().into_iter().find(|line| line["status"] == "unread").unwrap();
+    assert!(unread["words"].contains(&format!("in the job that begins at byte {}; ", long.len())), "{}", unread["words"]);
+}
+
+#[test]
+fn a_job_whose_starts_fall() {
+    let place = Place::new("falls");
+    let job = job(format!("{HEADINGS}A\t9\t9\t1\tA\nB\t8\t8\t1\tA\n\npart\tsize\tletters\nP\t1\tA\n"));
+    let file = place.put("falls.job", job);
+    assert_eq!(place.run(&[file.clone()], &[]).status, 1);
+    let reason = "\"row-1\" starts at 8, but \"row-0\" starts at 9; sort the rows by start, or call with --sort";
+    assert_eq!(place.cells("words"), [told("the whole job", 8, reason)]);
+    assert_eq!(place.run(&[file], &["--sort"]).status, 0);
+    let said = "note: the rows were sorted by start: 2 rows changed place, and row numbers are those of the sorted table";
+    assert!(place.cells("warnings")[0].starts_with(said), "{}", place.table());
+}
+
+#[test]
+fn what_is_neither_sheet_nor_job() {
+    let place = Place::new("neither");
+    let mut spoilt = job(example("worked-example"));
+    spoilt[0] = 7;
+    let spoilt = place.put("spoilt.job", spoilt);
+    assert_eq!(place.run(&[place.put("good.tsv", GOOD)], &[]).status, 0);
+    let own = place.put("own.tsv", place.table());
+    let inside = place.folder.to_str().unwrap().to_string();
+    assert_eq!(place.run(&[spoilt, own, inside], &[]).status, 2);
+    let words = place.cells("words");
+    assert!(words[0].ends_with("; or, if it is a job, its first byte must be 1: make it again with `ndigo job SHEET`"), "{}", words[0]);
+    assert_eq!(words[1], "this is the output of ndigo batch; leave it out");
+    assert_eq!(words[2], "cannot be read (Is a directory (os error 21)); name the sheets in it");
+}
+
+#[test]
+fn a_list_without_names() {
+    let place = Place::new("empty-list");
+    let list = place.put("names.txt", "\n\r\n");
+    for (list, shown) in [(list.as_str(), list.as_str()), ("-", "standard input")] {
+        let done = place.run(&[], &["--list", list]);
+        assert_eq!((done.status, done.err, place.out.exists()), (2, format!("ndigo: {shown}: the list names no file; write their names there, one a line\n"), false));
+    }
+    assert_eq!(place.run(&[place.put("good.tsv", GOOD)], &["--list", &list]).status, 0);
+}
+
+/// What was answered is not lost where the table cannot be written to its end.
+#[test]
+fn no_room_for_the_table() {
+    let place = Place::new("no-room");
+    let files = sheets(&place, 60);
+    let list = place.put("names.txt", names(&files));
+    let program = assert_cmd::cargo::cargo_bin("ndigo");
+    let limited = "trap '' XFSZ; ulimit -f 8; exec \"$@\"";
+    let done = Command::new("sh").args(["-c", limited, "sh"]).arg(program).args(["batch", "--list", &list, "--out"]).arg(&place.out).output().unwrap();
+    let said = format!("{}: cannot be written (File too large (os error 27)); what was answered stands in {}: start again to go on, or name another --out\n", place.out.display(), place.beside("unfinished").display());
+    assert_eq!((done.status.code(), String::from_utf8(done.stderr).unwrap(), place.out.exists()), (Some(3), said, false));
+    let again = place.run(&files, &[]);
+    assert!(again.status == 0 && again.err.contains(" of them kept from an earlier run), 60 lines"), "{}", again.err);
+}
+
 #[test]
 fn names_from_a_list() {
     let place = Place::new("list");
@@ -200,7 +272,7 @@ fn names_from_a_list() {
     assert_eq!(done.status, 0, "{}", done.err);
     assert_eq!(place.cells("file"), files);
     let done = place.run(&[], &["--list", "missing.txt"]);
-    assert_eq!((done.status, done.err.as_str()), (2, "ndigo: missing.txt: the list cannot be read (No such file or directory (os error 2))\n"));
+    assert_eq!((done.status, done.err.as_str()), (2, "ndigo: missing.txt: the list cannot be read (No such file or directory (os error 2)); name a file that is there\n"));
     assert_eq!(place.run(&["-".into()], &["--list", "-"]).status, 2);
     let odd = place.put("odd.txt", b"\xff.tsv\n");
     assert_eq!(place.run(&[], &["--list", &odd]).status, 2);
@@ -290,5 +362,66 @@ fn nobodys_own_file_is_written_over() {
     let done = call(&["batch", &file, "--out", nowhere.to_str().unwrap()], b"");
     assert_eq!(done.status, 3);
     assert!(done.err.contains("cannot be written (No such file or directory (os error 2)); name a file in a folder that is there"), "{}", done.err);
-    assert_eq!(call(&["batch", &file, "--out", "/dev/full"], b"").status, 3);
+}
+
+#[test]
+fn nobodys_own_kept_file_is_taken_away() {
+    let place = Place::new("own-kept");
+    let file = place.put("reef.tsv", GOOD);
+    for ending in ["kept", "unfinished"] {
+        std::fs::write(place.beside(ending), GOOD).unwrap();
+        let done = place.run(&[file.clone()], &[]);
+        let said = format!("ndigo: {}: this file is there, and is no output of ndigo batch of this edition; move it away, or name another --out\n", place.beside(ending).display());
+        assert_eq!((done.status, done.err), (3, said));
+        assert_eq!((std::fs::read_to_string(place.beside(ending)).unwrap().as_str(), place.out.exists()), (GOOD, false));
+        std::fs::remove_file(place.beside(ending)).unwrap();
+    }
+}
+
+/// What a run that was stopped twice keeps: the headings and each table once.
+#[test]
+fn kept_once() {
+    let place = Place::new("kept-once");
+    let files = sheets(&place, 6);
+    place.run(&files, &[]);
+    let whole = place.table();
+    let ends: Vec<usize> = whole.match_indices('\n').map(|(at, _)| at + 1).collect();
+    std::fs::remove_file(&place.out).unwrap();
+    // cut short in its fifth table
+    std::fs::write(place.beside("kept"), &whole[..ends[4] + 9]).unwrap();
+    std::fs::write(place.beside("unfinished"), &whole[..ends[5]]).unwrap();
+    let mut child = place.waiting();
+    child.stdin.as_mut().unwrap().write_all(names(&files[..1]).as_bytes()).unwrap();
+    wait_for("the lines of the stopped run", || bytes_in(&place.beside("kept")) == ends[5] as u64);
+    child.kill().unwrap();
+    child.wait().unwrap();
+    assert_eq!(std::fs::read_to_string(place.beside("kept")).unwrap(), whole[..ends[5]]);
+    let again = place.run(&files, &[]);
+    assert!(again.err.contains(": 6 tables (5 of them kept from an earlier run), "), "{}", again.err);
+    assert_eq!((place.table(), place.beside("kept").exists()), (whole, false));
+}
+
+#[test]
+fn only_an_ordinary_file_is_written() {
+    let place = Place::new("ordinary");
+    let file = place.put("reef.tsv", GOOD);
+    let out = |path: &str| call(&["batch", &file, "--out", path], b"");
+    let pipe = place.folder.join("pipe");
+    assert!(Command::new("mkfifo").arg(&pipe).status().unwrap().success());
+    for name in [pipe.to_str().unwrap(), "/dev/full", place.folder.to_str().unwrap()] {
+        let done = out(name);
+        let resolved = std::fs::canonicalize(name).unwrap();
+        assert_eq!((done.status, done.err), (3, format!("ndigo: {}: this is no ordinary file; the table appears by a rename, so name a file\n", resolved.display())));
+    }
+    let done = out("-");
+    assert_eq!((done.status, done.err.as_str()), (3, "ndigo: -: the table appears when it is whole, so it cannot go to standard output; name a file\n"));
+    // the file behind a link is written, and the link stays
+    let link = place.folder.join("link.tsv");
+    std::os::unix::fs::symlink(&place.out, &link).unwrap();
+    assert_eq!(out(link.to_str().unwrap()).err, format!("ndigo: {}: this is a link to what is not there; name a file\n", link.display()));
+    assert_eq!(place.run(&[file.clone()], &[]).status, 0);
+    let whole = place.table();
+    std::fs::write(&place.out, HEADING_LINE).unwrap();
+    assert_eq!(out(link.to_str().unwrap()).status, 0);
+    assert_eq!((place.table(), link.is_symlink()), (whole, true));
 }
