@@ -16,7 +16,7 @@ rule answer:
         sort="--sort" if config["sort"] else "",
     threads: config["threads"]
     shell:
-        "{params.ndigo} batch --list {input.names:q} {params.sort} --jobs {threads} --out {output:q} 2> {log:q} || [ $? -le 2 ]"
+        "{params.ndigo:q} batch --list {input.names:q} {params.sort} --jobs {threads} --out {output:q} 2> {log:q} || [ $? -le 2 ]"
 
 
 rule gather:

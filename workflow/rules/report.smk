@@ -1,12 +1,12 @@
 # Every table's picture, and the report.
 
 
-# Each chunk has a folder of its own: two sheets of one name in different folders may be in different chunks. A refused sheet is drawn too (status 1), one that
-# cannot be read is not (2).
+# Each chunk has a folder of its own, and scripts/draw.py says where in it a sheet's picture stands.
 rule draw:
     input:
         names=f"{RESULTS}/chunks/{{chunk}}.list",
         state=f"{RESULTS}/chunks/{{chunk}}.state",
+        script=f"{SCRIPTS}/draw.py",
     output:
         directory(f"{RESULTS}/pictures/{{chunk}}"),
     log:
@@ -16,8 +16,7 @@ rule draw:
         sort="--sort" if config["sort"] else "",
     threads: config["threads"]
     shell:
-        "mkdir -p {output:q} && RAYON_NUM_THREADS={threads} xargs -d '\\n' -a {input.names:q} "
-        "sh -c '\"$@\" 2> {log:q} || [ $? -le 2 ]' sh {params.ndigo} draw {params.sort} --into {output:q}"
+        "RAYON_NUM_THREADS={threads} {sys.executable:q} {input.script:q} --ndigo {params.ndigo:q} {params.sort} --list {input.names:q} --into {output:q} 2> {log:q}"
 
 
 rule report:

@@ -2,7 +2,7 @@
 """One page about many tables: what was refused and why, what stopped early, how the scores lie, and a link to each table's picture.
 
 report.py [--pictures FOLDER] --out report.html TABLE..: the tables of `ndigo batch`, one a chunk, in order. FOLDER is where the pictures stand, seen from the page: each
-chunk's in a folder of its own name. The page is one file that asks for nothing from elsewhere.
+chunk's in a folder of its own name, as draw.py lays them. The page is one file that asks for nothing from elsewhere.
 """
 import argparse
 import collections
@@ -11,6 +11,8 @@ import html
 import math
 import os
 import urllib.parse
+
+import draw
 
 csv.field_size_limit(1 << 30)
 
@@ -23,8 +25,12 @@ STATUSES = {"answered": "answered", "nothing": "without a path", "refused": "ref
 Line = collections.namedtuple("Line", "chunk file job haplotype status refused words names score scored complete warnings")
 
 
+def chunk_of(table):
+    return os.path.splitext(os.path.basename(table))[0]
+
+
 def read(table):
-    chunk = os.path.splitext(os.path.basename(table))[0]
+    chunk = chunk_of(table)
     with open(table, encoding="utf-8", errors="replace", newline="") as text:
         for row in csv.DictReader(text, delimiter="\t"):
             yield Line(chunk, *(row[name] for name in Line._fields[1:]))
@@ -34,15 +40,15 @@ def escaped(text):
     return html.escape(text, quote=True)
 
 
-def table_name(line):
-    job = f", job {line.job}" if line.job else ""
-    haplotype = f", haplotype {line.haplotype}" if line.haplotype else ""
-    return escaped(os.path.basename(line.file)), escaped(f"{job}{haplotype}"), escaped(line.file)
-
-
 class Page:
-    def __init__(self, pictures):
+    def __init__(self, pictures, beside):
         self.pictures = pictures
+        # the folder of the page
+        self.beside = beside
+        # where the pictures of the sheets that the lists show stand, by chunk and sheet
+        self.drawn = {}
+        # base names, each with the files of that name that the lists show
+        self.named = {}
         self.statuses = collections.Counter()
         self.tables = 0
         self.warned = 0
@@ -58,6 +64,8 @@ class Page:
         self.counts[name] += 1
         if len(self.lists[name]) < most:
             self.lists[name].append(line)
+            self.named.setdefault(os.path.basename(line.file), set()).add(line.file)
+            self.drawn[line.chunk, line.file] = None
 
     def add(self, line, first):
         self.tables += first
@@ -80,18 +88,35 @@ class Page:
             else:
                 self.score(float(line.score))
 
+    def place(self, chunk, files):
+        for file, place in draw.places(files).items():
+            if (chunk, file) in self.drawn:
+                self.drawn[chunk, file] = place
+
     def score(self, value):
         self.scores[min(BINS - 1, max(0, int(value * BINS)))] += 1
         self.least, self.most, self.sum = min(self.least, value), max(self.most, value), self.sum + value
 
-    def link(self, line):
-        """The table's name, and its picture where it has one: a sheet that cannot be read has none, and neither has a job."""
-        name, rest, whole = table_name(line)
+    def table_name(self, line):
+        """The file's name, or its path where another file has that name too, and what of the file it is."""
+        name = os.path.basename(line.file)
+        job = f", job {line.job}" if line.job else ""
+        haplotype = f", haplotype {line.haplotype}" if line.haplotype else ""
+        return escaped(line.file if len(self.named[name]) > 1 else name), escaped(f"{job}{haplotype}")
+
+    def picture(self, line):
+        """Where its picture stands, seen from the page; none where it has none, as a sheet that cannot be read, or a job."""
         if self.pictures is None or line.status == "unread" or line.job:
+            return None
+        place = f"{self.pictures}/{line.chunk}/{self.drawn[line.chunk, line.file]}"
+        return place if os.path.exists(os.path.join(self.beside, place)) else None
+
+    def link(self, line):
+        name, rest = self.table_name(line)
+        place, whole = self.picture(line), escaped(line.file)
+        if place is None:
             return f'<span title="{whole}">{name}</span>{rest}'
-        stem = os.path.splitext(os.path.basename(line.file))[0]
-        target = urllib.parse.quote(f"{self.pictures}/{line.chunk}/{stem}.svg")
-        return f'<a href="{escaped(target)}" title="picture of {whole}">{name}</a>{rest}'
+        return f'<a href="{escaped(urllib.parse.quote(place))}" title="picture of {whole}">{name}</a>{rest}'
 
     # the parts of the page
 
@@ -169,7 +194,7 @@ class Page:
         for chunk, lines in chunks.items():
             cells = lambda line: [self.link(line), STATUSES[line.status], escaped(line.score), escaped(line.complete), escaped(line.names)]
             rows = "".join(f"<tr>{''.join(f'<td>{cell}</td>' for cell in cells(line))}</tr>" for line in lines)
-            between = f"{table_name(lines[0])[0]} to {table_name(lines[-1])[0]}"
+            between = f"{self.table_name(lines[0])[0]} to {self.table_name(lines[-1])[0]}"
             parts.append(f'<details class="chunk"><summary>{between} <small>({len(lines):,})</small></summary><div class="scroll" tabindex="0" role="region" aria-label="{between}">'
                          f"<table><thead><tr><th>table</th><th>status</th><th>score</th><th>complete</th><th>rows</th></tr></thead><tbody>{rows}</tbody></table></div></details>")
         left = self.counts["all"] - len(self.lists["all"])
@@ -224,12 +249,15 @@ def main():
     words.add_argument("--pictures")
     words.add_argument("--out", required=True)
     asked = words.parse_args()
-    page = Page(asked.pictures)
+    page = Page(asked.pictures, os.path.dirname(asked.out))
     for table in asked.tables:
         before = None
+        files = {}
         for line in read(table):
             page.add(line, (line.file, line.job) != before)
             before = (line.file, line.job)
+            files[line.file] = None
+        page.place(chunk_of(table), files)
     with open(asked.out, "w", encoding="utf-8") as out:
         out.write(page.text())
 
