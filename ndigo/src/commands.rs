@@ -53,7 +53,7 @@ pub enum Command {
         /// How many are worked on at a time; left out, one a core
         #[arg(long, value_name = "N", value_parser = clap::value_parser!(u16).range(1..=1024))]
         jobs: Option<u16>,
-        /// Sort the variants of each sheet by start first
+        /// Sort the variants of each sheet or job by start first
         #[arg(long)]
         sort: bool,
     },
