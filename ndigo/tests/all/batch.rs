@@ -257,7 +257,9 @@ fn no_room_for_the_table() {
     let program = assert_cmd::cargo::cargo_bin("ndigo");
     let limited = "trap '' XFSZ; ulimit -f 8; exec \"$@\"";
     let done = Command::new("sh").args(["-c", limited, "sh"]).arg(program).args(["batch", "--list", &list, "--out"]).arg(&place.out).output().unwrap();
-    let said = format!("{}: cannot be written (File too large (os error 27)); what was answered stands in {}: start again to go on, or name another --out\n", place.out.display(), place.beside("unfinished").display());
+    let (out, rest) = (place.out.display(), place.beside("unfinished"));
+    let why = "cannot be written (File too large (os error 27))";
+    let said = format!("{out}: {why}; what was answered stands in {}: start again to go on, or name another --out\n", rest.display());
     assert_eq!((done.status.code(), String::from_utf8(done.stderr).unwrap(), place.out.exists()), (Some(3), said, false));
     let again = place.run(&files, &[]);
     assert!(again.status == 0 && again.err.contains(" of them kept from an earlier run), 60 lines"), "{}", again.err);
