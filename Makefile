@@ -1,5 +1,5 @@
 # `make run` and `make test` do all set-up themselves; README.md says what each target is for.
-.PHONY: run test changed program ndigo proofs packages texts wrong runs must-fail oracle faults fuzz bed bindings bench install uninstall
+.PHONY: run test changed program ndigo proofs packages texts wrong runs must-fail oracle faults fuzz bed bindings bench cluster install uninstall
 
 # where `make install` puts things
 PREFIX ?= /usr/local
@@ -30,6 +30,7 @@ packages:
 	oracle/setup
 	ndigo/setup
 	bindings/setup
+	workflow/setup
 
 # What is read off the files alone, and the tests of the tools.
 texts:
@@ -57,7 +58,7 @@ wrong:
 # What is run, one after the other, since two rt in one folder mix their logs. One archive serves all that link it.
 runs:
 	tools/run-examples
-	set -e; ARCHIVE_MADE=$$(tools/library); export ARCHIVE_MADE; NDIGO_NEEDS_PROGRAM=1 SHEET_WRITER=target/bin/copy_job ndigo/test; oracle/run --short; bindings/test; oracle/bed/check; ndigo/build; bindings/test-install
+	set -e; ARCHIVE_MADE=$$(tools/library); export ARCHIVE_MADE; NDIGO_NEEDS_PROGRAM=1 SHEET_WRITER=target/bin/copy_job ndigo/test; oracle/run --short; bindings/test; oracle/bed/check; ndigo/build; bindings/test-install; workflow/test
 
 # What stands on one line runs at the same time. rt ci stands last: its last line, 'N passed, 0 failed', is the gate's. It proves all from nothing, so what runs before it builds for itself.
 test:
@@ -100,3 +101,7 @@ uninstall:
 
 bench:
 	bench/run
+
+# 10,000 tables through a SLURM of this machine's own, a worker killed in the middle.
+cluster: ndigo
+	workflow/cluster

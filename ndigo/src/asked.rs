@@ -14,20 +14,24 @@ use crate::work::{shown_name, Told};
 use ndigomarr::{Bed, Target};
 
 /// The sheet and what was noted while it was read; all its faults where it has any.
-fn read(data: &[u8], sort: bool) -> Result<(Sheet, Vec<String>), Failure> {
+pub fn read(data: &[u8], sort: bool) -> Result<(Sheet, Vec<String>), Failure> {
     let read = sorted(sheet::read(data), sort);
     if read.faults.is_empty() { Ok((read.sheet, read.notes)) } else { Err(Failure::Sheet { faults: read.faults, notes: read.notes }) }
 }
 
 fn sorted(mut read: sheet::Read, sort: bool) -> sheet::Read {
     if sort {
-        let note = match read.sheet.sort() {
-            0 => "the rows stood sorted by start already".into(),
-            moved => format!("the rows were sorted by start: {} changed place, and row numbers are those of the sorted table", counted(moved, "row")),
-        };
-        read.notes.push(note);
+        read.notes.push(sort_rows(&mut read.sheet));
     }
     read
+}
+
+/// Sorts the variants by start; the note that says so.
+pub fn sort_rows(sheet: &mut Sheet) -> String {
+    match sheet.sort() {
+        0 => "the rows stood sorted by start already".into(),
+        moved => format!("the rows were sorted by start: {} changed place, and row numbers are those of the sorted table", counted(moved, "row")),
+    }
 }
 
 /// Cells as one line of tab-separated text.

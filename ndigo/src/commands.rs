@@ -39,6 +39,24 @@ pub enum Command {
         #[command(flatten)]
         into: Into,
     },
+    /// Many sheets or jobs into one table: a line a haplotype, on all cores; stopped and started again it does what is missing
+    Batch {
+        /// Sheets, jobs, or files of jobs one behind the other; - is standard input
+        #[arg(required_unless_present = "list", value_name = "FILE")]
+        files: Vec<String>,
+        /// Names more of them, one a line; - is standard input
+        #[arg(long, value_name = "LIST")]
+        list: Option<String>,
+        /// The table, tab-separated. It appears when it is whole; until then its lines stand in TABLE.unfinished
+        #[arg(long, value_name = "TABLE")]
+        out: PathBuf,
+        /// How many are worked on at a time; left out, one a core
+        #[arg(long, value_name = "N", value_parser = clap::value_parser!(u16).range(1..=1024))]
+        jobs: Option<u16>,
+        /// Sort the variants of each sheet or job by start first
+        #[arg(long)]
+        sort: bool,
+    },
     /// The sheet as job bytes, the form that the program ndigomarr reads
     Job {
         #[command(flatten)]

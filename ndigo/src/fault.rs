@@ -25,7 +25,7 @@ impl std::fmt::Display for Fault {
 /// What a call may end with other than being done. The words do not name the file: whoever prints them does.
 #[derive(Debug, Error)]
 pub enum Failure {
-    #[error("cannot be read ({0})")]
+    #[error("cannot be read ({0}){}", instead_of(.0))]
     Unreadable(std::io::Error),
     #[error("{}", lines(.faults))]
     Sheet { faults: Vec<Fault>, notes: Vec<String> },
@@ -51,6 +51,16 @@ impl Failure {
             Self::Sheet { faults, notes } => notes.iter().map(|note| format!("note: {note}")).chain(faults.iter().map(Fault::to_string)).collect(),
             other => vec![other.to_string()],
         }
+    }
+}
+
+/// What to name instead of what cannot be read, where the fault tells.
+pub fn instead_of(fault: &std::io::Error) -> &'static str {
+    match fault.kind() {
+        std::io::ErrorKind::NotFound => "; name a file that is there",
+        std::io::ErrorKind::IsADirectory => "; name the sheets in it",
+        std::io::ErrorKind::PermissionDenied => "; name a file that you may read",
+        _ => "",
     }
 }
 

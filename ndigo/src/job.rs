@@ -1,8 +1,9 @@
 //! The job form of document 01, byte for byte: written from a sheet and read back. Its limits are the form's, not the program's.
 use crate::model::{Haplotype, Sequence, Settings, Sheet, Variant};
 
-const END: u8 = 0;
-const SETTINGS: u8 = 1;
+/// The kind that ends a job, and the kind that begins one.
+pub const END: u8 = 0;
+pub const SETTINGS: u8 = 1;
 const VARIANT: u8 = 2;
 const PART: u8 = 3;
 const LETTERS: u8 = 4;
@@ -16,7 +17,7 @@ pub const LETTERS_LIMIT: usize = 131_072;
 const HELD: usize = 16;
 
 /// The length of a record of this kind with its byte of kind; none for a kind that there is not.
-fn length_of(kind: u8) -> Option<usize> {
+pub fn length_of(kind: u8) -> Option<usize> {
     [1, 41, 26, 10, 17, 1].get(usize::from(kind)).copied()
 }
 

@@ -1,6 +1,7 @@
 //! ndigo: the proved library on the command line, at the library's own limits. A module for each idea.
 pub mod answer;
 pub mod asked;
+pub mod batch;
 pub mod check;
 pub mod commands;
 pub mod draw;

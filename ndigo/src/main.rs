@@ -2,7 +2,7 @@
 use ndigo::asked::{self, table_line};
 use ndigo::commands::{grammar, parsed, Cli, Command, Form};
 use ndigo::work::{put_all, run, say, Sink, Told};
-use ndigo::{answer, check};
+use ndigo::{answer, batch, check};
 use std::process::ExitCode;
 
 fn output(form: Form, headings: &[&str]) -> Sink {
@@ -22,6 +22,7 @@ fn status(cli: Cli) -> u8 {
             let sink = Sink::Files { folder: into.into, ending: "svg" };
             run(&sheets.files, &sink, |file, data| asked::draw(file, data, sheets.sort, rows.as_deref()).unwrap_or_else(Told::from))
         }
+        Command::Batch { files, list, out, jobs, sort } => batch::run(&batch::Asked { files, list, out, jobs: jobs.map(usize::from), sort }),
         Command::Job { sheets, into } => {
             let sink = Sink::Files { folder: into.into, ending: "job" };
             run(&sheets.files, &sink, |_, data| asked::job(data, sheets.sort).unwrap_or_else(Told::from))

@@ -205,9 +205,10 @@ impl Sheet {
 
     /// Sorts the variants by start, equal ones as they stood; how many changed their place.
     pub fn sort(&mut self) -> usize {
-        let before: Vec<usize> = self.variants.iter().map(Variant::line).collect();
+        let mut places: Vec<usize> = (0..self.variants.len()).collect();
+        places.sort_by_key(|&place| self.variants[place].start);
         self.variants.sort_by_key(|variant| variant.start);
-        self.variants.iter().zip(before).filter(|(variant, line)| variant.line() != *line).count()
+        places.iter().enumerate().filter(|(now, before)| now != *before).count()
     }
 }
 

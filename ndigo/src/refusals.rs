@@ -29,18 +29,23 @@ pub struct Refusal {
 
 impl std::fmt::Display for Refusal {
     fn fmt(&self, out: &mut std::fmt::Formatter<'_>) -> std::fmt::Result {
-        match (self.line, &self.haplotype) {
-            (Some(line), None) => write!(out, "line {line}")?,
-            (None, None) => write!(out, "the whole sheet")?,
-            (Some(line), Some(name)) => write!(out, "haplotype \"{name}\": line {line}")?,
-            (None, Some(name)) => write!(out, "haplotype \"{name}\"")?,
-        }
-        write!(out, ": refused {}: {}", self.number, words(self.number))?;
-        if self.reason.is_empty() { Ok(()) } else { write!(out, ": {}", self.reason) }
+        out.write_str(&self.told_of("the whole sheet"))
     }
 }
 
 impl Refusal {
+    /// In words; `whole` is what refuses where no one line and no one haplotype does.
+    pub fn told_of(&self, whole: &str) -> String {
+        let place = match (self.line, &self.haplotype) {
+            (Some(line), None) => format!("line {line}"),
+            (None, None) => whole.into(),
+            (Some(line), Some(name)) => format!("haplotype \"{name}\": line {line}"),
+            (None, Some(name)) => format!("haplotype \"{name}\""),
+        };
+        let reason = if self.reason.is_empty() { String::new() } else { format!(": {}", self.reason) };
+        format!("{place}: refused {}: {}{reason}", self.number, words(self.number))
+    }
+
     /// The same of one haplotype alone.
     pub fn of_haplotype(self, own: &Sheet) -> Self {
         Self { haplotype: own.haplotype().map(str::to_string), ..self }
@@ -108,9 +113,11 @@ fn bad_table(sheet: &Sheet) -> Vec<Refusal> {
     }
     for pair in sheet.variants.windows(2).filter(|pair| pair[1].start < pair[0].start) {
         let (before, v) = (&pair[0], &pair[1]);
+        // the rows of a job have no lines
+        let place = if before.line() > 0 { format!(" on line {}", before.line()) } else { String::new() };
         let reason = format!(
-            "\"{}\" starts at {}, but \"{}\" on line {} starts at {}; sort the rows by start, or call with --sort",
-            v.name(), v.start, before.name(), before.line(), before.start
+            "\"{}\" starts at {}, but \"{}\"{place} starts at {}; sort the rows by start, or call with --sort",
+            v.name(), v.start, before.name(), before.start
         );
         found.push(at(8, v.line(), reason));
     }

@@ -2,7 +2,8 @@
 use crate::job::LETTERS_LIMIT;
 use crate::model::{Sequence, Sheet, MAXPATHS, SEQSIM, SIZESIM};
 use crate::refusals::{self, Refusal};
-use ndigomarr::{Answer, Haplotype, Table, Target};
+use ndigomarr::{Answer, Haplotype, Room, Table, Target};
+use std::cell::RefCell;
 
 /// Of a table or a haplotype that is too long anyway, one more than the limit is enough to be refused.
 const ENOUGH: usize = 65;
@@ -30,12 +31,18 @@ fn haplotype(parts: &[Sequence], k: u8) -> Result<Haplotype, ndigomarr::Refusal>
     Ok(haplotype)
 }
 
+thread_local! {
+    /// Kept from one call to the next: asking for it anew takes longer than a small search.
+    static ROOM: RefCell<Room> = RefCell::new(Room::new());
+}
+
 /// The answer of each haplotype, by one call of the library.
 fn asked(sheet: &Sheet) -> Result<Vec<Result<Answer, ndigomarr::Refusal>>, ndigomarr::Refusal> {
     let settings = sheet.settings.to_library();
     let table = table(sheet, settings.k)?;
     let haplotypes: Result<Vec<Haplotype>, _> = sheet.part_lists().into_iter().map(|parts| haplotype(parts, settings.k)).collect();
-    ndigomarr::apply_haplotypes(&settings, &table, &haplotypes?)
+    let haplotypes = haplotypes?;
+    ROOM.with(|room| ndigomarr::apply_haplotypes_in(&settings, &table, &haplotypes, &mut room.borrow_mut()))
 }
 
 /// The library's own refusal first, then what else is told of the sheet.

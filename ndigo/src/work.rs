@@ -1,6 +1,6 @@
 //! The commands over their files: read, worked side by side, written in the order of the files.
 use crate::fault::Failure;
-use indicatif::{ProgressBar, ProgressDrawTarget, ProgressStyle};
+use indicatif::{ProgressBar, ProgressDrawTarget, ProgressState, ProgressStyle};
 use rayon::prelude::*;
 use std::collections::HashSet;
 use std::io::{Read, Write};
@@ -116,10 +116,14 @@ fn write(file: &str, told: &Told, sink: &Sink, several: bool) -> Result<(), (Str
 }
 
 /// Shows how far it is, on a terminal, once it has taken a second.
-fn watched<T>(count: usize, work: impl FnOnce(&ProgressBar) -> T) -> T {
+pub fn watched<T>(count: usize, template: &str, work: impl FnOnce(&ProgressBar) -> T) -> T {
     let bar = ProgressBar::with_draw_target(Some(count as u64), ProgressDrawTarget::hidden());
-    if let Ok(style) = ProgressStyle::with_template("{spinner} {pos} of {len} files, {elapsed}") {
-        bar.set_style(style);
+    if let Ok(style) = ProgressStyle::with_template(template) {
+        // the bar's own rate has four places behind the point
+        let rate = |state: &ProgressState, out: &mut dyn std::fmt::Write| {
+            let _ = write!(out, "{:.0} a second", state.per_sec());
+        };
+        bar.set_style(style.with_key("rate", rate));
     }
     let (done, waits) = mpsc::channel::<()>();
     std::thread::scope(|scope| {
@@ -152,7 +156,7 @@ pub fn run(files: &[String], sink: &Sink, work: impl Fn(&str, &[u8]) -> Told + S
     if first > 0 {
         return first;
     }
-    watched(files.len(), |bar| {
+    watched(files.len(), "{spinner} {pos} of {len} files, {elapsed}", |bar| {
         let mut status = 0;
         for some in files.chunks(AT_ONCE) {
             let each = |file: &String| { let told = one(file); bar.inc(1); told };

@@ -3,19 +3,26 @@ use super::{left_out, target_word};
 use crate::float;
 use crate::model::Sheet;
 use crate::search::Own;
+use ndigomarr::Answer;
 
 pub const TABLE_HEADINGS: [&str; 16] = [
     "file", "refused", "names", "rows", "records", "score", "score_bits", "sizesim", "sizesim_bits", "seqsim", "seqsim_bits", "target", "left_out", "scored",
     "complete", "haplotype",
 ];
 
-fn joined<T: ToString>(values: impl Iterator<Item = T>) -> String {
+/// Parted by commas.
+pub fn parted_by_commas<T: ToString>(values: impl Iterator<Item = T>) -> String {
     values.map(|value| value.to_string()).collect::<Vec<_>>().join(",")
 }
 
 /// A name as a cell of the comma-separated list: one that holds a comma or a quote is quoted.
 fn listed(name: &str) -> String {
     if name.contains([',', '"']) { format!("\"{}\"", name.replace('"', "\"\"")) } else { name.to_string() }
+}
+
+/// The names of the answer's rows, parted by commas.
+pub fn listed_names(sheet: &Sheet, answer: &Answer) -> String {
+    parted_by_commas(answer.rows.iter().map(|&row| listed(sheet.variants[row].name())))
 }
 
 fn both(value: f32) -> [String; 2] {
@@ -34,8 +41,7 @@ pub fn table_row(file: &str, sheet: &Sheet, answer: &Own) -> Vec<String> {
             return cells;
         }
     };
-    let names = joined(answer.rows.iter().map(|&row| listed(sheet.variants[row].name())));
-    let mut cells = vec![file.into(), String::new(), names, joined(answer.rows.iter()), joined(answer.records.iter())];
+    let mut cells = vec![file.into(), String::new(), listed_names(sheet, answer), parted_by_commas(answer.rows.iter()), parted_by_commas(answer.records.iter())];
     cells.extend([answer.score, answer.sizesim, answer.seqsim].into_iter().flat_map(both));
     cells.push(target_word(answer).into());
     cells.push(left_out(answer).map_or(String::new(), |parts| parts.to_string()));

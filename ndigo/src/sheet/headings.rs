@@ -28,6 +28,10 @@ impl Section {
     /// headings, then that none is missing: a part's headings are a variant's too.
     fn likeness(&self, words: &[String], delimiter: Delimiter) -> usize {
         let known = words.iter().skip(1).filter(|word| self.needed.contains(&word.as_str())).count();
+        // so it is with most lines, and comparing their first words with the section's takes long
+        if known == 0 {
+            return 0;
+        }
         let near = nearest(&words[0], std::iter::once(self.word)).is_some();
         let whole = known == self.needed.len();
         // prose may well hold the one or two headings of a part or a setting

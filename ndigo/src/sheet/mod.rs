@@ -6,6 +6,7 @@ mod split;
 mod text;
 mod write;
 
+pub use text::marked;
 pub use write::{cell, written};
 
 use crate::fault::Fault;

@@ -1,5 +1,6 @@
 //! ndigo as from the command line. A module for each idea.
 mod answers;
+mod batch;
 mod bed;
 mod common;
 mod examples;

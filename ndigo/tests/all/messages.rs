@@ -153,7 +153,7 @@ fn other_codings() {
 #[test]
 fn files_and_commands() {
     let missing = call(&["job", "none.tsv"], b"");
-    assert_eq!((missing.status, missing.err.as_str()), (2, "none.tsv: cannot be read (No such file or directory (os error 2))\n"));
+    assert_eq!((missing.status, missing.err.as_str()), (2, "none.tsv: cannot be read (No such file or directory (os error 2)); name a file that is there\n"));
     for arguments in [&[][..], &["job"], &["fly", "none.tsv"], &["draw", "none.tsv", "--rows"], &["answer", "--tsv", "--json", "-"]] {
         let outcome = call(arguments, b"");
         assert_eq!((outcome.status, outcome.out), (2, vec![]), "{arguments:?}");
