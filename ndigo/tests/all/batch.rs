@@ -135,7 +135,7 @@ fn the_order_is_that_of_the_input_whatever_the_number_of_jobs() {
 #[test]
 fn goes_on_after_a_bad_sheet() {
     let place = Place::new("bad");
-    let refused = place.put("refused.tsv", format!("{HEADINGS}A\t9\t9\t1\t\nB\t8\t8\t1\t\n"));
+    let refused = place.put("refused.tsv", format!("{HEADINGS}A\t9\t9\t5\tCCCC\nB\t8\t8\t4\tCCCC\n"));
     let faulty = place.put("faulty.tsv", GOOD.replace("\t30\t30\t", "\tthirty\t30\t"));
     let nothing = place.put("nothing.tsv", GOOD.replace("P\t5\tCCCCC", "P\t8\tCCCCCCCC"));
     let stopped = place.put("stopped.tsv", format!("{GOOD}setting\tvalue\nmaxpaths\t1\n"));
@@ -150,7 +150,7 @@ fn goes_on_after_a_bad_sheet() {
     assert_eq!(words[0], told("line 3", 8, "\"B\" starts at 8, but \"A\" on line 2 starts at 9; sort the rows by start, or call with --sort"));
     assert!(words[1].starts_with("line 3, column 2 (start): \"thirty\""), "{}", words[1]);
     assert_eq!(words[2], "cannot be read (No such file or directory (os error 2)); name a file that is there");
-    assert!(place.cells("warnings")[0].starts_with("line 2: \"A\" has no letters: "));
+    assert!(place.cells("warnings")[0].starts_with("line 2: \"A\" has size 5 and 4 letters; "));
     assert_eq!(place.run(&[good.clone(), refused.clone()], &[]).status, 1);
     assert_eq!(place.run(&[good, refused], &["--sort"]).status, 0);
 }
@@ -211,7 +211,7 @@ fn a_spoilt_job_that_moved() {
 #[test]
 fn a_job_whose_starts_fall() {
     let place = Place::new("falls");
-    let job = job(format!("{HEADINGS}A\t9\t9\t1\tA\nB\t8\t8\t1\tA\n\npart\tsize\tletters\nP\t1\tA\n"));
+    let job = job(format!("{HEADINGS}A\t9\t9\t4\tCCCC\nB\t8\t8\t4\tCCCC\n\npart\tsize\tletters\nP\t4\tCCCC\n"));
     let file = place.put("falls.job", job);
     assert_eq!(place.run(&[file.clone()], &[]).status, 1);
     let reason = "\"row-1\" starts at 8, but \"row-0\" starts at 9; sort the rows by start, or call with --sort";
