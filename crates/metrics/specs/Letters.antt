@@ -23,13 +23,13 @@ unfoldable pub hasCode : ℕ → Bool
 hasCode b =
     eqb b 65 || (eqb b 97 || (eqb b 71 || (eqb b 103 || (eqb b 67 || (eqb b 99 || (eqb b 84 || eqb b 116))))))
 
--- the setting `letters`: 0 is document 01's reading, in which every byte is read; 1 reads A, G, C and T in either case alone
+-- encoding one letter: its code, or that there is none
+unfoldable pub encoded : ℕ → Code
+encoded b = cond (hasCode b) (Letter (codeOf b)) NoCode
+
+-- the setting `letters`: 0 is document 01's reading, in which every byte is read; 1 reads only what has a code
 unfoldable pub readBy : ℕ → ℕ → Bool
 readBy reading b = eqb reading 0 || hasCode b
-
--- encoding one letter: its code, or that there is none
-unfoldable pub codeBy : ℕ → ℕ → Code
-codeBy reading b = cond (readBy reading b) (Letter (codeOf b)) NoCode
 
 -- letters are a base-4 number, first letter highest
 unfoldable pub numberOf : List ℕ → ℕ
