@@ -129,6 +129,7 @@ fn no_settings() -> Settings {
         fnmax: 0,
         pileupmax: 0,
         minkfreq: 0,
+        letters: 0,
         sizesim: 0.0,
         seqsim: 0.0,
         fpenalty: 0.0,
