@@ -61,7 +61,7 @@ fn write_floats(out: &mut [u8], at: usize, s: Settings)
     put_u32(out, at + 12, bits_of(s.gpenalty));
 }
 
-// The settings from position `at` on, as far as there is room.
+// The settings from position `at` on, as far as there is room. There is no place for `letters`.
 pub fn write_settings(out: &mut [u8], at: usize, s: Settings)
     ensures { λ _. ⌜ WriteSettingsPromise (now (out .entry)) at s (now (out .exit)) ⌝ }
 {

@@ -76,6 +76,7 @@ fn read_row(k: u8, letters: &mut [u8], table: &mut [i32], from: usize, width: us
         &letters[0..count],
         k,
         negative,
+        0,
         &mut table[from..from + width],
     );
 }

@@ -1,4 +1,4 @@
--- What a job's numbers are as values of their types, with at most 131,072 letters in a sequence and 1 to 16 haplotypes: every job that the writer accepts is such a one.
+-- What a job's numbers are as values of their types, with the setting `letters` 0, at most 131,072 letters in a sequence and 1 to 16 haplotypes: every job with that setting that the writer accepts is such a one.
 use Prim.Native.Nat.{ℕ, _≤_, _<_, _^_}
 use mathlib.Core.List.{List, [], _∷_}
 use mathlib.Core.Path.{_≡_}
