@@ -120,6 +120,16 @@ EntriesSum =
     (reads : ℕ → Bool) (k : ℕ) (negative : Bool) (letters : List ℕ)
     → entriesOf (countsReading reads k negative letters) ≡ signed negative (length (windowsReading reads k letters))
 
+-- by either reading
+unfoldable pub EntriesSumBy : Type 0
+EntriesSumBy =
+    (reading k : ℕ) (negative : Bool) (letters : List ℕ)
+    → entriesOf (countsBy reading k negative letters) ≡ signed negative (length (windowsReading (readBy reading) k letters))
+
+-- reading 0 is document 01's
+unfoldable pub ReadingZero : Type 0
+ReadingZero = (k : ℕ) (negative : Bool) (letters : List ℕ) → countsBy 0 k negative letters ≡ countsOf k negative letters
+
 -- "The entries sum to plus or minus (length - k + 1), or 0": every window is kept, and the difference is 0 where there are fewer than k letters
 unfoldable pub EntriesSumToLength : Type 0
 EntriesSumToLength =
