@@ -344,10 +344,19 @@ pub fn cost(call: &Call) -> u64 {
 fn read_by(r: &mut Random, job: &mut Job) {
     job.settings.letters = match r.below(20) {
         0..=8 => 1,
-        9 if r.chance(30) => r.pick(&[2, 3, 255, 256, 257, 0x0100_0000, u32::MAX]),
+        9 if r.chance(50) => r.pick(&[2, 3, 255, 256, 257, 0x0100_0000, u32::MAX]),
         _ => return,
     };
-    if job.settings.letters > 1 || r.chance(10) {
+    if job.settings.letters > 1 {
+        // beside a refusal that comes before it
+        match r.below(8) {
+            0 => job.settings.k = 7,
+            1 => job.settings.seqsim = f32::NAN,
+            _ => {}
+        }
+        return;
+    }
+    if r.chance(10) {
         return;
     }
     let k = usize::from(job.settings.k);
