@@ -164,10 +164,8 @@ fn no_window(variant: &Variant, k: u32, letters: u32) -> Option<Refusal> {
         format!("\"{}\" has {has} and k is {k}: it has no window of {window}, so nothing can match it; write all its letters,{k_instead}", variant.name())
     } else {
         let counts = if count >= k as usize { " set letters to 0, so that each counts as A," } else { "" };
-        format!(
-            "\"{}\" has {has}, {unread} of them not A, G, C or T, and k is {k}: with letters 1 it has no window of {window}, so nothing can match it; write the letters that were read,{k_instead}{counts}",
-            variant.name()
-        )
+        let nothing = format!("with letters 1 it has no window of {window}, so nothing can match it");
+        format!("\"{}\" has {has}, {unread} of them not A, G, C or T, and k is {k}: {nothing}; write the letters that were read,{k_instead}{counts}", variant.name())
     };
     Some(at(16, variant.line(), format!("{words} or leave the row out")))
 }

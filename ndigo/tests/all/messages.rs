@@ -333,7 +333,10 @@ fn nothing_to_refuse() {
 #[test]
 fn the_limits_themselves_are_accepted() {
     let six_letters = GOOD.replace("AGCT", "AGCTAG").replace("CCCCC", "CCCCCC");
-    for row in ["k\t6", "maxpaths\t4095", "maxnodes\t65535", "fnmax\t65535", "pileupmax\t12", "minkfreq\t16777216", "letters\t0", "letters\t1", "sizesim\t1", "seqsim\t-0", "fpenalty\t1000", "gpenalty\t0"] {
+    for row in [
+        "k\t6", "maxpaths\t4095", "maxnodes\t65535", "fnmax\t65535", "pileupmax\t12", "minkfreq\t16777216", "letters\t0", "letters\t1", "sizesim\t1", "seqsim\t-0",
+        "fpenalty\t1000", "gpenalty\t0",
+    ] {
         for command in ["check", "answer"] {
             assert_eq!(ask(command, format!("{six_letters}setting\tvalue\n{row}\n"), &[]).status, 0, "{row}");
         }
