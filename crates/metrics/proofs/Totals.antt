@@ -174,8 +174,11 @@ passed-tests k reading s row false high other room true a b o c d e =
 passed-tests k reading s row true false other room true a b o c d e =
     let z = ap countedNumber (simp (a, b, d) at e) in
     absurd (omega arith)
-passed-tests k reading s row true true true room true a b o c d e =
-    let z = ap countedNumber (simp (a, b, o, d) at e) in
+passed-tests k reading s row true true true false true a b o c d e =
+    let z = ap countedNumber (simp (a, b, o, c, d) at e) in
+    absurd (omega arith)
+passed-tests k reading s row true true true true true a b o c d e =
+    let z = ap countedNumber (simp (a, b, o, c, d) at e) in
     absurd (omega arith)
 passed-tests k reading s row true true false false true a b o c d e =
     let z = ap countedNumber (simp (a, b, o, c, d) at e) in

@@ -24,7 +24,7 @@ pub enum Code {
     NoCode,
 }
 
-// A, G, C and T give 0, 1, 2, 3 in either case; any other byte has no code. Written from T to A: in that order the compiler folds the whole of `code_table`.
+// A, G, C and T give 0, 1, 2, 3 in either case; any other byte has no code.
 fn encode_nuc(b: u8) -> Code
     ensures { λ r. ⌜ r ≡ encoded b ⌝ }
 {

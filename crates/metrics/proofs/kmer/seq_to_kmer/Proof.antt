@@ -2,7 +2,7 @@
 use Rattle.metrics.specs.Letters.{counterAnswer}
 use borrow.Author.Needs.{needs}
 use mathlib.Core.Path.{_≡_, refl, ap, _∙_}
-use Prim.Native.Nat.{ℕ, _^_}
+use Prim.Native.Nat.{ℕ, _^_, _<_}
 use native.Mathlib.Omega.{arith}
 use lib.IntN.{pos}
 use lib.ListN.{replicate}
@@ -32,7 +32,9 @@ returns-2 c = (rw (le-leb _ _ (c .before .if1 .left), lt-leb _ _ (c .if2 .taken)
 
 returns-3 : tie.Need-returns-3
 unfolding counterAnswer
-returns-3 c = (rw (le-leb _ _ (c .before .before .if1 .left), le-leb _ _ (c .before .if2 .left), lt-ltb _ _ (c .if3 .taken)), refl)
+returns-3 c =
+    let other : 1 < c .before .before .before .before .args .letters = omega arith in
+    (rw (le-leb _ _ (c .before .before .if1 .left), le-leb _ _ (c .before .if2 .left), lt-ltb 1 _ other), refl)
 
 entries-requires : tie.Need-entries-requires
 entries-requires c κs = search needs
