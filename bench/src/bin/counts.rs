@@ -21,12 +21,13 @@ fn told(name: &str, inputs: usize, mut call: impl FnMut(usize)) {
     mark();
 }
 
-fn counter(name: &str, k: u8, count: usize) {
+/// By a reading of letters, of which one in so many is an N, or none.
+fn counter(name: &str, k: u8, count: usize, letters: u8, one_in: Option<usize>) {
     let mut random = Random::new(1);
-    let letters: Vec<Vec<u8>> = (0..4).map(|_| random.letters(count)).collect();
+    let texts: Vec<Vec<u8>> = (0..4).map(|_| random.letters_with_n(count, one_in)).collect();
     let mut row = vec![0i32; 1 << (2 * k as usize)];
-    told(name, letters.len(), |at| {
-        black_box(seq_to_kmer_into(&letters[at], k, false, &mut row).is_ok());
+    told(name, texts.len(), |at| {
+        black_box(seq_to_kmer_into(&texts[at], k, false, letters, &mut row).is_ok());
     });
 }
 
@@ -51,7 +52,13 @@ fn main() {
         for count in [50, 100, 1_000, 100_000] {
             let name = format!("counter, k {k}, {count} letters");
             if name.contains(only) {
-                counter(&name, k, count);
+                counter(&name, k, count, 0, None);
+            }
+            for (one_in, kind) in [(None, "no N"), (Some(10), "one N in 10")] {
+                let name = format!("reading 1, k {k}, {count} letters, {kind}");
+                if name.contains(only) {
+                    counter(&name, k, count, 1, one_in);
+                }
             }
         }
     }

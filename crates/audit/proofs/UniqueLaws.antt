@@ -3,7 +3,7 @@ use mathlib.Core.Path.{_≡_, sym, ap, _∙_}
 use mathlib.Core.Bool.{Bool, false}
 use mathlib.Core.List.{List}
 use Prim.Native.Nat.{ℕ}
-use Rattle.metrics.specs.Letters.{countsOf, rowAfter}
+use Rattle.metrics.specs.Letters.{countsBy, rowAfter}
 use Rattle.form.specs.Job.{jobBytes}
 use Rattle.writer.specs.Writing.{jobFrom, outAfter}
 use Rattle.text.specs.Written.{Written}
@@ -76,7 +76,7 @@ unique = record {
   seqsim = λ a b minkfreq. one;
   bits-of = λ x. one;
   overlaps = λ s1 e1 s2 e2. one;
-  seq-to-kmer = λ seq k negative out. through (λ r. rowAfter r (countsOf k negative seq) out);
+  seq-to-kmer = λ seq k negative reading out. through (λ r. rowAfter r (countsBy reading k negative seq) out);
   clear-row = λ row. one;
   entries = λ k. one;
   magnitude = λ x. one;
@@ -126,7 +126,7 @@ unique = record {
   together = λ starts ends sheet rows a b. one;
   count = λ starts ends sheet rows row. one;
   answer = λ input out. two;
-  nd-seq-to-kmer = λ letters k negative row. two;
+  nd-seq-to-kmer = λ text k negative reading row. two;
   nd-seqsim = λ a b minkfreq place. two;
   nd-sizesim = λ a b place. two;
   nd-count-chains = λ starts ends full cap count. two;

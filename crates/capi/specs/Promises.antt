@@ -7,7 +7,7 @@ use mathlib.Core.List.{List}
 use lib.IntN.{ℤ}
 use lib.Ieee.{Float}
 use lib.ListN.{length}
-use Rattle.metrics.specs.Letters.{countsOf, counterAnswer, countedNumber, rowAfter}
+use Rattle.metrics.specs.Letters.{countsBy, counterAnswer, countedNumber, rowAfter}
 use Rattle.metrics.specs.Placed.{placed}
 use Rattle.metrics.specs.Similarity.{sizesimOf, seqsimOf, number, value}
 use Rattle.kplib.specs.Graph.{cappedCount, countNumber, countValue}
@@ -22,9 +22,9 @@ use Rattle.companions.specs.Questions.{pairOf, laterIn, pairNumber, pairYes, la
 use Rattle.companions.specs.Promises.{AddPromise, RemovePromise}
 use Rattle.capi.specs.Words.{settingsOfWords}
 
-abbrev pub NdSeqToKmerPromise : List ℕ → ℕ → Bool → List ℤ → List ℤ → ℕ → Type 0
-NdSeqToKmerPromise letters k negative row row' r =
-    (r ≡ countedNumber (counterAnswer k letters row)) × (row' ≡ rowAfter (counterAnswer k letters row) (countsOf k negative letters) row)
+abbrev pub NdSeqToKmerPromise : List ℕ → ℕ → Bool → ℕ → List ℤ → List ℤ → ℕ → Type 0
+NdSeqToKmerPromise text k negative reading row row' r =
+    (r ≡ countedNumber (counterAnswer k reading text row)) × (row' ≡ rowAfter (counterAnswer k reading text row) (countsBy reading k negative text) row)
 
 abbrev pub NdSeqsimPromise : List ℤ → List ℤ → ℕ → Float → Float → ℕ → Type 0
 NdSeqsimPromise a b minkfreq place place' r = (r ≡ number (seqsimOf a b minkfreq)) × (place' ≡ value (seqsimOf a b minkfreq))

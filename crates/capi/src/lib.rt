@@ -18,10 +18,16 @@ use metrics::refusals::ACCEPTED;
 mod words;
 
 #[no_mangle]
-pub extern "C" fn nd_seq_to_kmer(letters: &[u8], k: u8, negative: bool, row: &mut [i32]) -> u32
-    ensures { λ r. ⌜ NdSeqToKmerPromise (now (letters .entry)) k negative (now (row .entry)) (now (row .exit)) r ⌝ }
+pub extern "C" fn nd_seq_to_kmer(
+    text: &[u8],
+    k: u8,
+    negative: bool,
+    letters: u8,
+    row: &mut [i32],
+) -> u32
+    ensures { λ r. ⌜ NdSeqToKmerPromise (now (text .entry)) k negative letters (now (row .entry)) (now (row .exit)) r ⌝ }
 {
-    let counted = metrics::kmer::seq_to_kmer(letters, k, negative, row);
+    let counted = metrics::kmer::seq_to_kmer(text, k, negative, letters, row);
     match counted {
         Counted::Done => ACCEPTED,
         Counted::Refused(n) => n,
@@ -97,7 +103,7 @@ pub extern "C" fn nd_answer(job: &[u8], text: &mut [u8; 8192]) -> u32
 // The queue's content is open after a search, and only then.
 #[no_mangle]
 pub extern "C" fn nd_apply_haplotype(
-    settings: &[u32; 13],
+    settings: &[u32; 14],
     starts: &[u64],
     ends: &[u64],
     sizes: &[i32],
@@ -137,7 +143,7 @@ pub extern "C" fn nd_apply_haplotype(
 // Several haplotypes over one table; each has its refusal and its answer in its own eight words of the reports.
 #[no_mangle]
 pub extern "C" fn nd_apply_haplotypes(
-    settings: &[u32; 13],
+    settings: &[u32; 14],
     starts: &[u64],
     ends: &[u64],
     sizes: &[i32],

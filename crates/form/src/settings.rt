@@ -12,7 +12,7 @@ ghost use lib.Seq.{sets};
 ghost use Rattle.form.specs.Settings40.{numberBytes, floatBytes, flag};
 ghost use Rattle.form.specs.Promises.{ReadSettingsPromise, WriteSettingsPromise};
 
-// The settings that b begins with.
+// The settings that b begins with. The 40 bytes have no place for `letters`: they are 0.
 pub fn read_settings(b: &[u8]) -> Settings
     ensures { λ r. ⌜ ReadSettingsPromise (now (b .entry)) r ⌝ }
 {
@@ -26,6 +26,7 @@ pub fn read_settings(b: &[u8]) -> Settings
         fnmax: u32_at(b, 12),
         pileupmax: u32_at(b, 16),
         minkfreq: u32_at(b, 20),
+        letters: 0,
         sizesim: float_of(u32_at(b, 24)),
         seqsim: float_of(u32_at(b, 28)),
         fpenalty: float_of(u32_at(b, 32)),
@@ -60,7 +61,7 @@ fn write_floats(out: &mut [u8], at: usize, s: Settings)
     put_u32(out, at + 12, bits_of(s.gpenalty));
 }
 
-// The settings from position `at` on, as far as there is room.
+// The settings from position `at` on, as far as there is room. There is no place for `letters`.
 pub fn write_settings(out: &mut [u8], at: usize, s: Settings)
     ensures { λ _. ⌜ WriteSettingsPromise (now (out .entry)) at s (now (out .exit)) ⌝ }
 {

@@ -60,7 +60,10 @@ fn bad_number(s: Settings) -> bool
     if s.pileupmax > 12 {
         return true;
     }
-    s.minkfreq > 16777216
+    if s.minkfreq > 16777216 {
+        return true;
+    }
+    s.letters > 1
 }
 
 // The first of the settings' refusals.
