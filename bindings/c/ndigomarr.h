@@ -56,6 +56,10 @@ enum nd_refusal {
     ND_REFUSED_LITTLE_TEXT_ROOM = 43, /* too little room for BED text */
     ND_REFUSED_MISSING_ROW = 44, /* a row that isn't there */
     ND_REFUSED_NOT_ITS_SHEET = 49, /* a sheet that isn't its table's, or a table that breaks 5 to 8 */
+    ND_REFUSED_BAD_SAMPLES = 50, /* a sample count not 1 to 8 */
+    ND_REFUSED_NO_SUCH_SAMPLE = 51, /* a sample index at or above the sample count */
+    ND_REFUSED_UNEQUAL_SAMPLES = 52, /* unequal sample counts */
+    ND_REFUSED_COVERAGE_OVERFLOW = 53, /* a coverage sum passes 64 bits */
 };
 
 /* The table's words for a refusal's number, for a message. */
@@ -93,6 +97,10 @@ static inline const char *nd_refusal_text(uint32_t number)
     case ND_REFUSED_LITTLE_TEXT_ROOM: return "too little room for BED text";
     case ND_REFUSED_MISSING_ROW: return "a row that isn't there";
     case ND_REFUSED_NOT_ITS_SHEET: return "a sheet that isn't its table's, or a table that breaks 5 to 8";
+    case ND_REFUSED_BAD_SAMPLES: return "a sample count not 1 to 8";
+    case ND_REFUSED_NO_SUCH_SAMPLE: return "a sample index at or above the sample count";
+    case ND_REFUSED_UNEQUAL_SAMPLES: return "unequal sample counts";
+    case ND_REFUSED_COVERAGE_OVERFLOW: return "a coverage sum passes 64 bits";
     default: return "not in the table of refusals";
     }
 }
