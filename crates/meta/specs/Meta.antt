@@ -36,6 +36,12 @@ abbrev pub madeUnless : ℕ → HaplotypeMeta → Made
 madeUnless zero m = record { refusal = 0; meta = m }
 madeUnless (suc f) m = record { refusal = suc f; meta = blankOf 1 }
 
+abbrev pub newMade : ℕ → ℕ → Made
+newMade i n = madeUnless (newFault i n) (newOf i n)
+
+abbrev pub blankMade : ℕ → Made
+blankMade n = madeUnless (countFault n) (blankOf n)
+
 -- ---- combining
 
 -- the first n entries of both joined, two at a time; those behind stay the left's own
@@ -79,3 +85,6 @@ combinedOf a b = record {
 abbrev pub combinedUnless : ℕ → HaplotypeMeta → HaplotypeMeta → Combined
 combinedUnless zero a b = record { refusal = 0; left = combinedOf a b; right = b }
 combinedUnless (suc f) a b = record { refusal = suc f; left = a; right = b }
+
+abbrev pub combinedTwo : HaplotypeMeta → HaplotypeMeta → Combined
+combinedTwo a b = combinedUnless (combineFault a b) a b

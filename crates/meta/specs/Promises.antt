@@ -3,20 +3,20 @@
 use Prim.Native.Nat.{ℕ}
 use mathlib.Core.Path.{_≡_}
 use mathlib.Core.List.{List}
-use Rattle.meta.specs.Meta.{blankOf, newOf, countFault, newFault, madeUnless, combineFault, combinedUnless}
+use Rattle.meta.specs.Meta.{newMade, blankMade, combinedTwo}
 use Rattle.meta.specs.Words.{metaOfWords, wordsOfMeta}
 use Rattle.meta.specs.declared.HaplotypeMeta.{HaplotypeMeta}
 use Rattle.meta.specs.declared.Made.{Made}
 use Rattle.meta.specs.declared.Combined.{Combined}
 
 abbrev pub NewPromise : ℕ → ℕ → Made → Type 0
-NewPromise index samples r = r ≡ madeUnless (newFault index samples) (newOf index samples)
+NewPromise index samples r = r ≡ newMade index samples
 
 abbrev pub NewBlankPromise : ℕ → Made → Type 0
-NewBlankPromise samples r = r ≡ madeUnless (countFault samples) (blankOf samples)
+NewBlankPromise samples r = r ≡ blankMade samples
 
 abbrev pub CombinePromise : HaplotypeMeta → HaplotypeMeta → Combined → Type 0
-CombinePromise left right r = r ≡ combinedUnless (combineFault left right) left right
+CombinePromise left right r = r ≡ combinedTwo left right
 
 abbrev pub MetaOfWordsPromise : List ℕ → HaplotypeMeta → Type 0
 MetaOfWordsPromise words r = r ≡ metaOfWords words

@@ -1,6 +1,4 @@
 -- Each array by its own call; the sums fit, since nothing refuses the combining. Assumes nothing.
-use mathlib.Core.Path.{_≡_}
-use Rattle.meta.specs.Meta.{combineFault}
 use Rattle.meta.proofs.FaultLaws.{combine-within, combine-fits, combined-whole}
 use Rattle.meta.proofs.both_as_one.Statement.{statement}
 use Rattle.meta.proofs.both_as_one.Tie as tie

@@ -1,5 +1,5 @@
 -- Both as they were on a refusal; else the two as one, which nothing refuses. Assumes nothing.
-use mathlib.Core.Path.{_≡_, sym, _∙_}
+use mathlib.Core.Path.{sym, _∙_}
 use borrow.Author.Needs.{needs}
 use Rattle.meta.proofs.FaultLaws.{combined-refused, combined}
 use Rattle.meta.proofs.combine.Statement.{statement}

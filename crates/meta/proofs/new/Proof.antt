@@ -1,10 +1,9 @@
 -- A refusal and a blank of one sample, or one read of the sample: its flag fits, since its index is below eight. Assumes nothing.
 use native.Mathlib.Omega.{arith}
-use mathlib.Core.Path.{_≡_, refl, sym, ap, _∙_}
+use mathlib.Core.Path.{sym, ap, _∙_}
 use borrow.Author.Needs.{needs}
 use Prim.Native.Nat.{ℕ, _<_}
 use lib.ListN.{set, replicate}
-use Rattle.meta.specs.Meta.{newOf}
 use Rattle.meta.specs.declared.HaplotypeMeta.{HaplotypeMeta}
 use Rattle.meta.proofs.FaultLaws.{new-inside, flag-fits, made-refused, made}
 use Rattle.meta.proofs.new.Statement.{statement}

@@ -1,7 +1,7 @@
 -- The first i entries are kept or taken, the others the left's. Assumes nothing.
-use Prim.Native.Nat.{_+_, _-_, _≤_}
+use Prim.Native.Nat.{_-_, _≤_}
 use native.Mathlib.Omega.{arith}
-use mathlib.Core.Path.{_≡_, refl}
+use mathlib.Core.Path.{_≡_}
 use borrow.Author.Needs.{needs}
 use Rattle.meta.specs.Meta.{joinedFirst, leftElseRight}
 use Rattle.meta.proofs.JoinLaws.{joined-none, joined-more}

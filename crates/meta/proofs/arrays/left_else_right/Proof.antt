@@ -1,5 +1,4 @@
 -- 0 is an absent tag. Assumes nothing.
-use mathlib.Core.Path.{refl}
 use borrow.Author.Tests.{eq-eqb, ne-eqb}
 use Rattle.meta.proofs.arrays.left_else_right.Statement.{statement}
 use Rattle.meta.proofs.arrays.left_else_right.Tie as tie

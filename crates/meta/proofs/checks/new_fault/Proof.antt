@@ -1,5 +1,5 @@
 -- The count first, then the index. Assumes nothing.
-use mathlib.Core.Path.{_≡_, sym, _∙_}
+use mathlib.Core.Path.{sym, _∙_}
 use borrow.Author.Needs.{needs}
 use Rattle.meta.proofs.FaultLaws.{new-count, new-index, new-fine}
 use Rattle.meta.proofs.checks.new_fault.Statement.{statement}
