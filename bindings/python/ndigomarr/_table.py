@@ -5,16 +5,19 @@ from typing import Optional, Union
 
 from ._lent import Numbers, array
 from ._library import seq_to_kmer
+from ._meta import HaplotypeMeta
 
 Letters = Union[str, bytes]
 
 
 
 class Haplotype:
-    """A haplotype: its parts in order."""
+    """A haplotype: its parts in order, and whose reads it came from where the caller says: `meta`, which no search looks at and every answer,
+    a refused one too, hands back."""
 
-    def __init__(self, k: int) -> None:
+    def __init__(self, k: int, meta: Optional[HaplotypeMeta] = None) -> None:
         self.k = k
+        self.meta = meta
         self.sizes = flat.array("i")
         self.features = flat.array("i")
 

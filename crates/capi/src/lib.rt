@@ -328,10 +328,10 @@ pub extern "C" fn nd_meta_new(index: u64, samples: u64, meta: &mut [u64; 28]) ->
 pub extern "C" fn nd_meta_blank(samples: u64, meta: &mut [u64; 28]) -> u32
     ensures { λ r. ⌜ NdMetaBlankPromise samples (now (meta .entry)) (now (meta .exit)) r ⌝ }
 {
-    let made = meta::new_blank(samples);
-    let one = made.meta;
-    *meta = words_of_meta(one);
-    made.refusal
+    let told = meta::new_blank(samples);
+    let blank = told.meta;
+    *meta = words_of_meta(blank);
+    told.refusal
 }
 
 // The two combined, on the left, which a refusal leaves as it was.
