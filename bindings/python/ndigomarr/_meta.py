@@ -12,7 +12,7 @@ _PLACES = 8
 
 def _eight(numbers: List[int]) -> List[int]:
     """The first eight, with zeros behind them where they are fewer."""
-    return (numbers + [0] * _PLACES)[:_PLACES]
+    return (list(numbers) + [0] * _PLACES)[:_PLACES]
 
 
 def _plus_one(tags: List[Optional[int]], limit: int) -> List[int]:
