@@ -27,7 +27,7 @@ newOf i n = record { id = 0; samples = n; «samples_flag» = 2 ^ i; coverage = s
 unfoldable pub countFault : ℕ → ℕ
 countFault n = firstOf (rule 50 (badSamples n) ∷ [])
 
--- 51: a sample index at or above the count
+-- 51: a sample index at or above the sample count
 unfoldable pub newFault : ℕ → ℕ → ℕ
 newFault i n = firstOf (rule 50 (badSamples n) ∷ (rule 51 (leb n i) ∷ []))
 
