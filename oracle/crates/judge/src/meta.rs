@@ -142,8 +142,9 @@ fn drawn(r: &mut Random, samples: u64) -> Words {
     (words[0], words[1], words[2], words[27]) = (r.next() >> r.below(64), samples, r.next() >> r.below(64), r.below(2));
     for i in 0..PLACES {
         words[COVERAGE + i] = if large && r.chance(30) { u64::MAX - r.below(3) } else { r.below(4) };
-        words[PS + i] = if r.chance(50) { 0 } else { r.pick(&[1, 2, ps, r.below(1000) + 1]) };
-        words[HP + i] = if r.chance(50) { 0 } else { r.pick(&[1, 2, hp, r.below(255) + 1]) };
+        let (some_ps, some_hp) = (r.below(1000) + 1, r.below(255) + 1);
+        words[PS + i] = if r.chance(50) { 0 } else { r.pick(&[1, 2, ps, some_ps]) };
+        words[HP + i] = if r.chance(50) { 0 } else { r.pick(&[1, 2, hp, some_hp]) };
     }
     words
 }
