@@ -237,6 +237,32 @@ static void companions(void)
     expect("what is left", rows == 2 && !sheet[2] && !sheet[64 + 2] && starts[2] == 10, 1);
 }
 
+/* Two reads of two samples, combined. */
+static void data(void)
+{
+    uint64_t left[ND_META_LEN], right[ND_META_LEN];
+    expect("a read of the first of two", nd_meta_new(0, 2, left), ND_ACCEPTED);
+    expect("a read of the second", nd_meta_new(1, 2, right), ND_ACCEPTED);
+    left[ND_META_ID] = 31;
+    left[ND_META_PS] = 5 + 1;
+    right[ND_META_PS] = 6 + 1;
+    right[ND_META_PS + 1] = 7 + 1;
+    expect("combined", nd_meta_combine(left, right), ND_ACCEPTED);
+    expect("its id and count", left[ND_META_ID] == 31 && left[ND_META_SAMPLES] == 2, 1);
+    expect("its flags", left[ND_META_FLAGS] == 3, 1);
+    expect("its coverage", left[ND_META_COVERAGE] == 1 && left[ND_META_COVERAGE + 1] == 1, 1);
+    expect("its phase sets", left[ND_META_PS] == 6 && left[ND_META_PS + 1] == 8, 1);
+    left[ND_META_COVERAGE] = UINT64_MAX;
+    right[ND_META_COVERAGE] = 1;
+    expect("a sum past 64 bits", nd_meta_combine(left, right), ND_REFUSED_COVERAGE_OVERFLOW);
+    expect("the left then", left[ND_META_COVERAGE] == UINT64_MAX && left[ND_META_PS + 1] == 8, 1);
+    expect("three samples", nd_meta_blank(3, right), ND_ACCEPTED);
+    expect("with two", nd_meta_combine(left, right), ND_REFUSED_UNEQUAL_SAMPLES);
+    expect("nine samples", nd_meta_blank(9, right), ND_REFUSED_BAD_SAMPLES);
+    expect("a blank of one then", right[ND_META_SAMPLES] == 1 && right[ND_META_FLAGS] == 0 && right[ND_META_ZERO] == 0, 1);
+    expect("the fourth of three", nd_meta_new(3, 3, right), ND_REFUSED_NO_SUCH_SAMPLE);
+}
+
 static void similarities(void)
 {
     float value = 2;
@@ -264,6 +290,7 @@ int main(void)
     program_text();
     bed();
     companions();
+    data();
     similarities();
     puts(failed ? "the " LANGUAGE " binding differs" : "the " LANGUAGE " binding agrees");
     return failed;

@@ -5,7 +5,7 @@
  * that is not null.
  * Each but nd_answer, which returns a length, returns 0 or the number of a refusal. On a refusal
  * every lent buffer is as it was, but for *place, *count, *yes, the report of one search, the counts
- * and *written, which are then 0.
+ * and *written, which are then 0, and for data that was to be made, which is then a blank of one sample.
  *
  * What a call promises is proved of the Rattle source; tools/prototypes holds this header to it.
  */
@@ -22,7 +22,7 @@ extern "C" {
 
 /* The refusals, each with the table's words. 1 to 14, 16 and 27 are returned, and some of them stand in
  * nd_answer's text too; 20 to 26 stand there alone; 30 is the Rattle reader's and writer's; 40 to
- * 44 are BED's; 44 and 49 the companions sheet's.
+ * 44 are BED's; 44 and 49 the companions sheet's; 50 to 53 those of a haplotype's data.
  * Made from docs/refusals.tsv by tools/refusals --write. */
 enum nd_refusal {
     ND_ACCEPTED = 0,
@@ -56,6 +56,10 @@ enum nd_refusal {
     ND_REFUSED_LITTLE_TEXT_ROOM = 43, /* too little room for BED text */
     ND_REFUSED_MISSING_ROW = 44, /* a row that isn't there */
     ND_REFUSED_NOT_ITS_SHEET = 49, /* a sheet that isn't its table's, or a table that breaks 5 to 8 */
+    ND_REFUSED_BAD_SAMPLES = 50, /* a sample count not 1 to 8 */
+    ND_REFUSED_NO_SUCH_SAMPLE = 51, /* a sample index at or above the sample count */
+    ND_REFUSED_UNEQUAL_SAMPLES = 52, /* unequal sample counts */
+    ND_REFUSED_COVERAGE_OVERFLOW = 53, /* a coverage sum passes 64 bits */
 };
 
 /* The table's words for a refusal's number, for a message. */
@@ -93,6 +97,10 @@ static inline const char *nd_refusal_text(uint32_t number)
     case ND_REFUSED_LITTLE_TEXT_ROOM: return "too little room for BED text";
     case ND_REFUSED_MISSING_ROW: return "a row that isn't there";
     case ND_REFUSED_NOT_ITS_SHEET: return "a sheet that isn't its table's, or a table that breaks 5 to 8";
+    case ND_REFUSED_BAD_SAMPLES: return "a sample count not 1 to 8";
+    case ND_REFUSED_NO_SUCH_SAMPLE: return "a sample index at or above the sample count";
+    case ND_REFUSED_UNEQUAL_SAMPLES: return "unequal sample counts";
+    case ND_REFUSED_COVERAGE_OVERFLOW: return "a coverage sum passes 64 bits";
     default: return "not in the table of refusals";
     }
 }
@@ -262,6 +270,33 @@ uint32_t nd_companions_count(const uint64_t starts[ND_COMPANION_ROWS],
                              const uint64_t ends[ND_COMPANION_ROWS],
                              const bool sheet[ND_COMPANION_FLAGS], uint32_t rows, uint32_t row,
                              uint32_t *count);
+
+/* Whose reads a haplotype came from: the data of 1 to 8 samples in ND_META_LEN words. Entry i of the
+ * eights is sample i's; those at and behind the count are nobody's. A search has no use for the data: a
+ * caller keeps it beside the haplotype, and it goes with the answer, a refused one too. */
+enum nd_meta {
+    ND_META_ID,
+    ND_META_SAMPLES,       /* how many there are, 1 to 8 */
+    ND_META_FLAGS,         /* bit i where sample i has a read */
+    ND_META_COVERAGE,      /* eight: how many reads each has */
+    ND_META_PS = 11,       /* eight phase sets: 0 absent, else the value + 1 */
+    ND_META_HP = 19,       /* eight haplotype tags: 0 absent, else the value + 1 */
+    ND_META_ZERO = 27,     /* written as 0, and not looked at */
+    ND_META_LEN
+};
+
+/* One read of sample index of so many. Refuses by 50 (samples not 1 to 8), 51 (index at or above
+ * them); meta is then a blank of one sample. */
+uint32_t nd_meta_new(uint64_t index, uint64_t samples, uint64_t meta[ND_META_LEN]);
+
+/* No read of any of so many samples. Refuses by 50; meta is then a blank of one sample. */
+uint32_t nd_meta_blank(uint64_t samples, uint64_t meta[ND_META_LEN]);
+
+/* The two combined, on the left: the samples' coverages added, the right's phase sets and tags where
+ * the left has none, the flags joined; the id, and the entries at and behind the count, stay the
+ * left's. Refuses by 50 (either's count not 1 to 8), 52 (unequal counts), 53 (a sum passes 64 bits);
+ * left is then as it was. */
+uint32_t nd_meta_combine(uint64_t left[ND_META_LEN], const uint64_t right[ND_META_LEN]);
 
 #ifdef __cplusplus
 }

@@ -166,3 +166,19 @@ def declare(library: ctypes.CDLL) -> None:
         ctypes.c_uint32,
         ctypes.POINTER(ctypes.c_uint32),
     ]
+    library.nd_meta_new.restype = ctypes.c_uint32
+    library.nd_meta_new.argtypes = [
+        ctypes.c_uint64,
+        ctypes.c_uint64,
+        ctypes.POINTER(ctypes.c_uint64),
+    ]
+    library.nd_meta_blank.restype = ctypes.c_uint32
+    library.nd_meta_blank.argtypes = [
+        ctypes.c_uint64,
+        ctypes.POINTER(ctypes.c_uint64),
+    ]
+    library.nd_meta_combine.restype = ctypes.c_uint32
+    library.nd_meta_combine.argtypes = [
+        ctypes.POINTER(ctypes.c_uint64),
+        ctypes.POINTER(ctypes.c_uint64),
+    ]

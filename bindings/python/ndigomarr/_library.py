@@ -3,7 +3,7 @@ import ctypes
 import os
 import pathlib
 from dataclasses import dataclass
-from typing import Iterable, List, Tuple, Union
+from typing import Any, Iterable, List, Tuple, Union
 
 from ._exports import declare
 from ._lent import Numbers, array, octet, text_of, word
@@ -37,20 +37,21 @@ LIBRARY = _load()
 
 
 class Refused(ValueError):
-    """A call that the rules refuse. `number` stands in the table of refusals with its `name` and its `words`."""
+    """A call that the rules refuse. `number` stands in the table of refusals with its `name` and its `words`; `meta` is the data that the
+    haplotype of a refused search carried."""
 
-    def __init__(self, number: int) -> None:
-        self.number = number
+    def __init__(self, number: int, meta: Any = None) -> None:
+        self.number, self.meta = number, meta
         self.name, self.words = TABLE.get(number, ("OTHER", "not in the table of refusals"))
         super().__init__(f"refused {number}: {self.words}")
 
     def __reduce__(self):  # type: ignore[no-untyped-def]
-        return Refused, (self.number,)
+        return Refused, (self.number, self.meta)
 
 
-def accepted(number: int) -> None:
+def accepted(number: int, meta: Any = None) -> None:
     if number:
-        raise Refused(number)
+        raise Refused(number, meta)
 
 
 def entries(k: int) -> int:

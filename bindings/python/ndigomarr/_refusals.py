@@ -32,4 +32,8 @@ TABLE: Dict[int, Tuple[str, str]] = {
     43: ("LITTLE_TEXT_ROOM", "too little room for BED text"),
     44: ("MISSING_ROW", "a row that isn't there"),
     49: ("NOT_ITS_SHEET", "a sheet that isn't its table's, or a table that breaks 5 to 8"),
+    50: ("BAD_SAMPLES", "a sample count not 1 to 8"),
+    51: ("NO_SUCH_SAMPLE", "a sample index at or above the sample count"),
+    52: ("UNEQUAL_SAMPLES", "unequal sample counts"),
+    53: ("COVERAGE_OVERFLOW", "a coverage sum passes 64 bits"),
 }

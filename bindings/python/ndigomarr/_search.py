@@ -7,6 +7,7 @@ from typing import Any, List, Optional, Sequence, Union
 
 from ._lent import array, word
 from ._library import LIBRARY, Refused, accepted
+from ._meta import HaplotypeMeta
 from ._settings import Settings, Words
 from ._table import Haplotype, Table
 
@@ -31,6 +32,8 @@ class Answer:
     """How many paths were scored."""
     complete: bool
     """Whether these were all paths. If not, a better one may exist."""
+    meta: Optional[HaplotypeMeta] = None
+    """The data that the haplotype carried, unchecked and unchanged."""
 
 
 def words_of(settings: Settings) -> Words:
@@ -57,11 +60,11 @@ def _given(numbers: Any, kind: Any) -> Any:
     return lent, len(lent)
 
 
-def _answer(report: Any, rows: Any, records: Any) -> Answer:
-    """The answer that the seven words of a report tell, with as many rows and records as it counts."""
+def _answer(report: Any, rows: Any, records: Any, meta: Optional[HaplotypeMeta]) -> Answer:
+    """The answer that the seven words of a report tell, with as many rows and records as it counts, and the haplotype's data."""
     count, target, score, sizesim, seqsim, scored, complete = report
     left_out = target - 1 if target else None
-    return Answer(list(rows[:count]), list(records[:count]), left_out, float_of(score), float_of(sizesim), float_of(seqsim), scored, complete == 1)
+    return Answer(list(rows[:count]), list(records[:count]), left_out, float_of(score), float_of(sizesim), float_of(seqsim), scored, complete == 1, meta)
 
 
 def _read_alike(counted: Union[Table, Haplotype], settings: Settings) -> Any:
@@ -77,7 +80,7 @@ def _table(table: Table, settings: Settings) -> Any:
 
 
 def apply_haplotype(settings: Settings, table: Table, haplotype: Haplotype) -> Answer:
-    """The path of the table that best explains the haplotype. A call that the rules refuse raises :class:`Refused`."""
+    """The path of the table that best explains the haplotype. A call that the rules refuse raises :class:`Refused`. Either has the haplotype's data."""
     u32, u64, i32 = ctypes.c_uint32, ctypes.c_uint64, ctypes.c_int32
     words = words_of(settings)
     room = queue_room(settings, len(table))
@@ -85,15 +88,15 @@ def apply_haplotype(settings: Settings, table: Table, haplotype: Haplotype) -> A
     rows, records, report = (u32 * len(table))(), (u32 * len(table))(), (u32 * 7)()
     accepted(LIBRARY.nd_apply_haplotype(
         ctypes.byref(words), *_table(table, settings), *_given(haplotype.sizes, i32), *_given(_read_alike(haplotype, settings), i32),
-        links, room, keys, room, rows, len(rows), records, len(records), report))
-    return _answer(report, rows, records)
+        links, room, keys, room, rows, len(rows), records, len(records), report), haplotype.meta)
+    return _answer(report, rows, records, haplotype.meta)
 
 
 def apply_haplotypes(settings: Settings, table: Table, haplotypes: Sequence[Haplotype]) -> List[Union[Answer, Refused]]:
     """The answer of each of 1 to 16 haplotypes over one table, which is checked once.
 
     A call that is refused as a whole raises :class:`Refused`, and so does every refusal with one haplotype; with several, one whose own parts
-    are refused has that refusal in its place.
+    are refused has that refusal in its place. Each has its own haplotype's data; a refusal of the whole call has those of all, in a list.
     """
     u32, u64, i32 = ctypes.c_uint32, ctypes.c_uint64, ctypes.c_int32
     words = words_of(settings)
@@ -107,6 +110,7 @@ def apply_haplotypes(settings: Settings, table: Table, haplotypes: Sequence[Hapl
     rows, records, reports = (u32 * (v * count))(), (u32 * (v * count))(), (u32 * (8 * count))()
     accepted(LIBRARY.nd_apply_haplotypes(
         ctypes.byref(words), *_table(table, settings), *_given(part_ends, u64), *_given(feature_ends, u64), *_given(sizes, i32), *_given(features, i32),
-        links, room, keys, room, rows, len(rows), records, len(records), reports, len(reports)))
-    own = [(reports[8 * at], _answer(reports[8 * at + 1:8 * at + 8], rows[v * at:v * at + v], records[v * at:v * at + v])) for at in range(count)]
-    return [Refused(number) if number else answer for number, answer in own]
+        links, room, keys, room, rows, len(rows), records, len(records), reports, len(reports)), [haplotype.meta for haplotype in haplotypes])
+    own = [(reports[8 * at], _answer(reports[8 * at + 1:8 * at + 8], rows[v * at:v * at + v], records[v * at:v * at + v], haplotype.meta))
+           for at, haplotype in enumerate(haplotypes)]
+    return [Refused(number, answer.meta) if number else answer for number, answer in own]

@@ -5,17 +5,20 @@ from typing import Optional, Union
 
 from ._lent import Numbers, array
 from ._library import seq_to_kmer
+from ._meta import HaplotypeMeta
 
 Letters = Union[str, bytes]
 
 
 
 class Haplotype:
-    """A haplotype: its parts in order. Its k and its reading of letters are those of the settings that it is searched with, else a 6."""
+    """A haplotype: its parts in order, and whose reads it came from where the caller says: `meta`, which no search looks at and every answer,
+    a refused one too, hands back. Its k and its reading of letters are those of the settings that it is searched with, else a 6."""
 
-    def __init__(self, k: int, letters: int = 0) -> None:
+    def __init__(self, k: int, letters: int = 0, meta: Optional[HaplotypeMeta] = None) -> None:
         self.k = k
         self.letters = letters
+        self.meta = meta
         self.sizes = flat.array("i")
         self.features = flat.array("i")
 

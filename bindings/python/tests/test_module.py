@@ -8,7 +8,7 @@ from fractions import Fraction
 import pytest
 
 import ndigomarr
-from ndigomarr import Haplotype, Refused, Settings, Table, _library, _refusals
+from ndigomarr import Haplotype, Refused, Settings, Table, _library, _meta, _refusals
 
 ROOT = pathlib.Path(__file__).resolve().parents[3]
 SETTINGS = Settings(k=1, minkfreq=1)
@@ -282,13 +282,49 @@ def test_companions():
     assert refused(ndigomarr.Companions().remove) == 44
 
 
+def test_whose_reads_these_were():
+    left, right = ndigomarr.HaplotypeMeta.new(0, 2), ndigomarr.HaplotypeMeta.new(1, 2)
+    left.id, left.hp[0], right.hp = 9, 255, [0, 1]
+    left.combine(right)
+    assert left == ndigomarr.HaplotypeMeta(9, 3, [1, 1], [None, None], [255, 1])
+    three, full = ndigomarr.HaplotypeMeta.new_blank(3), ndigomarr.HaplotypeMeta(0, 0, [2**64 - 1, 0], [None, 2**32 - 1], [None, None])
+    assert (refused(left.combine, three), refused(left.combine, full), refused(three.combine, ndigomarr.HaplotypeMeta())) == (52, 53, 50)
+    nine = ndigomarr.HaplotypeMeta(0, 0, [0] * 9, [None] * 9, [None] * 9)
+    assert (refused(nine.combine, nine), refused(ndigomarr.HaplotypeMeta.new, 2, 2), refused(ndigomarr.HaplotypeMeta.new_blank, 0)) == (50, 51, 50)
+    assert left.coverage == [1, 1]
+    for wrong in [ndigomarr.HaplotypeMeta(0, 0, [1], [], [None]), ndigomarr.HaplotypeMeta(0, 0, [1], [None, None], [None])]:
+        with pytest.raises(ValueError):
+            left.combine(wrong)
+    with pytest.raises(OverflowError):
+        left.combine(ndigomarr.HaplotypeMeta(0, 0, [1, 1], [None, 2**32], [None, None]))
+
+
+def test_every_answer_carries_the_haplotypes_data():
+    table, haplotype = worked()
+    plain = ndigomarr.apply_haplotype(SETTINGS, table, haplotype)
+    assert plain.meta is None
+    haplotype.meta = ndigomarr.HaplotypeMeta.new(0, 1)
+    told = ndigomarr.apply_haplotype(SETTINGS, table, haplotype)
+    assert told.meta is haplotype.meta and (told.rows, told.score) == (plain.rows, plain.score)
+    with pytest.raises(Refused) as refusal:
+        ndigomarr.apply_haplotype(Settings(k=0), table, haplotype)
+    assert refusal.value.meta is haplotype.meta and pickle.loads(pickle.dumps(refusal.value)).meta == haplotype.meta
+    large = Haplotype(1, ndigomarr.HaplotypeMeta.new(1, 2))
+    large.add(131073, "AG")
+    answers = ndigomarr.apply_haplotypes(SETTINGS, table, [haplotype, large])
+    assert answers[0].meta is haplotype.meta and answers[1].number == 9 and answers[1].meta is large.meta
+    with pytest.raises(Refused) as refusal:
+        ndigomarr.apply_haplotypes(Settings(k=0), table, [haplotype, large])
+    assert refusal.value.meta == [haplotype.meta, large.meta]
+
+
 def test_letters_outside_ascii_are_told():
     with pytest.raises(UnicodeEncodeError):
         ndigomarr.seq_to_kmer("AÄ", 1)
 
 
 def test_what_the_pages_show():
-    for module in (ndigomarr, _library):
+    for module in (ndigomarr, _library, _meta):
         result = doctest.testmod(module)
         assert result.attempted and not result.failed
     told = doctest.testfile(str(ROOT / "docs/FIRST-WEEK.md"), module_relative=False, encoding="utf-8")

@@ -34,6 +34,7 @@ struct Readme;
 
 mod bed;
 mod companions;
+mod meta;
 mod raw;
 mod refusal;
 mod refusals;
@@ -42,6 +43,7 @@ mod table;
 
 pub use bed::Bed;
 pub use companions::Companions;
+pub use meta::{apply_haplotypes_with_meta, apply_with_meta, HaplotypeMeta, Told};
 pub use refusals::Refusal;
 pub use settings::Settings;
 pub use table::{Haplotype, Table};

@@ -61,6 +61,9 @@ mod archive {
             row: u32,
             count: *mut u32,
         ) -> u32;
+        pub fn nd_meta_new(index: u64, samples: u64, meta: *mut [u64; 28]) -> u32;
+        pub fn nd_meta_blank(samples: u64, meta: *mut [u64; 28]) -> u32;
+        pub fn nd_meta_combine(left: *mut [u64; 28], right: *const [u64; 28]) -> u32;
         pub fn nd_apply_haplotype(
             settings: *const [u32; 14],
             starts: *const u64,
@@ -172,6 +175,18 @@ pub fn write_bed(name: &[u8], starts: &[u64], ends: &[u64], rows: &[u32], text: 
             written,
         )
     }
+}
+
+pub fn meta_new(index: u64, samples: u64, meta: &mut [u64; 28]) -> u32 {
+    unsafe { archive::nd_meta_new(index, samples, meta) }
+}
+
+pub fn meta_blank(samples: u64, meta: &mut [u64; 28]) -> u32 {
+    unsafe { archive::nd_meta_blank(samples, meta) }
+}
+
+pub fn meta_combine(left: &mut [u64; 28], right: &[u64; 28]) -> u32 {
+    unsafe { archive::nd_meta_combine(left, right) }
 }
 
 /// A table of up to 64 rows and its companions sheet, as they are lent.

@@ -64,12 +64,20 @@ pub enum Refusal {
     MissingRow,
     /// 49: a sheet that isn't its table's, or a table that breaks 5 to 8
     NotItsSheet,
+    /// 50: a sample count not 1 to 8
+    BadSamples,
+    /// 51: a sample index at or above the sample count
+    NoSuchSample,
+    /// 52: unequal sample counts
+    UnequalSamples,
+    /// 53: a coverage sum passes 64 bits
+    CoverageOverflow,
     /// A number that this table has not: the library that is linked is of another edition than this crate.
     Other(u32),
 }
 
 /// Number, case and words of each.
-pub(crate) const TABLE: [(u32, Refusal, &str); 30] = [
+pub(crate) const TABLE: [(u32, Refusal, &str); 34] = [
     (1, Refusal::BadK, "k not 1 to 6"),
     (2, Refusal::BadFloat, "a float setting is NaN or outside its range"),
     (3, Refusal::BadNumber, "a whole-number setting over its limit"),
@@ -100,4 +108,8 @@ pub(crate) const TABLE: [(u32, Refusal, &str); 30] = [
     (43, Refusal::LittleTextRoom, "too little room for BED text"),
     (44, Refusal::MissingRow, "a row that isn't there"),
     (49, Refusal::NotItsSheet, "a sheet that isn't its table's, or a table that breaks 5 to 8"),
+    (50, Refusal::BadSamples, "a sample count not 1 to 8"),
+    (51, Refusal::NoSuchSample, "a sample index at or above the sample count"),
+    (52, Refusal::UnequalSamples, "unequal sample counts"),
+    (53, Refusal::CoverageOverflow, "a coverage sum passes 64 bits"),
 ];

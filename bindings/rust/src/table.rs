@@ -1,5 +1,5 @@
 //! What a search is given: the variant table and the haplotype's parts, as flat rows.
-use crate::{seq_to_kmer, Refusal};
+use crate::{seq_to_kmer, HaplotypeMeta, Refusal};
 
 /// The number of some letters as a size. More than any size can be is refused by 13 before the size is looked at.
 fn signed(letters: &[u8]) -> i32 {
@@ -167,13 +167,14 @@ impl Table {
     }
 }
 
-/// A haplotype: its parts in order.
+/// A haplotype: its parts in order, and whose reads it came from where the caller says.
 #[derive(Clone, Debug, Default, PartialEq)]
 pub struct Haplotype {
     k: u8,
     letters: u8,
     sizes: Vec<i32>,
     features: Vec<i32>,
+    meta: Option<HaplotypeMeta>,
 }
 
 impl Haplotype {
@@ -189,6 +190,26 @@ impl Haplotype {
 
     pub(crate) fn read_by(k: u8, letters: u8) -> Self {
         Self { k, letters, ..Self::default() }
+    }
+
+    /// The same haplotype with this data, which no search looks at and [`apply_with_meta`](crate::apply_with_meta) hands back.
+    ///
+    /// ```
+    /// let meta = ndigomarr::HaplotypeMeta::new_blank(2)?;
+    /// assert_eq!(ndigomarr::Haplotype::new(4).with_meta(meta).meta(), Some(meta));
+    /// # Ok::<(), ndigomarr::Refusal>(())
+    /// ```
+    pub fn with_meta(self, meta: HaplotypeMeta) -> Self {
+        Self { meta: Some(meta), ..self }
+    }
+
+    /// The data that it carries, if any.
+    ///
+    /// ```
+    /// assert_eq!(ndigomarr::Haplotype::new(4).meta(), None);
+    /// ```
+    pub fn meta(&self) -> Option<HaplotypeMeta> {
+        self.meta
     }
 
     /// Adds a part in which these letters are inserted.

@@ -97,6 +97,15 @@ unique = record {
   apply-numbered = λ s starts ends sizes features numbers partSizes partFeatures links keys rows records x y p q. agree x y (recorded (x .says) p) (recorded (y .says) q);
   apply-numbered-haplotypes = λ s starts ends sizes features numbers partEnds featureEnds partSizes partFeatures links keys rows records reports x y p q.
       agree x y (recorded-both (x .says) p) (recorded-both (y .says) q);
+  new = λ index samples. one;
+  new-blank = λ samples. one;
+  combine = λ left right. one;
+  meta-of-words = λ words. one;
+  words-of-meta = λ meta. one;
+  apply-with-meta = λ s starts ends sizes features numbers partSizes partFeatures meta links keys rows records x y p q.
+      agree x y (recorded (x .says) p) (recorded (y .says) q);
+  apply-haplotypes-with-meta = λ s starts ends sizes features numbers partEnds featureEnds partSizes partFeatures metas links keys rows records reports x y p q.
+      agree x y (recorded-both (x .says) p) (recorded-both (y .says) q);
   u8-at = λ s at. one;
   u32-at = λ s at. one;
   u64-at = λ s at. one;
@@ -141,4 +150,7 @@ unique = record {
   nd-companions-remove = λ starts ends sheet rows. removed;
   nd-companions-together = λ starts ends sheet rows a b word. two;
   nd-companions-count = λ starts ends sheet rows row count. two;
+  nd-meta-new = λ index samples meta. two;
+  nd-meta-blank = λ samples meta. two;
+  nd-meta-combine = λ left right. two;
 }

@@ -21,6 +21,13 @@ use Rattle.kplib.specs.Promises.{callLent, severalLent, CountChainsPromise, App
 use Rattle.dive.specs.Numbered.{numberedSearches}
 use Rattle.dive.specs.NumberedSeveral.{numberedSeveralSearches}
 use Rattle.dive.specs.Promises.{numberedLent, numberedSeveralLent, NumberedFaultPromise, ApplyNumberedPromise, ApplyNumberedHaplotypesPromise}
+use Rattle.dive.specs.Promises.{ApplyWithMetaPromise, ApplyHaplotypesWithMetaPromise}
+use Rattle.dive.specs.declared.told.Told.{Told}
+use Rattle.dive.specs.declared.told.ToldSeveral.{ToldSeveral}
+use Rattle.meta.specs.declared.HaplotypeMeta.{HaplotypeMeta}
+use Rattle.meta.specs.declared.Made.{Made}
+use Rattle.meta.specs.declared.Combined.{Combined}
+use Rattle.meta.specs.Promises.{NewPromise, NewBlankPromise, CombinePromise, MetaOfWordsPromise, WordsOfMetaPromise}
 use Rattle.form.specs.declared.records.Kind.{Kind}
 use Rattle.form.specs.declared.records.Record.{Record}
 use Rattle.form.specs.declared.records.Scan.{Scan}
@@ -44,6 +51,7 @@ use Rattle.capi.specs.Words.{settingsOfWords}
 use Rattle.capi.specs.Promises.{NdSeqToKmerPromise, NdSeqsimPromise, NdSizesimPromise, NdCountChainsPromise, NdAnswerPromise, NdApplyHaplotypePromise, NdApplyHaplotypesPromise}
 use Rattle.capi.specs.Promises.{NdReadBedPromise, NdWriteBedPromise}
 use Rattle.capi.specs.Promises.{NdCompanionsAddPromise, NdCompanionsRemovePromise, NdCompanionsTogetherPromise, NdCompanionsCountPromise}
+use Rattle.capi.specs.Promises.{NdMetaNewPromise, NdMetaBlankPromise, NdMetaCombinePromise}
 
 -- at most one result meets a promise of a value, and at most one pair a promise of what a slice holds at exit and a value
 abbrev pub One : (A : Type 0) → (A → Type 0) → Type 0
@@ -118,6 +126,22 @@ pub record Unique : Type 0 where
       (numberedSeveralLent s starts ends sizes features numbers partEnds featureEnds partSizes partFeatures links keys rows records reports))
       (λ x. ApplyNumberedHaplotypesPromise s starts ends sizes features numbers partEnds featureEnds partSizes partFeatures links keys rows records reports
       (x .links) (x .keys) (x .rows) (x .says .0) (x .says .1 .0) (x .says .1 .1))
+  pub new : (index samples : ℕ) → One Made (NewPromise index samples)
+  pub new-blank : (samples : ℕ) → One Made (NewBlankPromise samples)
+  pub combine : (left right : HaplotypeMeta) → One Combined (CombinePromise left right)
+  pub meta-of-words : (words : List ℕ) → One HaplotypeMeta (MetaOfWordsPromise words)
+  pub words-of-meta : (meta : HaplotypeMeta) → One (List ℕ) (WordsOfMetaPromise meta)
+  pub apply-with-meta : (s : Settings) (starts ends : List ℕ) (sizes features : List ℤ) (numbers : List ℕ) (partSizes partFeatures : List ℤ) (meta : HaplotypeMeta)
+      (links keys rows records : List ℕ)
+      → Agree (List ℕ × Told) (numberedSearches (numberedLent s starts ends sizes features numbers partSizes partFeatures links keys rows records))
+      (λ x. ApplyWithMetaPromise s starts ends sizes features numbers partSizes partFeatures meta links keys rows records
+      (x .links) (x .keys) (x .rows) (x .says .0) (x .says .1))
+  pub apply-haplotypes-with-meta : (s : Settings) (starts ends : List ℕ) (sizes features : List ℤ) (numbers partEnds featureEnds : List ℕ) (partSizes partFeatures : List ℤ)
+      (metas : List HaplotypeMeta) (links keys rows records reports : List ℕ)
+      → Agree (List ℕ × (List ℕ × ToldSeveral)) (numberedSeveralSearches
+      (numberedSeveralLent s starts ends sizes features numbers partEnds featureEnds partSizes partFeatures links keys rows records reports))
+      (λ x. ApplyHaplotypesWithMetaPromise s starts ends sizes features numbers partEnds featureEnds partSizes partFeatures metas links keys rows records reports
+      (x .links) (x .keys) (x .rows) (x .says .0) (x .says .1 .0) (x .says .1 .1))
   pub u8-at : (s : List ℕ) (at : ℕ) → One ℕ (U8AtPromise s at)
   pub u32-at : (s : List ℕ) (at : ℕ) → One ℕ (U32AtPromise s at)
   pub u64-at : (s : List ℕ) (at : ℕ) → One ℕ (U64AtPromise s at)
@@ -173,3 +197,6 @@ pub record Unique : Type 0 where
   pub nd-companions-remove : (starts ends : List ℕ) (sheet : List Bool) (rows : ℕ) → Two (List Bool × ℕ) ℕ (λ x. NdCompanionsRemovePromise starts ends sheet rows (x .0) (x .1))
   pub nd-companions-together : (starts ends : List ℕ) (sheet : List Bool) (rows a b word : ℕ) → Two ℕ ℕ (NdCompanionsTogetherPromise starts ends sheet rows a b word)
   pub nd-companions-count : (starts ends : List ℕ) (sheet : List Bool) (rows row count : ℕ) → Two ℕ ℕ (NdCompanionsCountPromise starts ends sheet rows row count)
+  pub nd-meta-new : (index samples : ℕ) (meta : List ℕ) → Two (List ℕ) ℕ (NdMetaNewPromise index samples meta)
+  pub nd-meta-blank : (samples : ℕ) (meta : List ℕ) → Two (List ℕ) ℕ (NdMetaBlankPromise samples meta)
+  pub nd-meta-combine : (left right : List ℕ) → Two (List ℕ) ℕ (NdMetaCombinePromise left right)

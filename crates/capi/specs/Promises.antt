@@ -20,7 +20,9 @@ use Rattle.bed.specs.Writing.{rowsText, writeFault, writeAnswer, writtenNumber,
 use Rattle.companions.specs.Companions.{lentOf}
 use Rattle.companions.specs.Questions.{pairOf, laterIn, pairNumber, pairYes, laterNumber, laterCount}
 use Rattle.companions.specs.Promises.{AddPromise, RemovePromise}
-use Rattle.capi.specs.Words.{settingsOfWords}
+use Rattle.meta.specs.Meta.{newMade, blankMade, combinedTwo}
+use Rattle.meta.specs.Words.{metaOfWords, wordsOfMeta}
+use Rattle.capi.specs.Words.{settingsOfWords, wordsUnless}
 
 abbrev pub NdSeqToKmerPromise : List ℕ → ℕ → Bool → ℕ → List ℤ → List ℤ → ℕ → Type 0
 NdSeqToKmerPromise text k negative reading row row' r =
@@ -86,3 +88,14 @@ abbrev pub NdCompanionsCountPromise : List ℕ → List ℕ → List Bool → �
 NdCompanionsCountPromise starts ends sheet rows row count count' r =
     let told = laterIn (lentOf starts ends sheet rows) row in
     (r ≡ laterNumber told) × (count' ≡ laterCount told)
+
+abbrev pub NdMetaNewPromise : ℕ → ℕ → List ℕ → List ℕ → ℕ → Type 0
+NdMetaNewPromise index samples meta meta' r = (r ≡ newMade index samples .refusal) × (meta' ≡ wordsOfMeta (newMade index samples .meta))
+
+abbrev pub NdMetaBlankPromise : ℕ → List ℕ → List ℕ → ℕ → Type 0
+NdMetaBlankPromise samples meta meta' r = (r ≡ blankMade samples .refusal) × (meta' ≡ wordsOfMeta (blankMade samples .meta))
+
+abbrev pub NdMetaCombinePromise : List ℕ → List ℕ → List ℕ → ℕ → Type 0
+NdMetaCombinePromise left right left' r =
+    let told = combinedTwo (metaOfWords left) (metaOfWords right) in
+    (r ≡ told .refusal) × (left' ≡ wordsUnless (told .refusal) (wordsOfMeta (told .left)) left)

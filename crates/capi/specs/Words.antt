@@ -1,5 +1,5 @@
--- The settings of a search as C and Rust lend them: fourteen words in the order of the record's fields.
-use Prim.Native.Nat.{ℕ}
+-- The settings of a search as C and Rust lend them: fourteen words in the order of the record's fields; and words that a refusal leaves as they were.
+use Prim.Native.Nat.{ℕ, zero, suc}
 use mathlib.Core.Bool.{Bool, not}
 use mathlib.Core.List.{List}
 use lib.Dec.{eqb}
@@ -29,3 +29,7 @@ settingsOfWords words = record {
   fpenalty = ofBits binary32 (getD words 12 0);
   gpenalty = ofBits binary32 (getD words 13 0);
 }
+
+abbrev pub wordsUnless : ℕ → List ℕ → List ℕ → List ℕ
+wordsUnless zero new old = new
+wordsUnless (suc f) new old = old

@@ -2,6 +2,7 @@
 ghost use Rattle.capi.specs.Promises.{NdSeqToKmerPromise, NdSeqsimPromise, NdSizesimPromise, NdCountChainsPromise, NdAnswerPromise};
 ghost use Rattle.capi.specs.Promises.{NdApplyHaplotypePromise, NdApplyHaplotypesPromise, NdReadBedPromise, NdWriteBedPromise};
 ghost use Rattle.capi.specs.Promises.{NdCompanionsAddPromise, NdCompanionsRemovePromise, NdCompanionsTogetherPromise, NdCompanionsCountPromise};
+ghost use Rattle.capi.specs.Promises.{NdMetaNewPromise, NdMetaBlankPromise, NdMetaCombinePromise};
 use crate::words::length_word;
 use crate::words::settings_of_words;
 use crate::words::word_of_flag;
@@ -11,6 +12,8 @@ use companions::Later;
 use companions::Paired;
 use kplib::report::put_report;
 use kplib::vargraph::ChainCount;
+use meta::words::meta_of_words;
+use meta::words::words_of_meta;
 use metrics::Sim;
 use metrics::kmer::Counted;
 use metrics::refusals::ACCEPTED;
@@ -313,4 +316,43 @@ pub extern "C" fn nd_companions_count(
             n
         }
     }
+}
+
+// One read of one sample, as 28 words; a blank of one sample on a refusal.
+#[no_mangle]
+pub extern "C" fn nd_meta_new(index: u64, samples: u64, meta: &mut [u64; 28]) -> u32
+    ensures { λ r. ⌜ NdMetaNewPromise index samples (now (meta .entry)) (now (meta .exit)) r ⌝ }
+{
+    let made = meta::new(index, samples);
+    let one = made.meta;
+    *meta = words_of_meta(one);
+    made.refusal
+}
+
+// No read of any sample; a blank of one sample on a refusal.
+#[no_mangle]
+pub extern "C" fn nd_meta_blank(samples: u64, meta: &mut [u64; 28]) -> u32
+    ensures { λ r. ⌜ NdMetaBlankPromise samples (now (meta .entry)) (now (meta .exit)) r ⌝ }
+{
+    let told = meta::new_blank(samples);
+    let blank = told.meta;
+    *meta = words_of_meta(blank);
+    told.refusal
+}
+
+// The two combined, on the left, which a refusal leaves as it was.
+#[no_mangle]
+pub extern "C" fn nd_meta_combine(left: &mut [u64; 28], right: &[u64; 28]) -> u32
+    ensures { λ r. ⌜ NdMetaCombinePromise (now (left .entry)) (now (right .entry)) (now (left .exit)) r ⌝ }
+{
+    let own = meta_of_words(left);
+    let its = meta_of_words(right);
+    let combined = meta::combine(own, its);
+    let refusal = combined.refusal;
+    if refusal != ACCEPTED {
+        return refusal;
+    }
+    let both = combined.left;
+    *left = words_of_meta(both);
+    ACCEPTED
 }

@@ -60,3 +60,11 @@ pub const LITTLE_TEXT_ROOM: u32 = 43;
 pub const MISSING_ROW: u32 = 44;
 // a sheet that isn't its table's, or a table that breaks 5 to 8
 pub const NOT_ITS_SHEET: u32 = 49;
+// a sample count not 1 to 8
+pub const BAD_SAMPLES: u32 = 50;
+// a sample index at or above the sample count
+pub const NO_SUCH_SAMPLE: u32 = 51;
+// unequal sample counts
+pub const UNEQUAL_SAMPLES: u32 = 52;
+// a coverage sum passes 64 bits
+pub const COVERAGE_OVERFLOW: u32 = 53;

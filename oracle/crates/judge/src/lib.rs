@@ -7,6 +7,7 @@
 //! - `program`: what the program must print for given bytes.
 //! - `rules`: the documents' sentences, each a rule; `mistakes`: the same with one rule misread, planted to be found.
 //! - `document`: the documents written down once more, independent of the Rust; `met`: what it met on its way.
+//! - `meta`: a haplotype's data, made and combined, by the document and by the Rust.
 //! - `library`: the library of this project, linked.
 //! - `generate`, `exhaust`: the jobs that are compared; `random`: the numbers they are made from.
 //! - `kinds`: what a job reached, to be counted.
@@ -21,6 +22,7 @@ pub mod job;
 pub mod kinds;
 pub mod library;
 pub mod met;
+pub mod meta;
 pub mod mistakes;
 pub mod program;
 pub mod random;

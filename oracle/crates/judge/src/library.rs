@@ -52,6 +52,7 @@ mod linked {
     use crate::call::{counted, magnitudes};
     use crate::document::features;
     use crate::job::Settings;
+    use crate::meta::{self, Asked};
     use crate::rules::DOCUMENT;
     use crate::{generate, kinds, rust};
     use unchanged::kplib::metrics;
@@ -81,6 +82,9 @@ mod linked {
         fn nd_seq_to_kmer(text: *const u8, text_len: usize, k: u8, negative: bool, letters: u8, row: *mut i32, row_len: usize) -> u32;
         fn nd_seqsim(a: *const i32, a_len: usize, b: *const i32, b_len: usize, minkfreq: u32, place: *mut f32) -> u32;
         fn nd_sizesim(a: u64, b: u64, place: *mut f32) -> u32;
+        fn nd_meta_new(index: u64, samples: u64, meta: *mut [u64; 28]) -> u32;
+        fn nd_meta_blank(samples: u64, meta: *mut [u64; 28]) -> u32;
+        fn nd_meta_combine(left: *mut [u64; 28], right: *const [u64; 28]) -> u32;
     }
 
     const MARK: u32 = 0xdead_0001;
@@ -202,14 +206,39 @@ mod linked {
         })
     }
 
-    /// One call of the counter, seqsim, sizesim or the chain count, compared with the Rust's; refusals by document 01.
+    /// One call of the counter, seqsim, sizesim, the chain count or those of a haplotype's data, compared with the Rust's; refusals by the documents.
     pub fn smaller_call(r: &mut Random, counts: &mut Counts) -> Result<(), String> {
-        match r.below(4) {
+        match r.below(5) {
             0 => counter(r, counts),
             1 => rows(r, counts),
             2 => sizes(r, counts),
+            3 => data(r, counts),
             _ => chain_count(r, counts),
         }
+    }
+
+    fn data(r: &mut Random, counts: &mut Counts) -> Result<(), String> {
+        let asked = meta::asked(r);
+        let must = asked.said(&DOCUMENT);
+        let rust = asked.by_the_rust();
+        let mut words = [r.next(); 28];
+        // SAFETY: every pointer is to 28 words.
+        let said = match &asked {
+            Asked::New(index, samples) => unsafe { nd_meta_new(*index, *samples, &mut words) },
+            Asked::Blank(samples) => unsafe { nd_meta_blank(*samples, &mut words) },
+            Asked::Combine(left, right) => {
+                words = *left;
+                unsafe { nd_meta_combine(&mut words, right) }
+            }
+        };
+        kinds::add(counts, format!("data: refusal {}{}", must.0, if rust.is_some() { ", asked of the Rust" } else { "" }));
+        if rust.is_some_and(|rust| (0, rust) != must) {
+            return Err(format!("of {asked:?} the Rust says {rust:?}, the second reading {must:?}"));
+        }
+        if (said, words) == must {
+            return Ok(());
+        }
+        Err(format!("{asked:?}: must be {must:?}, is {said} {words:?}"))
     }
 
     /// The refusals of the chain count: the cap, then the table's bounds.

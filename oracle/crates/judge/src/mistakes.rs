@@ -203,4 +203,25 @@ mistakes! {
     "16 in search mode only": blank_is_refused = |variants, _, searches, _| searches && variants.contains(&true);
     "16 in one-to-one only": blank_is_refused = |variants, _, searches, _| !searches && variants.contains(&true);
     "16 in a full graph only": blank_is_refused = |variants, _, _, full| full && variants.contains(&true);
+    "51 looked for before 50": meta_refusals = || &[51, 50, 52, 53];
+    "52 looked for before 50": meta_refusals = || &[52, 50, 51, 53];
+    "53 looked for before 52": meta_refusals = || &[50, 51, 53, 52];
+    "53 not looked for, and the sum wraps": meta_refusals = || &[50, 51, 52];
+    "no samples taken": samples_are_refused = |samples| samples > 8;
+    "nine samples taken": samples_are_refused = |samples| samples == 0 || samples > 9;
+    "eight samples refused": samples_are_refused = |samples| samples == 0 || samples > 7;
+    "a sample index at the count taken": index_is_refused = |index, samples| index > samples;
+    "unequal counts joined up to the shorter": counts_disagree = |_, _| false;
+    "more samples on the right taken": counts_disagree = |left, right| left > right;
+    "a coverage sum of all bits refused": sum_passes = |left, right| left.checked_add(right).is_none_or(|sum| sum == u64::MAX);
+    "a refusal gives the blank asked for": blank_on_refusal = |asked| asked;
+    "a sample's flag is its index": flag_of = |index| index;
+    "the larger coverage kept": coverage_of_both = |left, right| left.max(right);
+    "the right tag over the left": tag_of_both = |left, right| DOCUMENT.tag_of_both(right, left);
+    "the larger tag kept": tag_of_both = |left, right| left.max(right);
+    "tag 0 taken as none": tag_of_both = |left, right| if left < 2 { right } else { left };
+    "the flags added": flags_of_both = |left, right| left.wrapping_add(right);
+    "the flags of both alone": flags_of_both = |left, right| left & right;
+    "the id of the right": id_of_both = |_, right| right;
+    "a refused combining combined anyway": left_after = |_, combined, _| combined;
 }

@@ -392,4 +392,66 @@ rules! {
     fn blank_is_refused(variants: &[bool], _parts: &[bool], _searches: bool, _full: bool) -> bool {
         variants.contains(&true)
     }
+
+    // Whose reads these were (document 02, P12)
+
+    /// "Refusals, in order: 50 .., 51 .., 52 .., 53"
+    fn meta_refusals() -> &'static [u32] {
+        &[50, 51, 52, 53]
+    }
+
+    /// 50: "for a sample count not 1 to 8"
+    fn samples_are_refused(samples: u64) -> bool {
+        !(1..=8).contains(&samples)
+    }
+
+    /// 51: "for a sample index at or above it"
+    fn index_is_refused(index: u64, samples: u64) -> bool {
+        index >= samples
+    }
+
+    /// 52: "for unequal counts (the Rust stops at the shorter)"
+    fn counts_disagree(left: u64, right: u64) -> bool {
+        left != right
+    }
+
+    /// 53: "when a coverage sum passes 64 bits"
+    fn sum_passes(left: u64, right: u64) -> bool {
+        left.checked_add(right).is_none()
+    }
+
+    /// "the others a blank of one sample"
+    fn blank_on_refusal(_asked: u64) -> u64 {
+        1
+    }
+
+    /// "sample flags": that of a sample is 2 to its index
+    fn flag_of(index: u64) -> u64 {
+        1 << index
+    }
+
+    /// "Combining adds coverage"
+    fn coverage_of_both(left: u64, right: u64) -> u64 {
+        left.wrapping_add(right)
+    }
+
+    /// "keeps the left tag where there is one and otherwise takes the right"
+    fn tag_of_both(left: u64, right: u64) -> u64 {
+        if left == 0 { right } else { left }
+    }
+
+    /// "joins the flags"
+    fn flags_of_both(left: u64, right: u64) -> u64 {
+        left | right
+    }
+
+    /// "and keeps the left id"
+    fn id_of_both(left: u64, _right: u64) -> u64 {
+        left
+    }
+
+    /// "combine hands both inputs back as they were"
+    fn left_after(before: [u64; 28], combined: [u64; 28], refused: bool) -> [u64; 28] {
+        if refused { before } else { combined }
+    }
 }

@@ -10,7 +10,7 @@ use judge::mistakes::{Mistake, MISTAKES};
 use judge::random::Random;
 use judge::rules::{Rules, DOCUMENT};
 use judge::several::{self, Several};
-use judge::{describe, exhaust, program, rust, shrink};
+use judge::{describe, exhaust, meta, program, rust, shrink};
 use std::process::ExitCode;
 
 /// What anyone outside sees of a call: the answer, and what the second buffer holds after it.
@@ -56,7 +56,7 @@ fn counted_otherwise(rules: &Rules) -> Option<String> {
     None
 }
 
-/// That, or the first sizes likewise.
+/// That, or the first sizes and a haplotype's data likewise.
 fn smaller_calls(rules: &Rules) -> Option<String> {
     let shown = counted_otherwise(rules);
     if shown.is_some() {
@@ -71,7 +71,16 @@ fn smaller_calls(rules: &Rules) -> Option<String> {
             }
         }
     }
-    None
+    calls_of_data(rules)
+}
+
+/// The first drawn call of a haplotype's data that goes otherwise than the Rust goes, or where that cannot be asked, the document.
+fn calls_of_data(rules: &Rules) -> Option<String> {
+    (0..10_000).find_map(|seed| {
+        let asked = meta::asked(&mut Random::new(seed));
+        let (must, would) = (asked.by_the_rust().map_or_else(|| asked.said(&DOCUMENT), |words| (0, words)), asked.said(rules));
+        (must != would).then(|| format!("{asked:?} must be {must:?}, would be {would:?}"))
+    })
 }
 
 /// What is put to each mistake, behind what the judge says of it.
@@ -181,7 +190,7 @@ fn main() -> ExitCode {
     let input = asked.by_inputs(&DOCUMENT).first().map(|&at| describe::bytes(&asked.inputs[at].1));
     let call = asked.by_calls(&DOCUMENT).first().map(|&at| describe::call(&asked.calls[at].1));
     let several = asked.by_several(&DOCUMENT).first().map(|&at| describe::several(&asked.several[at].1));
-    if let Some(words) = input.or(call).or(several) {
+    if let Some(words) = input.or(call).or(several).or(smaller_calls(&DOCUMENT)) {
         println!("with nothing planted: {words}");
         return ExitCode::FAILURE;
     }
