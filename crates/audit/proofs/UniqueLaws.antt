@@ -102,6 +102,7 @@ unique = record {
   combine = λ left right. one;
   meta-of-words = λ words. one;
   words-of-meta = λ meta. one;
+  combine-all = λ metas. one;
   apply-with-meta = λ s starts ends sizes features numbers partSizes partFeatures meta links keys rows records x y p q.
       agree x y (recorded (x .says) p) (recorded (y .says) q);
   apply-haplotypes-with-meta = λ s starts ends sizes features numbers partEnds featureEnds partSizes partFeatures metas links keys rows records reports x y p q.

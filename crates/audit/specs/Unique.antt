@@ -27,7 +27,7 @@ use Rattle.dive.specs.declared.told.ToldSeveral.{ToldSeveral}
 use Rattle.meta.specs.declared.HaplotypeMeta.{HaplotypeMeta}
 use Rattle.meta.specs.declared.Made.{Made}
 use Rattle.meta.specs.declared.Combined.{Combined}
-use Rattle.meta.specs.Promises.{NewPromise, NewBlankPromise, CombinePromise, MetaOfWordsPromise, WordsOfMetaPromise}
+use Rattle.meta.specs.Promises.{NewPromise, NewBlankPromise, CombinePromise, MetaOfWordsPromise, WordsOfMetaPromise, CombineAllPromise}
 use Rattle.form.specs.declared.records.Kind.{Kind}
 use Rattle.form.specs.declared.records.Record.{Record}
 use Rattle.form.specs.declared.records.Scan.{Scan}
@@ -131,6 +131,7 @@ pub record Unique : Type 0 where
   pub combine : (left right : HaplotypeMeta) → One Combined (CombinePromise left right)
   pub meta-of-words : (words : List ℕ) → One HaplotypeMeta (MetaOfWordsPromise words)
   pub words-of-meta : (meta : HaplotypeMeta) → One (List ℕ) (WordsOfMetaPromise meta)
+  pub combine-all : (metas : List ℕ) → One Made (CombineAllPromise metas)
   pub apply-with-meta : (s : Settings) (starts ends : List ℕ) (sizes features : List ℤ) (numbers : List ℕ) (partSizes partFeatures : List ℤ) (meta : HaplotypeMeta)
       (links keys rows records : List ℕ)
       → Agree (List ℕ × Told) (numberedSearches (numberedLent s starts ends sizes features numbers partSizes partFeatures links keys rows records))

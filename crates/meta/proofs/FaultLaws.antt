@@ -66,7 +66,7 @@ module _ (n : ℕ) where
       go true e = leb-true n 8 e
       go false e = absurd (let f = count-many (leb-false n 8 e) in omega arith)
 
-  count-fine : badSamples n ≡ false → countFault n ≡ 0
+  pub count-fine : badSamples n ≡ false → countFault n ≡ 0
   unfolding countFault
   count-fine e = rw e
 
@@ -83,6 +83,10 @@ module _ (i n : ℕ) where
   pub new-fine : countFault n ≡ 0 → i < n → 0 ≡ newFault i n
   unfolding newFault
   new-fine z h = rw (count-passed n z, lt-leb n i h)
+
+  pub new-below : newFault i n ≡ 0 → i < n
+  unfolding newFault
+  new-below z = leb-false n i (none-given (rule 50 (badSamples n) ∷ (rule 51 (leb n i) ∷ [])) refl z .1 .0)
 
   pub new-inside : newFault i n ≡ 0 → i < 8
   unfolding newFault
@@ -128,7 +132,7 @@ module _ (a b : HaplotypeMeta) where
     combine-fine e h = rw (count-passed (a .samples) p, count-passed (b .samples) q, eq-eqb (a .samples) (b .samples) e, h)
 
   -- what an accepted combining tells
-  combine-passed : combineFault a b ≡ 0 → Passed (combineRules a b)
+  pub combine-passed : combineFault a b ≡ 0 → Passed (combineRules a b)
   unfolding combineFault
   combine-passed z = none-given (combineRules a b) refl z
 

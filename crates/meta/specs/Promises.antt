@@ -5,6 +5,7 @@ use mathlib.Core.Path.{_≡_}
 use mathlib.Core.List.{List}
 use Rattle.meta.specs.Meta.{newMade, blankMade, combinedTwo}
 use Rattle.meta.specs.Words.{metaOfWords, wordsOfMeta}
+use Rattle.meta.specs.Grouping.{allInWords}
 use Rattle.meta.specs.declared.HaplotypeMeta.{HaplotypeMeta}
 use Rattle.meta.specs.declared.Made.{Made}
 use Rattle.meta.specs.declared.Combined.{Combined}
@@ -23,3 +24,6 @@ MetaOfWordsPromise words r = r ≡ metaOfWords words
 
 abbrev pub WordsOfMetaPromise : HaplotypeMeta → List ℕ → Type 0
 WordsOfMetaPromise meta r = r ≡ wordsOfMeta meta
+
+abbrev pub CombineAllPromise : List ℕ → Made → Type 0
+CombineAllPromise metas r = r ≡ allInWords metas

@@ -1,6 +1,7 @@
 // Whose reads these were (document 02, P12): the data of 1 to 8 samples that a haplotype carries, kanpig's `HaplotypeMeta` without its read names.
 mod arrays;
 mod checks;
+pub mod lists;
 pub mod words;
 
 use crate::arrays::added;
@@ -37,7 +38,7 @@ pub struct Combined {
 }
 
 // Data that belongs to nobody.
-fn blank(samples: u64) -> HaplotypeMeta
+pub(crate) fn blank(samples: u64) -> HaplotypeMeta
     ensures { λ r. ⌜ r ≡ blankOf samples ⌝ }
 {
     HaplotypeMeta {
@@ -92,7 +93,7 @@ pub fn new_blank(num_samples: u64) -> Made
 }
 
 // The two as one, where nothing refuses it.
-fn both_as_one(left: HaplotypeMeta, right: HaplotypeMeta) -> HaplotypeMeta
+pub(crate) fn both_as_one(left: HaplotypeMeta, right: HaplotypeMeta) -> HaplotypeMeta
     requires { ⌜ combineFault left right ≡ 0 ⌝ }
     ensures { λ r. ⌜ r ≡ combinedOf left right ⌝ }
 {
