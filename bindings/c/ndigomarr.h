@@ -56,6 +56,7 @@ enum nd_refusal {
     ND_REFUSED_LITTLE_TEXT_ROOM = 43, /* too little room for BED text */
     ND_REFUSED_MISSING_ROW = 44, /* a row that isn't there */
     ND_REFUSED_NOT_ITS_SHEET = 49, /* a sheet that isn't its table's, or a table that breaks 5 to 8 */
+    ND_REFUSED_LONG_PROPOSAL = 54, /* a proposal over 64 rows or over 64 positions */
 };
 
 /* The table's words for a refusal's number, for a message. */
@@ -93,6 +94,7 @@ static inline const char *nd_refusal_text(uint32_t number)
     case ND_REFUSED_LITTLE_TEXT_ROOM: return "too little room for BED text";
     case ND_REFUSED_MISSING_ROW: return "a row that isn't there";
     case ND_REFUSED_NOT_ITS_SHEET: return "a sheet that isn't its table's, or a table that breaks 5 to 8";
+    case ND_REFUSED_LONG_PROPOSAL: return "a proposal over 64 rows or over 64 positions";
     default: return "not in the table of refusals";
     }
 }

@@ -32,4 +32,5 @@ TABLE: Dict[int, Tuple[str, str]] = {
     43: ("LITTLE_TEXT_ROOM", "too little room for BED text"),
     44: ("MISSING_ROW", "a row that isn't there"),
     49: ("NOT_ITS_SHEET", "a sheet that isn't its table's, or a table that breaks 5 to 8"),
+    54: ("LONG_PROPOSAL", "a proposal over 64 rows or over 64 positions"),
 }

@@ -64,12 +64,14 @@ pub enum Refusal {
     MissingRow,
     /// 49: a sheet that isn't its table's, or a table that breaks 5 to 8
     NotItsSheet,
+    /// 54: a proposal over 64 rows or over 64 positions
+    LongProposal,
     /// A number that this table has not: the library that is linked is of another edition than this crate.
     Other(u32),
 }
 
 /// Number, case and words of each.
-pub(crate) const TABLE: [(u32, Refusal, &str); 30] = [
+pub(crate) const TABLE: [(u32, Refusal, &str); 31] = [
     (1, Refusal::BadK, "k not 1 to 6"),
     (2, Refusal::BadFloat, "a float setting is NaN or outside its range"),
     (3, Refusal::BadNumber, "a whole-number setting over its limit"),
@@ -100,4 +102,5 @@ pub(crate) const TABLE: [(u32, Refusal, &str); 30] = [
     (43, Refusal::LittleTextRoom, "too little room for BED text"),
     (44, Refusal::MissingRow, "a row that isn't there"),
     (49, Refusal::NotItsSheet, "a sheet that isn't its table's, or a table that breaks 5 to 8"),
+    (54, Refusal::LongProposal, "a proposal over 64 rows or over 64 positions"),
 ];

@@ -11,4 +11,5 @@ pub mod Answer
 pub mod SearchSteps
 pub mod Report
 pub mod Haplotypes
+pub mod Proposal
 pub mod Promises

@@ -60,3 +60,5 @@ pub const LITTLE_TEXT_ROOM: u32 = 43;
 pub const MISSING_ROW: u32 = 44;
 // a sheet that isn't its table's, or a table that breaks 5 to 8
 pub const NOT_ITS_SHEET: u32 = 49;
+// a proposal over 64 rows or over 64 positions
+pub const LONG_PROPOSAL: u32 = 54;
