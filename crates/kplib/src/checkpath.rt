@@ -1,8 +1,8 @@
 // Whether a path that someone else proposes is one that the search could have found (document 02, P13). One list is scored against one chain, whatever V, m and fnmax are.
 ghost use mathlib.Core.Path.{_≡_};
-ghost use mathlib.Core.Bool.{true, _&&_};
+ghost use mathlib.Core.Bool.{_&&_};
 ghost use mathlib.Core.List.{reverse};
-ghost use Prim.Native.Nat.{_≤_, _<_};
+ghost use Prim.Native.Nat.{_^_, _≤_, _<_};
 ghost use lib.Dec.{ltb};
 ghost use lib.ListN.{length};
 ghost use Rattle.paths.specs.Chains.{firstAfter};
@@ -75,7 +75,7 @@ fn proposal_fault(
 
 // Whether a row overlaps none of a chain's.
 fn stands_with_all(starts: &[u64], ends: &[u64], chain: &[u32], s: usize) -> bool
-    requires { ⌜ (length (now ends) ≡ length (now starts)) × (s < length (now starts)) × AllBelow (length (now starts)) (now chain) ⌝ }
+    requires { ⌜ (length (now ends) ≡ length (now starts)) × (length (now starts) ≤ 64) × (s < length (now starts)) × AllBelow (length (now starts)) (now chain) ⌝ }
     ensures { λ r. ⌜ r ≡ standsWithAll (edge (now (starts .entry)) (now (ends .entry))) (reverse (now (chain .entry))) s ⌝ }
 {
     let mut i: usize = 0;
@@ -98,7 +98,7 @@ fn row_extends(
     next: usize,
     s: usize,
 ) -> bool
-    requires { ⌜ (length (now ends) ≡ length (now starts)) × AllBelow (length (now starts)) (now chain) × (next ≡ firstAfter (reverse (now chain))) ⌝ }
+    requires { ⌜ (length (now ends) ≡ length (now starts)) × (length (now starts) ≤ 64) × AllBelow (length (now starts)) (now chain) × (next ≡ firstAfter (reverse (now chain))) ⌝ }
     ensures { λ r.
         let starts = now (starts .entry) in
         ⌜ r ≡ (ltb s (length starts) && extendsIn starts (now (ends .entry)) full (reverse (now (chain .entry))) s) ⌝ }
@@ -117,7 +117,7 @@ fn row_extends(
 
 // Whether rows, as they are sent, are a chain: each is there and extends those before it.
 fn is_chain(starts: &[u64], ends: &[u64], full: bool, rows: &[u32]) -> bool
-    requires { ⌜ length (now ends) ≡ length (now starts) ⌝ }
+    requires { ⌜ (length (now ends) ≡ length (now starts)) × (length (now starts) ≤ 64) ⌝ }
     ensures { λ r. ⌜ r ≡ isChainIn (now (starts .entry)) (now (ends .entry)) full (reverse (now (rows .entry))) ⌝ }
 {
     let mut next: usize = 0;
@@ -174,8 +174,43 @@ fn is_part_list(m: usize, fnmax: u32, pileupmax: u32, positions: &[u32]) -> bool
     rises_below(m, positions)
 }
 
-// One list scored against one chain.
+// One list scored against one chain. The scratch is lent, a feature row for each.
 fn pair_score(
+    s: Settings,
+    sizes: &[i32],
+    features: &[i32],
+    part_sizes: &[i32],
+    part_features: &[i32],
+    rows: &[u32],
+    positions: &[u32],
+    chain_row: &mut [i32],
+    list_row: &mut [i32],
+) -> Verdict
+    requires { ⌜ Pairable s (unplaced (now sizes) (now features)) (partsOf (now «part_sizes») (now «part_features»)) (now rows) (now positions)
+        × (length (now «chain_row») ≡ 4 ^ s .k) × (length (now «list_row») ≡ 4 ^ s .k) ⌝ }
+    ensures { λ r.
+        let t = unplaced (now (sizes .entry)) (now (features .entry)) in
+        let p = partsOf (now («part_sizes» .entry)) (now («part_features» .entry)) in
+        ⌜ r ≡ pairScore s t p (now (rows .entry)) (now (positions .entry)) ⌝ }
+{
+    sum_features(features, rows, chain_row);
+    sum_features(part_features, positions, list_row);
+    let chain_size = rows_size(sizes, rows);
+    let list_size = rows_size(part_sizes, positions);
+    list_score(
+        s,
+        chain_size,
+        chain_row,
+        rows.len(),
+        list_size,
+        list_row,
+        positions.len(),
+        part_sizes.len() - positions.len(),
+    )
+}
+
+// The same, with the room that it asks.
+fn score_pair(
     s: Settings,
     sizes: &[i32],
     features: &[i32],
@@ -193,19 +228,16 @@ fn pair_score(
     let mut chain_row = [0i32; 4096];
     let mut list_row = [0i32; 4096];
     let width = entries(s.k);
-    sum_features(features, rows, &mut chain_row[..width]);
-    sum_features(part_features, positions, &mut list_row[..width]);
-    let chain_size = rows_size(sizes, rows);
-    let list_size = rows_size(part_sizes, positions);
-    list_score(
+    pair_score(
         s,
-        chain_size,
-        &chain_row[..width],
-        rows.len(),
-        list_size,
-        &list_row[..width],
-        positions.len(),
-        part_sizes.len() - positions.len(),
+        sizes,
+        features,
+        part_sizes,
+        part_features,
+        rows,
+        positions,
+        &mut chain_row[..width],
+        &mut list_row[..width],
     )
 }
 
@@ -261,7 +293,7 @@ pub fn check_path(
     if !is_part_list(part_sizes.len(), s.fnmax, s.pileupmax, positions) {
         return PathCheck::No;
     }
-    let verdict = pair_score(
+    let verdict = score_pair(
         s,
         sizes,
         features,
