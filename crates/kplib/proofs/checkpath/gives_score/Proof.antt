@@ -1,5 +1,6 @@
 -- Skipped, not above 0, or compared bit for bit.
 use mathlib.Core.Path.{refl}
+use Rattle.metrics.proofs.Casts.{zero-is}
 use Rattle.kplib.proofs.ProposalLaws.{scored-so, scored-low, skipped-no}
 use borrow.Author.Needs.{needs}
 use Rattle.kplib.proofs.checkpath.gives_score.Statement.{statement}
@@ -24,7 +25,7 @@ bits-of-requires-2 c κs = search needs
 returns : tie.Need-returns
 returns c =
     let t = c .before .before in let v = t .before .before in let a = begin v .args in
-    scored-so (a .score) _ _ _ (a .verdict) (v .verdict .given .1) (t .if1 .taken) (c .before .bits-of .ensures) (c .bits-of2 .ensures) refl
+    scored-so (a .score) _ _ _ (a .verdict) (v .verdict .given .1) (rw zero-is at (t .if1 .taken)) (c .before .bits-of .ensures) (c .bits-of2 .ensures) refl
 
 returns-2 : tie.Need-returns-2
 returns-2 c = let a = c .before .before .args in skipped-no (a .score) (a .verdict) (c .enum-told .given .1)
@@ -32,7 +33,7 @@ returns-2 c = let a = c .before .before .args in skipped-no (a .score) (a .verdi
 returns-3 : tie.Need-returns-3
 returns-3 c =
     let v = c .before .before in let a = begin v .args in
-    scored-low (a .score) _ _ _ (a .verdict) (v .verdict .given .1) (c .if1 .left)
+    scored-low (a .score) _ _ _ (a .verdict) (v .verdict .given .1) (rw zero-is at (c .if1 .left))
 
 pub gives-score-spec : {M : Type 1} → statement M
 gives-score-spec =

@@ -1,62 +1,69 @@
+-- The rows so far are a chain; the first that does not extend them decides.
+use Prim.Native.Nat.{_-_, _≤_}
+use native.Mathlib.Omega.{arith}
+use lib.ListN.{length}
+use lib.Seq.{length-take-le}
+use mathlib.Core.Path.{sym}
+use borrow.Author.Tests.{not-true, not-false}
+use Rattle.kplib.proofs.RowChainLaws.{Grown, none-grown, grown-below, grown-on, grown-not, grown-all}
 use Rattle.kplib.proofs.checkpath.is_chain.Statement.{statement}
 use Rattle.kplib.proofs.checkpath.is_chain.Tie as tie
-use Rattle.kplib.proofs.checkpath.is_chain.Reads as reads
-use Rattle.kplib.proofs.checkpath.is_chain.Lts as lts
-use Rattle.kplib.proofs.checkpath.row_extends.Reads as row-extends-reads
 
 abbrev Inv-loop : tie.InvT-loop
-Inv-loop starts ends full rows next₀ i₀ next i = ?
+Inv-loop starts ends full rows next₀ i₀ next i = (i ≤ length rows) × Grown starts ends full rows i next
 
 abbrev μ-loop : tie.MeasureT-loop
-μ-loop starts ends full rows next₀ i₀ next i = ?
+μ-loop starts ends full rows next₀ i₀ next i = length rows - i
 
--- src/checkpath.rt:125:5
+-- the places: a turn of the loop, and the call's beginning
+abbrev turn : tie.After-shared-slice-known4 Inv-loop μ-loop → tie.At-loop Inv-loop μ-loop
+turn c = c .before .before
+
+abbrev begun : tie.At-loop Inv-loop μ-loop → tie.Start Inv-loop μ-loop
+begun l = l .before .before .before .before
+
+abbrev asked : tie.After-row-extends Inv-loop μ-loop → tie.After-shared-slice-known4 Inv-loop μ-loop
+asked c = c .before .before
+
 loop-holds : tie.Need-loop-holds Inv-loop μ-loop
-loop-holds c = ?
+loop-holds c = (omega arith, none-grown _ _ _ _)
 
--- src/checkpath.rt:126:17
 mul-s : tie.Need-mul-s Inv-loop μ-loop
-mul-s c = ?
+mul-s c = omega arith
 
--- src/checkpath.rt:126:17
 shared-slice-read-s : tie.Need-shared-slice-read-s Inv-loop μ-loop
-shared-slice-read-s c = ?
+shared-slice-read-s c = omega arith
 
--- src/checkpath.rt:126:17
 cast-s : tie.Need-cast-s Inv-loop μ-loop
-cast-s c = ?
+cast-s c = record { fits = omega (arith, c .shared-slice-known4 .given (turn c .loop .i)) }
 
--- src/checkpath.rt:127:45
 slice-aggregate-row-extends : tie.Need-slice-aggregate-row-extends Inv-loop μ-loop
-slice-aggregate-row-extends c = ?
+slice-aggregate-row-extends c = sym (length-take-le _ _ (turn (c .before) .loop .inv .0))
 
--- src/checkpath.rt:127:13
 row-extends-requires : tie.Need-row-extends-requires Inv-loop μ-loop
-row-extends-requires c κs = ?
+row-extends-requires c κs =
+    let l = turn (c .before) in let g = l .loop .inv .1 in let h = begun l .pre in
+    (h .0, h .1, grown-below _ _ _ _ g, g .after)
 
--- src/checkpath.rt:128:13
 returns : tie.Need-returns Inv-loop μ-loop
-returns c = ?
+returns c = let r = c .before in grown-not _ _ _ _ (turn (asked r) .loop .inv .1) (omega arith) (r .row-extends .ensures) (not-true _ (c .if1 .taken))
 
--- src/checkpath.rt:130:16
 add-next : tie.Need-add-next Inv-loop μ-loop
-add-next c = ?
+add-next c = let k = asked (c .before) in record { fits = omega (arith, k .shared-slice-known4 .given (turn k .loop .i)) }
 
--- src/checkpath.rt:131:9
 add-i : tie.Need-add-i Inv-loop μ-loop
-add-i c = ?
+add-i c = omega arith
 
--- src/checkpath.rt:125:5
 loop-less : tie.Need-loop-less Inv-loop μ-loop
-loop-less c = ?
+loop-less c = omega arith
 
--- src/checkpath.rt:125:5
 loop-again : tie.Need-loop-again Inv-loop μ-loop
-loop-again c = ?
+loop-again c =
+    let r = c .before in
+    (omega arith, grown-on _ _ _ _ (turn (asked r) .loop .inv .1) (omega arith) (r .row-extends .ensures) (not-false _ (c .if1 .left)))
 
--- src/checkpath.rt:119:1
 returns-2 : tie.Need-returns-2 Inv-loop μ-loop
-returns-2 c = ?
+returns-2 c = grown-all _ _ _ _ (c .before .loop .inv .1) (omega arith)
 
 pub is-chain-spec : {M : Type 1} → statement M
 is-chain-spec =

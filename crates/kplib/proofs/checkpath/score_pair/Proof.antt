@@ -1,36 +1,40 @@
+-- Both rows are cut to the job's width.
+use mathlib.Core.Path.{sym, _∙_}
+use Prim.Native.Nat.{_≤_}
+use native.Mathlib.Omega.{arith}
+use lib.Seq.{length-take-le}
 use borrow.Author.Needs.{needs}
 use Rattle.kplib.proofs.checkpath.score_pair.Statement.{statement}
 use Rattle.kplib.proofs.checkpath.score_pair.Tie as tie
-use Rattle.kplib.proofs.checkpath.score_pair.Reads as reads
-use Rattle.kplib.proofs.checkpath.score_pair.Lts as lts
-use Rattle.kplib.proofs.checkpath.pair_score.Reads as pair-score-reads
-use Rattle.kplib.proofs.steps.entries.Reads as entries-reads
 
--- src/checkpath.rt:230:9
+abbrev begin : tie.After-entries → tie.Start
+begin c = c .before .before .before
+
+-- the width of a row, at the places where the rows are cut to it
+width-few : (c : tie.After-entries) → c .entries .result ≤ 4096
+width-few c = omega (arith, c .entries .ensures, begin c .pre .tables .rows .short)
+
 entries-requires : tie.Need-entries-requires
 entries-requires c κs = search needs
 
--- src/checkpath.rt:239:9
 array-borrow-prefix-chain-row : tie.Need-array-borrow-prefix-chain-row
-array-borrow-prefix-chain-row c = search needs
+array-borrow-prefix-chain-row c = omega (arith, width-few c)
 
--- src/checkpath.rt:239:9
 slice-aggregate-pair-score : tie.Need-slice-aggregate-pair-score
-slice-aggregate-pair-score c = ?
+slice-aggregate-pair-score c = sym (length-take-le _ _ (omega (arith, width-few (c .before))))
 
--- src/checkpath.rt:240:9
 array-borrow-prefix-list-row : tie.Need-array-borrow-prefix-list-row
-array-borrow-prefix-list-row c = search needs
+array-borrow-prefix-list-row c = omega (arith, width-few (c .before))
 
--- src/checkpath.rt:240:9
 slice-aggregate-pair-score-2 : tie.Need-slice-aggregate-pair-score-2
-slice-aggregate-pair-score-2 c = ?
+slice-aggregate-pair-score-2 c = sym (length-take-le _ _ (omega (arith, width-few (c .before .before))))
 
--- src/checkpath.rt:231:5
 pair-score-requires : tie.Need-pair-score-requires
-pair-score-requires c κs = ?
+pair-score-requires c κs =
+    let e = c .before .before in
+    let l = width-few e in
+    (begin e .pre, length-take-le _ _ (omega (arith, l)) ∙ e .entries .ensures, length-take-le _ _ (omega (arith, l)) ∙ e .entries .ensures)
 
--- src/checkpath.rt:213:1
 returns : tie.Need-returns
 returns c = search needs
 
