@@ -15,7 +15,7 @@ use mir.Syntax.{w32}
 use mir.Val.{toZ, ofZ}
 use borrow.Author.Tests.{le-leb, lt-leb, lt-ltb, le-ltb, ltb-false, eq-eqb, ne-eqb, leb-true}
 use Rattle.metrics.specs.Similarity.{whole}
-use Rattle.paths.proofs.BooleanLaws.{and-false}
+use Rattle.paths.proofs.BooleanLaws.{and-both, and-false}
 use Rattle.params.specs.Checked.{Checked}
 use Rattle.params.specs.Numbers.{Table, Parts, Rule, firstOf, callOf, searchMode, queueNeeds, littleQueueRoom, settingsRules, lengthRules, boundRules, limitRules, roomRules, firstFault}
 use Rattle.params.proofs.CheckLaws.{Passed, numbered, stops, goes-on, none-given}
@@ -24,14 +24,16 @@ use Rattle.kplib.specs.Graph.{isChainIn}
 use Rattle.kplib.specs.Parts.{partLists}
 use Rattle.kplib.specs.Sums.{sizeOf, featuresOf}
 use Rattle.kplib.specs.Score.{listScore}
-use Rattle.kplib.specs.Scoring.{Summable, Comparable, total}
+use Rattle.kplib.specs.Scoring.{Summable, Comparable, unplaced, total}
 use Rattle.kplib.specs.SearchSteps.{Rowed}
 use Rattle.kplib.specs.Proposal.{oneOf, gives, Proposal, pairScore, isGood, longRules, proposalRules, proposalFault, checkCase, risesBelow, fewestOf, Pairable}
 use Rattle.params.specs.declared.Settings.{Settings}
 use Rattle.kplib.specs.declared.pathscore.Verdict.{Verdict}
 use Rattle.kplib.specs.declared.pathscore.Verdict.the-variants.{Skipped, Scores}
 use Rattle.kplib.specs.declared.checkpath.PathCheck.the-variants.{Yes, No, Refused}
-use Rattle.kplib.proofs.MemberLaws.{member, rising-length}
+use Rattle.kplib.proofs.MemberLaws.{member, rising-below, rising-length}
+use Rattle.kplib.proofs.OneToOneLaws.{tables-of}
+use Rattle.kplib.proofs.RowChainLaws.{sent-below}
 use Rattle.kplib.proofs.RowSumLaws.{summable, features-length, features-sum}
 use Rattle.kplib.proofs.SizeSumLaws.{size-le}
 
@@ -215,6 +217,11 @@ module _ {s : Settings} {t : Table} {p : Parts} {rows positions : List ℕ} (y :
       unfolding pairScore
       pair-is h = rw (chain-row-is, list-row-is, z, z') at h
 
+-- where the rows stand plays no part in it
+unplaced-same : (s : Settings) (t : Table) (p : Parts) (rows positions : List ℕ) → pairScore s (unplaced (t .sizes) (t .features)) p rows positions ≡ pairScore s t p rows positions
+unfolding pairScore
+unplaced-same s t p rows positions = refl
+
 -- ---- the answer
 pub scored-so : (score x size seq : Float) (v : Verdict) → v ≡ Scores x size seq → lt (whole 0) score ≡ true → {a b : ℕ} → a ≡ toBits binary32 x → b ≡ toBits binary32 score
     → {r : Bool} → r ≡ eqb a b → r ≡ gives score v
@@ -230,12 +237,33 @@ pub refused-check : (found fault : ℕ) (good : Bool) → found ≡ fault → (f
 refused-check found zero good e h = absurd (h e)
 refused-check found (suc f) good e h = rw e
 
+-- what is asked once a proposal is accepted
 module _ (s : Settings) (t : Table) (p : Parts) (o : Proposal) {found : ℕ} (e : found ≡ proposalFault s t p o) (z : found ≡ 0) where
+  sound : Checked s t p
+  sound = proposal-checked s t p o (sym e ∙ z)
+
+  pub graph-ready : (length (t .ends) ≡ length (t .starts)) × (length (t .starts) ≤ 64)
+  graph-ready = (sound .ends-are, omega (arith, sound .sized .few, sound .sizes-are))
+
   abbrev chain : Bool
   chain = isChainIn (t .starts) (t .ends) (s .full) (reverse (o .rows))
 
   abbrev listed : Bool
   listed = oneOf (o .positions) (partLists (length (p .sizes)) (s .fnmax) (s .pileupmax))
+
+  pub pairable : {a b : Bool} → a ≡ chain → a ≡ true → b ≡ listed → b ≡ true → Pairable s (unplaced (t .sizes) (t .features)) p (o .rows) (o .positions)
+  pairable f g k l =
+      let rises =
+      and-both (leb (fewestOf (length (p .sizes)) (s .fnmax) (s .pileupmax)) (length (o .positions))) (risesBelow (length (p .sizes)) 0 (o .positions))
+      (sym (member (length (p .sizes)) (s .fnmax) (s .pileupmax) (o .positions)) ∙ sym k ∙ l) .1 in
+      record {
+        k-high = sound .k-high;
+        tables = tables-of [] [] sound;
+        within = rw (sound .sizes-are) (sent-below _ (length (t .starts)) (o .rows) (sym f ∙ g));
+        few = rows-few s t p o (sym e ∙ z);
+        positions-within = rising-below (length (p .sizes)) 0 (o .positions) rises;
+        positions-few = rising-length (length (p .sizes)) (o .positions) rises;
+      }
 
   is-no : isGood s t p o ≡ false → No ≡ checkCase (proposalFault s t p o) (isGood s t p o)
   is-no h = let n : proposalFault s t p o ≡ 0 = sym e ∙ z in rw (n, h)
@@ -248,10 +276,10 @@ module _ (s : Settings) (t : Table) (p : Parts) (o : Proposal) {found : ℕ} (e 
   unfolding isGood
   no-list f h = is-no (rw (sym f ∙ h) (and-false chain))
 
-  module _ {a b : Bool} (f : a ≡ chain) (g : a ≡ true) (k : b ≡ listed) (l : b ≡ true) {v : Verdict} (i : v ≡ pairScore s t p (o .rows) (o .positions)) {r : Bool} (j : r ≡ gives (o .score) v) where
+  module _ {a b : Bool} (f : a ≡ chain) (g : a ≡ true) (k : b ≡ listed) (l : b ≡ true) {v : Verdict} (i : v ≡ pairScore s (unplaced (t .sizes) (t .features)) p (o .rows) (o .positions)) {r : Bool} (j : r ≡ gives (o .score) v) where
     good-is : isGood s t p o ≡ r
     unfolding isGood
-    good-is = rw (sym f ∙ g, sym k ∙ l, ← i) (sym j)
+    good-is = let whole : v ≡ pairScore s t p (o .rows) (o .positions) = i ∙ unplaced-same s t p (o .rows) (o .positions) in rw (sym f ∙ g, sym k ∙ l, ← whole) (sym j)
 
     pub no-score : r ≡ false → No ≡ checkCase (proposalFault s t p o) (isGood s t p o)
     no-score h = is-no (good-is ∙ h)
