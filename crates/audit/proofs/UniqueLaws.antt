@@ -90,6 +90,7 @@ unique = record {
   count-fault = λ starts ends cap. one;
   count-chains = λ starts ends full cap. one;
   apply-haplotype = λ s starts ends sizes features partSizes partFeatures links keys rows. agree;
+  check-path = λ s starts ends sizes features partSizes partFeatures rows positions score. one;
   put-report = λ answer report. one;
   apply-haplotypes = λ s starts ends sizes features partEnds featureEnds partSizes partFeatures links keys rows reports x y p q.
       agree x y (recorded (x .says) p) (recorded (y .says) q);
@@ -141,4 +142,5 @@ unique = record {
   nd-companions-remove = λ starts ends sheet rows. removed;
   nd-companions-together = λ starts ends sheet rows a b word. two;
   nd-companions-count = λ starts ends sheet rows row count. two;
+  nd-check-path = λ settings starts ends sizes features partSizes partFeatures rows positions score word. two;
 }

@@ -16,8 +16,9 @@ use Rattle.params.specs.Promises.{SearchModePromise, QueueRoomPromise, CallFaul
 use Rattle.kplib.specs.Answer.{searches}
 use Rattle.kplib.specs.declared.vargraph.ChainCount.{ChainCount}
 use Rattle.kplib.specs.declared.traverse.Answer.{Answer}
+use Rattle.kplib.specs.declared.checkpath.PathCheck.{PathCheck}
 use Rattle.kplib.specs.Haplotypes.{severalSearches}
-use Rattle.kplib.specs.Promises.{callLent, severalLent, CountChainsPromise, ApplyHaplotypePromise, PutReportPromise, ApplyHaplotypesPromise}
+use Rattle.kplib.specs.Promises.{callLent, severalLent, CountChainsPromise, ApplyHaplotypePromise, PutReportPromise, ApplyHaplotypesPromise, CheckPathPromise}
 use Rattle.dive.specs.Numbered.{numberedSearches}
 use Rattle.dive.specs.NumberedSeveral.{numberedSeveralSearches}
 use Rattle.dive.specs.Promises.{numberedLent, numberedSeveralLent, NumberedFaultPromise, ApplyNumberedPromise, ApplyNumberedHaplotypesPromise}
@@ -42,7 +43,7 @@ use Rattle.companions.specs.Promises.{AddPromise, RemovePromise, TogetherPromis
 use Rattle.desk.specs.Promises.{AnswerPromise}
 use Rattle.capi.specs.Words.{settingsOfWords}
 use Rattle.capi.specs.Promises.{NdSeqToKmerPromise, NdSeqsimPromise, NdSizesimPromise, NdCountChainsPromise, NdAnswerPromise, NdApplyHaplotypePromise, NdApplyHaplotypesPromise}
-use Rattle.capi.specs.Promises.{NdReadBedPromise, NdWriteBedPromise}
+use Rattle.capi.specs.Promises.{NdReadBedPromise, NdWriteBedPromise, NdCheckPathPromise}
 use Rattle.capi.specs.Promises.{NdCompanionsAddPromise, NdCompanionsRemovePromise, NdCompanionsTogetherPromise, NdCompanionsCountPromise}
 
 -- at most one result meets a promise of a value, and at most one pair a promise of what a slice holds at exit and a value
@@ -101,6 +102,8 @@ pub record Unique : Type 0 where
   pub apply-haplotype : (s : Settings) (starts ends : List ℕ) (sizes features partSizes partFeatures : List ℤ) (links keys rows : List ℕ)
       → Agree Answer (searches (callLent s starts ends sizes features partSizes partFeatures links keys rows))
       (λ x. ApplyHaplotypePromise s starts ends sizes features partSizes partFeatures links keys rows (x .links) (x .keys) (x .rows) (x .says))
+  pub check-path : (s : Settings) (starts ends : List ℕ) (sizes features partSizes partFeatures : List ℤ) (rows positions : List ℕ) (score : Float)
+      → One PathCheck (CheckPathPromise s starts ends sizes features partSizes partFeatures rows positions score)
   pub put-report : (answer : Answer) (report : List ℕ) → One (List ℕ) (PutReportPromise answer report)
   pub apply-haplotypes : (s : Settings) (starts ends : List ℕ) (sizes features : List ℤ) (partEnds featureEnds : List ℕ) (partSizes partFeatures : List ℤ) (links keys rows reports : List ℕ)
       → Agree (List ℕ × ℕ) (severalSearches (severalLent s starts ends sizes features partEnds featureEnds partSizes partFeatures links keys rows reports))
@@ -173,3 +176,5 @@ pub record Unique : Type 0 where
   pub nd-companions-remove : (starts ends : List ℕ) (sheet : List Bool) (rows : ℕ) → Two (List Bool × ℕ) ℕ (λ x. NdCompanionsRemovePromise starts ends sheet rows (x .0) (x .1))
   pub nd-companions-together : (starts ends : List ℕ) (sheet : List Bool) (rows a b word : ℕ) → Two ℕ ℕ (NdCompanionsTogetherPromise starts ends sheet rows a b word)
   pub nd-companions-count : (starts ends : List ℕ) (sheet : List Bool) (rows row count : ℕ) → Two ℕ ℕ (NdCompanionsCountPromise starts ends sheet rows row count)
+  pub nd-check-path : (settings starts ends : List ℕ) (sizes features partSizes partFeatures : List ℤ) (rows positions : List ℕ) (score : Float) (word : ℕ)
+      → Two ℕ ℕ (NdCheckPathPromise settings starts ends sizes features partSizes partFeatures rows positions score word)

@@ -11,6 +11,8 @@ use Rattle.params.specs.Several.{haplotypes}
 use Rattle.params.specs.declared.Settings.{Settings}
 use Rattle.params.proofs.CheckLaws.{k-high}
 use Rattle.kplib.specs.Answer.{foundAfter}
+use Rattle.kplib.specs.Proposal.{Proposal, proposalFault, checkOf}
+use Rattle.kplib.specs.declared.checkpath.PathCheck.the-variants.{Refused}
 use Rattle.kplib.specs.Haplotypes.{laid, answeredAfter}
 use Rattle.dive.specs.Numbered.{Numbered, numberedFault, numberedAnswer, numberedRows, recordsAt, recordsOf, numberedSearches}
 use Rattle.dive.specs.NumberedSeveral.{NumberedSeveral, ownNumbered, numberedSeveralFault, numberedAnswered, numberedRowsAfter, recordsAfter, numberedReportsAfter, numberedSeveralSearches}
@@ -105,3 +107,18 @@ module _ (s : Settings) (t : Table) (p : Parts) (partEnds featureEnds : List ℕ
 
   pub several-alike : {made : Settings} → made ≡ settingsHeld s → SeveralAlike (several-with made) (several-with s)
   several-alike e = rw e (several-by-k _ refl)
+
+-- ---- the same of a proposal
+module _ (s : Settings) (t : Table) (p : Parts) (o : Proposal) where
+  check-refused : (made : Settings) → 6 < made .k → checkOf made t p o ≡ Refused 1
+  unfolding checkOf proposalFault badK
+  check-refused made wide = rw (k-high (made .k) wide) refl
+
+  check-by-k : (wide : Bool) → ltb 255 (s .k) ≡ wide → checkOf (settingsHeld s) t p o ≡ checkOf s t p o
+  check-by-k false e = rw e refl
+  check-by-k true e =
+      let h : 255 < s .k = ltb-true 255 (s .k) e in
+      check-refused (settingsHeld s) (rw e (omega arith)) ∙ sym (check-refused s (omega (arith, h)))
+
+  pub check-alike : {made : Settings} → made ≡ settingsHeld s → checkOf made t p o ≡ checkOf s t p o
+  check-alike e = rw e (check-by-k _ refl)

@@ -33,5 +33,7 @@ pub mod FoundLaws
 mod CountedLaws
 pub mod RowChainLaws
 pub mod ProposalLaws
+pub mod BestKeptLaws
+pub mod OwnPathLaws
 pub mod StretchLaws
 mod HaplotypesLaws

@@ -7,10 +7,10 @@ use mathlib.Core.Bool.{Bool, true, false, cond, _&&_, _||_}
 use mathlib.Core.List.{List, [], _∷_, _++_, map}
 use lib.Dec.{leb, ltb, eqb}
 use lib.ListN.{length}
-use borrow.Author.Tests.{le-leb, lt-leb, lt-ltb, le-ltb, leb-true, leb-false, ltb-true, ltb-false, eqb-true, eqb-false, eq-eqb, ne-eqb}
+use borrow.Author.Tests.{le-leb, lt-leb, lt-ltb, le-ltb, leb-true, leb-false, ltb-true, eqb-true, eqb-false, eq-eqb, ne-eqb}
 use Rattle.paths.specs.Sums.{sameRows}
 use Rattle.paths.proofs.BooleanLaws.{and-both, and-false, and-true}
-use Rattle.kplib.specs.Parts.{positionsFrom, wholeOf, choices, fallingLists, lengthsOf, partLists}
+use Rattle.kplib.specs.Parts.{positionsFrom, choices, fallingLists, lengthsOf, partLists}
 use Rattle.kplib.specs.Scoring.{AllBelow}
 use Rattle.kplib.specs.Proposal.{oneOf, risesBelow, fewestOf}
 use Rattle.kplib.proofs.PartLaws.{choices-none, whole-only, all-lengths}

@@ -1,31 +1,28 @@
 -- The refusals of a proposal are those of a call whose rooms suffice whatever is asked, then 54; and the cases of its answer. One list is scored against one chain
 -- as the search scores them: what is summed in front of a local array is the chain's row, and the list's. Assumes nothing.
 use mathlib.Core.Path.{_≡_, refl, sym, ap, _∙_}
-use Prim.Native.Nat.{ℕ, zero, suc, _+_, _-_, _*_, _^_, _≤_, _<_, max}
+use Prim.Native.Nat.{ℕ, zero, suc, _+_, _-_, _*_, _^_, _≤_, _<_}
 use native.Mathlib.Omega.{arith}
 use native.Mathlib.Nat.{mul-le-mul-right}
-use mathlib.Core.Bool.{Bool, true, false, cond, not, _&&_, _||_}
+use mathlib.Core.Bool.{Bool, true, false, _&&_}
 use mathlib.Core.List.{List, [], _∷_, _++_, reverse}
 use lib.Dec.{leb, ltb, eqb}
-use lib.IntN.{ℤ, natAbs}
-use lib.ListN.{length, getD, take, drop, drop-of-length-le}
-use lib.Seq.{take-at, drop-cons}
+use lib.IntN.{ℤ}
+use lib.ListN.{length, getD, drop, drop-of-length-le}
+use lib.Seq.{drop-cons}
 use lib.Ieee.{Float, binary32, toBits, lt}
-use mir.Syntax.{w32}
-use mir.Val.{toZ, ofZ}
-use borrow.Author.Tests.{le-leb, lt-leb, lt-ltb, le-ltb, ltb-false, eq-eqb, ne-eqb, leb-true}
+use borrow.Author.Tests.{le-leb, lt-leb, lt-ltb, le-ltb, ltb-false}
 use Rattle.metrics.specs.Similarity.{whole}
 use Rattle.paths.proofs.BooleanLaws.{and-both, and-false}
 use Rattle.params.specs.Checked.{Checked}
 use Rattle.params.specs.Numbers.{Table, Parts, Rule, firstOf, callOf, searchMode, queueNeeds, littleQueueRoom, settingsRules, lengthRules, boundRules, limitRules, roomRules, firstFault}
-use Rattle.params.proofs.CheckLaws.{Passed, numbered, stops, goes-on, none-given}
+use Rattle.params.proofs.CheckLaws.{Passed, stops, goes-on, none-given}
 use Rattle.params.proofs.CheckedLaws.{settled, measured, accepted}
 use Rattle.kplib.specs.Graph.{isChainIn}
 use Rattle.kplib.specs.Parts.{partLists}
 use Rattle.kplib.specs.Sums.{sizeOf, featuresOf}
 use Rattle.kplib.specs.Score.{listScore}
 use Rattle.kplib.specs.Scoring.{Summable, Comparable, unplaced, total}
-use Rattle.kplib.specs.SearchSteps.{Rowed}
 use Rattle.kplib.specs.Proposal.{oneOf, gives, Proposal, pairScore, isGood, longRules, proposalRules, proposalFault, checkCase, risesBelow, fewestOf, Pairable}
 use Rattle.params.specs.declared.Settings.{Settings}
 use Rattle.kplib.specs.declared.pathscore.Verdict.{Verdict}
@@ -38,6 +35,10 @@ use Rattle.kplib.proofs.RowSumLaws.{summable, features-length, features
 use Rattle.kplib.proofs.SizeSumLaws.{size-le}
 
 -- ---- refusals
+passed-front : (rows later : List Rule) → Passed (rows ++ later) → Passed rows
+passed-front [] later q = tt
+passed-front (r ∷ rows) later q = (q .0, passed-front rows later (q .1))
+
 module _ (s : Settings) (t : Table) (p : Parts) where
   -- what both ask first
   abbrev front : List Rule
@@ -67,18 +68,13 @@ module _ (s : Settings) (t : Table) (p : Parts) where
             let some : firstOf front ≡ 0 → ⊥ = λ f. omega arith in
             e ∙ sym (stops front (roomRules s (length (t .starts)) 262145 64) (firstOf front) refl some) ∙ stops front (longRules s t p o) (firstOf front) refl some
 
-    -- an accepted call leaves 54 to be asked
-    abbrev asked : Passed (front ++ roomRules s (length (t .starts)) 262145 64) → Passed front
-    asked a =
-        let q = a .1 .1 .1 in
-        let r = q .1 .1 .1 .1 .1 in
-        let l = r .1 .1 in
-        (a .0, (a .1 .0, (a .1 .1 .0, (q .0, (q .1 .0, (q .1 .1 .0, (q .1 .1 .1 .0, (q .1 .1 .1 .1 .0, (r .0, (r .1 .0, (l .0, (l .1 .0, (l .1 .1 .0, (l .1 .1 .1 .0, (l .1 .1 .1 .1 .0, tt)))))))))))))))
-
-    module _ {found : ℕ} (e : found ≡ firstFault (callOf s t p 262145 64)) (z : found ≡ 0) where
+    -- an accepted call leaves 54 to be asked, whatever its rooms
+    module _ (queue answers : ℕ) {found : ℕ} (e : found ≡ firstFault (callOf s t p queue answers)) (z : found ≡ 0) where
       all-asked : Passed front
       unfolding firstFault
-      all-asked = asked (none-given (front ++ roomRules s (length (t .starts)) 262145 64) refl (sym e ∙ z))
+      all-asked =
+          let rooms = roomRules s (length (t .starts)) queue answers in
+          passed-front front rooms (none-given (front ++ rooms) refl (sym e ∙ z))
 
       then-long : (n : ℕ) → n ≡ firstOf (longRules s t p o) → n ≡ proposalFault s t p o
       unfolding proposalFault
@@ -105,11 +101,7 @@ module _ (s : Settings) (t : Table) (p : Parts) where
       call-accepted : firstFault (callOf s t p 262145 64) ≡ 0
       unfolding firstFault
       call-accepted =
-          let a = all-passed in
-          let q = a .1 .1 .1 in
-          let r = q .1 .1 .1 .1 .1 in
-          let l = r .1 .1 in
-          let f : Passed front = (a .0, (a .1 .0, (a .1 .1 .0, (q .0, (q .1 .0, (q .1 .1 .0, (q .1 .1 .1 .0, (q .1 .1 .1 .1 .0, (r .0, (r .1 .0, (l .0, (l .1 .0, (l .1 .1 .0, (l .1 .1 .1 .0, (l .1 .1 .1 .1 .0, tt))))))))))))))) in
+          let f = passed-front front (longRules s t p o) all-passed in
           sym (goes-on front (roomRules s (length (t .starts)) 262145 64) 0 f (sym (rooms-suffice f)))
 
       pub proposal-checked : Checked s t p
@@ -175,12 +167,6 @@ module _ {s : Settings} {t : Table} {p : Parts} {rows positions : List ℕ} (y :
 
   list-sum : Summable (4 ^ s .k) (p .features) positions
   list-sum = summable (length (p .sizes)) (4 ^ s .k) (p .features) positions (y .tables .part-rows) (y .positions-within) list-few
-
-  pub chain-rowed : Rowed (t .sizes) rows
-  chain-rowed = record { sized = y .tables .sized; within = y .within; most = y .few }
-
-  pub list-rowed : Rowed (p .sizes) positions
-  list-rowed = record { sized = y .tables .part-sized; within = y .positions-within; most = list-few }
 
   -- both rows summed into rooms of a feature row each, and both sizes
   module _ {room room' : ℕ} (l : room ≡ 4 ^ s .k) (l' : room' ≡ 4 ^ s .k) where

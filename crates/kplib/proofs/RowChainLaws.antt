@@ -1,7 +1,7 @@
 -- Rows as they are sent are a chain exactly when each is there and extends those before it: what has grown from no chain is none, so that the first row which does not decides.
 -- Whether a row stands with each of a chain's does not depend on the order in which they are asked. Assumes nothing.
 use mathlib.Core.Path.{_≡_, refl, sym, ap, _∙_}
-use Prim.Native.Nat.{ℕ, suc, _+_, _≤_, _<_}
+use Prim.Native.Nat.{ℕ, _+_, _≤_, _<_}
 use native.Mathlib.Omega.{arith}
 use native.Mathlib.Numerals.{add-one}
 use mathlib.Core.Bool.{Bool, true, false, not, _&&_}
@@ -14,7 +14,7 @@ use Rattle.metrics.specs.Similarity.{overlapsOf}
 use Rattle.paths.specs.Best.{All}
 use Rattle.paths.specs.Chains.{firstAfter, extends, isChain}
 use Rattle.paths.specs.Count.{standsWithAll}
-use Rattle.paths.proofs.BooleanLaws.{and-both, and-false, and-true, and-assoc}
+use Rattle.paths.proofs.BooleanLaws.{and-false, and-true, and-assoc}
 use Rattle.paths.proofs.QueueLaws.{all-append, chain-parts}
 use Rattle.kplib.specs.Graph.{edge, extendsIn, isChainIn}
 use Rattle.kplib.specs.Scoring.{AllBelow}

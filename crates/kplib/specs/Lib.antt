@@ -12,4 +12,5 @@ pub mod SearchSteps
 pub mod Report
 pub mod Haplotypes
 pub mod Proposal
+pub mod OwnPaths
 pub mod Promises

@@ -1,7 +1,7 @@
 -- Both rows and both sizes are summed, then the two are scored.
 use mathlib.Core.Path.{_∙_}
 use Rattle.metrics.proofs.Ints.{read-back}
-use Rattle.kplib.proofs.ProposalLaws.{chain-rowed, list-rowed, chain-summable, list-summable, comparable, pair-is}
+use Rattle.kplib.proofs.ProposalLaws.{chain-summable, list-summable, comparable, pair-is}
 use borrow.Author.Needs.{needs}
 use Rattle.kplib.proofs.checkpath.pair_score.Statement.{statement}
 use Rattle.kplib.proofs.checkpath.pair_score.Tie as tie

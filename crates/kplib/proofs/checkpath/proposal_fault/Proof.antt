@@ -1,5 +1,4 @@
 -- The call's refusal, and then 54: its rooms suffice, so that it is given no refusal of theirs.
-use native.Mathlib.Omega.{arith}
 use denote.Ref.{now}
 use Rattle.params.specs.Numbers.{Table, Parts, tableOf, partsOf}
 use Rattle.kplib.specs.Proposal.{Proposal, proposalOf}
@@ -32,17 +31,17 @@ returns c =
 returns-2 : tie.Need-returns-2
 returns-2 c =
     let k = c .before .before in let b = begin k in
-    long-rows (b .args .s) (table b) (parts b) (proposal b) (k .call-fault .ensures) (c .before .if1 .left) (c .if2 .taken)
+    long-rows (b .args .s) (table b) (parts b) (proposal b) 262145 64 (k .call-fault .ensures) (c .before .if1 .left) (c .if2 .taken)
 
 returns-3 : tie.Need-returns-3
 returns-3 c =
     let k = c .before .before .before in let b = begin k in
-    long-positions (b .args .s) (table b) (parts b) (proposal b) (k .call-fault .ensures) (c .before .before .if1 .left) (c .before .if2 .left) (c .if3 .taken)
+    long-positions (b .args .s) (table b) (parts b) (proposal b) 262145 64 (k .call-fault .ensures) (c .before .before .if1 .left) (c .before .if2 .left) (c .if3 .taken)
 
 returns-4 : tie.Need-returns-4
 returns-4 c =
     let k = c .before .before .before in let b = begin k in
-    no-fault (b .args .s) (table b) (parts b) (proposal b) (k .call-fault .ensures) (c .before .before .if1 .left) (c .before .if2 .left) (c .if3 .left)
+    no-fault (b .args .s) (table b) (parts b) (proposal b) 262145 64 (k .call-fault .ensures) (c .before .before .if1 .left) (c .before .if2 .left) (c .if3 .left)
 
 pub proposal-fault-spec : {M : Type 1} → statement M
 proposal-fault-spec =
