@@ -280,6 +280,7 @@ pub path-checks : PathChecks
 path-checks = record {
   yes-when = good-yes;
   only-when = yes-only;
+  by-rule = member;
   own-answers = own-yes;
   empty-chain = λ s t p positions score e. let o = proposalOf [] positions score in not-good s t p o (no-score s t p o (ap (gives score) (no-list s t p positions e)));
   not-above = λ s t p o h. not-good s t p o (no-score s t p o (low-score s t p o h (pairScore s t p (o .rows) (o .positions))));

@@ -1,8 +1,9 @@
 -- Document 02, P13: what holds of every check of a proposal. The answers of our own search are among those that get a yes.
 use Prim.Native.Nat.{ℕ, _^_}
 use mathlib.Core.Path.{_≡_}
-use mathlib.Core.Bool.{true, false, cond}
+use mathlib.Core.Bool.{true, false, cond, _&&_}
 use mathlib.Core.List.{List, [], _∷_, reverse}
+use lib.Dec.{leb}
 use lib.ListN.{length}
 use lib.Ieee.{Float, binary32, toBits, lt}
 use Rattle.metrics.specs.Similarity.{whole}
@@ -12,7 +13,7 @@ use Rattle.kplib.specs.Parts.{partLists}
 use Rattle.kplib.specs.Sums.{sizeOf, featuresOf, totalOf}
 use Rattle.kplib.specs.Score.{start, afterList}
 use Rattle.kplib.specs.Answer.{answerOf, rowsOf, searches}
-use Rattle.kplib.specs.Proposal.{Proposal, proposalOf, oneOf, pairScore, proposalFault, checkCase, checkOf}
+use Rattle.kplib.specs.Proposal.{Proposal, proposalOf, oneOf, pairScore, proposalFault, checkCase, checkOf, risesBelow, fewestOf}
 use Rattle.params.specs.declared.Settings.{Settings}
 use Rattle.kplib.specs.declared.pathscore.Scored.{Scored}
 use Rattle.kplib.specs.declared.pathscore.Verdict.the-variants.{Scores}
@@ -57,6 +58,8 @@ pub record PathChecks : Type 0 where
   -- yes exactly when
   pub yes-when : (s : Settings) (t : Table) (p : Parts) (o : Proposal) → Good s t p o → checkOf s t p o ≡ Yes
   pub only-when : (s : Settings) (t : Table) (p : Parts) (o : Proposal) → checkOf s t p o ≡ Yes → Good s t p o
+  -- one of the part lists: positions that rise below m, at least as many as the shortest list has
+  pub by-rule : (m fnmax pileupmax : ℕ) (positions : List ℕ) → oneOf positions (partLists m fnmax pileupmax) ≡ (leb (fewestOf m fnmax pileupmax) (length positions) && risesBelow m 0 positions)
   -- every answer in search mode with a score above 0 gets a yes with the list that won
   pub own-answers : (c : Call) → searches c ≡ true → lt (whole 0) (answerOf c .score) ≡ true
       → let s = c .settings in let t = c .table in let p = c .parts in

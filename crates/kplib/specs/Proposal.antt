@@ -90,7 +90,7 @@ unfoldable pub checkOf : Settings → Table → Parts → Proposal → PathCheck
 unfolding isGood proposalFault
 checkOf s t p o = checkCase (proposalFault s t p o) (isGood s t p o)
 
--- ---- membership by its own rule, which the code asks instead of going through the lists. No public promise cites what follows.
+-- ---- membership by its own rule, which the code asks instead of going through the lists. No public promise cites what follows; that it is membership: `by-rule` of PathChecks.
 
 -- they rise from `next` on, all below m
 abbrev pub risesBelow : ℕ → ℕ → List ℕ → Bool
