@@ -203,6 +203,22 @@ uint32_t nd_apply_haplotypes(const struct nd_settings *settings, const uint64_t 
                              uint32_t *records, size_t records_len, uint32_t *reports,
                              size_t reports_len);
 
+/* Is a path that someone else found a good one? It is rows of the table, positions among the parts,
+ * from 0, and a score. *yes is 1 exactly where the rows ascend and no two overlap (with full 0: there
+ * are none), the positions are one of the lists of parts that a search tries, and that list scored
+ * against those rows passes every test and gives that score, greater than 0, bit for bit; else 0. An
+ * answer of nd_apply_haplotype in search mode with a score above 0 gets a yes with the list that won.
+ * one_to_one, maxnodes and maxpaths play no part. One list is scored, however many there are.
+ * Refuses by 1 to 10 and 16 as nd_apply_haplotype does, then by 54 (over 64 rows or over 64
+ * positions), with *yes 0; a row or a position that isn't there is a no. */
+uint32_t nd_check_path(const struct nd_settings *settings, const uint64_t *starts,
+                       size_t starts_len, const uint64_t *ends, size_t ends_len,
+                       const int32_t *sizes, size_t sizes_len, const int32_t *features,
+                       size_t features_len, const int32_t *part_sizes, size_t part_sizes_len,
+                       const int32_t *part_features, size_t part_features_len,
+                       const uint32_t *rows, size_t rows_len, const uint32_t *positions,
+                       size_t positions_len, float score, uint32_t *yes);
+
 /* How long a text the program may print. */
 enum { ND_TEXT_LEN = 8192 };
 

@@ -61,6 +61,27 @@ mod archive {
             row: u32,
             count: *mut u32,
         ) -> u32;
+        pub fn nd_check_path(
+            settings: *const [u32; 13],
+            starts: *const u64,
+            starts_len: usize,
+            ends: *const u64,
+            ends_len: usize,
+            sizes: *const i32,
+            sizes_len: usize,
+            features: *const i32,
+            features_len: usize,
+            part_sizes: *const i32,
+            part_sizes_len: usize,
+            part_features: *const i32,
+            part_features_len: usize,
+            rows: *const u32,
+            rows_len: usize,
+            positions: *const u32,
+            positions_len: usize,
+            score: f32,
+            yes: *mut u32,
+        ) -> u32;
         pub fn nd_apply_haplotype(
             settings: *const [u32; 13],
             starts: *const u64,
@@ -393,6 +414,32 @@ fn search_all(settings: &Settings, table: &Table, parts: &Stretches, room: &mut 
             left.records.len(),
             left.reports.as_mut_ptr(),
             left.reports.len(),
+        )
+    }
+}
+
+pub fn check_path(settings: &Settings, table: &Table, haplotype: &Haplotype, rows: &[u32], positions: &[u32], score: f32, yes: &mut u32) -> u32 {
+    unsafe {
+        archive::nd_check_path(
+            &words(settings),
+            table.starts().as_ptr(),
+            table.starts().len(),
+            table.ends().as_ptr(),
+            table.ends().len(),
+            table.sizes().as_ptr(),
+            table.sizes().len(),
+            table.features().as_ptr(),
+            table.features().len(),
+            haplotype.sizes().as_ptr(),
+            haplotype.sizes().len(),
+            haplotype.features().as_ptr(),
+            haplotype.features().len(),
+            rows.as_ptr(),
+            rows.len(),
+            positions.as_ptr(),
+            positions.len(),
+            score,
+            yes,
         )
     }
 }
