@@ -22,22 +22,14 @@ fn listed<'a>(names: impl Iterator<Item = &'a str>) -> String {
     if all.len() > 8 { format!("{shown}, and {} more", all.len() - 8) } else { shown }
 }
 
-/// The place of one name, or of a number from 0 where no name reads so.
+/// The place of a name, or of a number from 0 where no name reads so. No two rows, or parts, of a sheet share a name.
 fn place(option: &str, word: &str, named: &[&Sequence]) -> Result<usize, Failure> {
-    let places: Vec<usize> = (0..named.len()).filter(|&place| named[place].name == word).collect();
-    let number = word.parse().ok().filter(|_| word.bytes().all(|byte| byte.is_ascii_digit()));
-    match (&places[..], number) {
-        ([place], _) => Ok(*place),
-        ([], Some(place)) => Ok(place),
-        ([], None) => {
-            let names = if named.is_empty() { "the sheet has none".into() } else { format!("the sheet has {}", listed(named.iter().map(|one| one.name.as_str()))) };
-            Err(Failure::Input(format!("{option}: \"{word}\" is no name on the sheet; write one that is, or its number from 0: {names}")))
-        }
-        (several, _) => {
-            let lines = several.iter().map(|&place| named[place].line.to_string()).collect::<Vec<_>>().join(", ");
-            Err(Failure::Input(format!("{option}: \"{word}\" stands in lines {lines}; write the number from 0 of the one you mean: {}", several.iter().map(usize::to_string).collect::<Vec<_>>().join(" or "))))
-        }
-    }
+    let number = || word.parse().ok().filter(|_| word.bytes().all(|byte| byte.is_ascii_digit()));
+    let known = named.iter().position(|one| one.name == word).or_else(number);
+    known.ok_or_else(|| {
+        let names = if named.is_empty() { "none".into() } else { listed(named.iter().map(|one| one.name.as_str())) };
+        Failure::Input(format!("{option}: \"{word}\" is no name on the sheet; write one that is, or its number from 0: the sheet has {names}"))
+    })
 }
 
 /// Names parted by commas, or the words for none and for all.

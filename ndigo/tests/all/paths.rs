@@ -70,11 +70,11 @@ fn what_is_written_wrong_is_told() {
 
 #[test]
 fn one_of_several_haplotypes_is_named() {
-    let sheet = GOOD.replace("part\tsize\tletters\nP\t5\tCCCCC\n", "part\thaplotype\tsize\tletters\nP\tleft\t5\tCCCCC\nP\tright\t4\tAAAA\n");
-    let unnamed = asked(&sheet, "B", "P", "1");
+    let sheet = GOOD.replace("part\tsize\tletters\nP\t5\tCCCCC\n", "part\thaplotype\tsize\tletters\nP\tleft\t5\tCCCCC\nR\tright\t4\tAAAA\n");
+    let unnamed = asked(&sheet, "B", "all", "1");
     assert_eq!(unnamed.status, 2);
     assert!(unnamed.err.contains("the sheet names several haplotypes: left, right; write --haplotype and one of them"), "{}", unnamed.err);
-    let named = |name: &str| ask("check-path", &sheet, &["--rows", "B", "--parts", "P", "--score", "1", "--haplotype", name]);
+    let named = |name: &str| ask("check-path", &sheet, &["--rows", "B", "--parts", "all", "--score", "1", "--haplotype", name]);
     assert_eq!((named("left").status, named("right").status, named("middle").status), (0, 1, 2));
     assert!(named("middle").err.contains("write one of left, right"));
 }
