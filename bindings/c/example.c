@@ -186,6 +186,34 @@ static void two_haplotypes(void)
     expect("its report then", answers.reports[0], mark);
 }
 
+/* Somebody else's path over the same variants, with these letters in its part: rows and positions, as many as are said. */
+static uint32_t proposed(const uint32_t *rows, size_t rows_len, const uint32_t *positions, size_t positions_len, float score, uint32_t *yes)
+{
+    uint64_t starts[V] = {10, 20}, ends[V] = {10, 20};
+    int32_t sizes[V] = {2, 2}, features[V * ENTRIES], part_sizes[1] = {2}, part_features[ENTRIES];
+    struct nd_settings settings = worked_settings();
+    count("AG", features);
+    count("CT", features + ENTRIES);
+    count("AG", part_features);
+    return nd_check_path(&settings, starts, V, ends, V, sizes, V, features, V * ENTRIES, part_sizes, 1, part_features, ENTRIES, rows, rows_len, positions,
+                         positions_len, score, yes);
+}
+
+static void check_path(void)
+{
+    const uint32_t rows[V] = {0, 1}, other[V] = {1, 0}, position[1] = {0}, many[65] = {0};
+    uint32_t yes = MARK;
+    expect("the worked answer", proposed(rows, 1, position, 1, 1.0f, &yes), ND_ACCEPTED);
+    expect("a yes", yes, 1);
+    expect("another row", proposed(other, 1, position, 1, 1.0f, &yes), ND_ACCEPTED);
+    expect("a no", yes, 0);
+    expect("one bit less", proposed(rows, 1, position, 1, 0.99999994f, &yes) == ND_ACCEPTED && yes == 0, 1);
+    expect("no position", proposed(rows, 1, position, 0, 1.0f, &yes) == ND_ACCEPTED && yes == 0, 1);
+    expect("65 rows", proposed(many, 65, position, 1, 1.0f, &yes), ND_REFUSED_LONG_PROPOSAL);
+    expect("its answer", yes, 0);
+    expect("65 positions", proposed(rows, 1, many, 65, 1.0f, &yes), ND_REFUSED_LONG_PROPOSAL);
+}
+
 static void program_text(void)
 {
     const char *wanted = "refused 21\n";
@@ -291,6 +319,7 @@ int main(void)
     bed();
     companions();
     data();
+    check_path();
     similarities();
     puts(failed ? "the " LANGUAGE " binding differs" : "the " LANGUAGE " binding agrees");
     return failed;

@@ -60,6 +60,7 @@ enum nd_refusal {
     ND_REFUSED_NO_SUCH_SAMPLE = 51, /* a sample index at or above the sample count */
     ND_REFUSED_UNEQUAL_SAMPLES = 52, /* unequal sample counts */
     ND_REFUSED_COVERAGE_OVERFLOW = 53, /* a coverage sum passes 64 bits */
+    ND_REFUSED_LONG_PROPOSAL = 54, /* a proposal over 64 rows or over 64 positions */
 };
 
 /* The table's words for a refusal's number, for a message. */
@@ -101,6 +102,7 @@ static inline const char *nd_refusal_text(uint32_t number)
     case ND_REFUSED_NO_SUCH_SAMPLE: return "a sample index at or above the sample count";
     case ND_REFUSED_UNEQUAL_SAMPLES: return "unequal sample counts";
     case ND_REFUSED_COVERAGE_OVERFLOW: return "a coverage sum passes 64 bits";
+    case ND_REFUSED_LONG_PROPOSAL: return "a proposal over 64 rows or over 64 positions";
     default: return "not in the table of refusals";
     }
 }
@@ -212,6 +214,22 @@ uint32_t nd_apply_haplotypes(const struct nd_settings *settings, const uint64_t 
                              uint64_t *keys, size_t keys_len, uint32_t *rows, size_t rows_len,
                              uint32_t *records, size_t records_len, uint32_t *reports,
                              size_t reports_len);
+
+/* Is a path that someone else found a good one? It is rows of the table, positions among the parts,
+ * from 0, and a score. *yes is 1 exactly where the rows ascend and no two overlap (with full 0: there
+ * are none), the positions are one of the lists of parts that a search tries, and that list scored
+ * against those rows passes every test and gives that score, greater than 0, bit for bit; else 0. An
+ * answer of nd_apply_haplotype in search mode with a score above 0 gets a yes with the list that won.
+ * one_to_one, maxnodes and maxpaths play no part. One list is scored, however many there are.
+ * Refuses by 1 to 10 and 16 as nd_apply_haplotype does, then by 54 (over 64 rows or over 64
+ * positions), with *yes 0; a row or a position that isn't there is a no. */
+uint32_t nd_check_path(const struct nd_settings *settings, const uint64_t *starts,
+                       size_t starts_len, const uint64_t *ends, size_t ends_len,
+                       const int32_t *sizes, size_t sizes_len, const int32_t *features,
+                       size_t features_len, const int32_t *part_sizes, size_t part_sizes_len,
+                       const int32_t *part_features, size_t part_features_len,
+                       const uint32_t *rows, size_t rows_len, const uint32_t *positions,
+                       size_t positions_len, float score, uint32_t *yes);
 
 /* How long a text the program may print. */
 enum { ND_TEXT_LEN = 8192 };

@@ -6,6 +6,7 @@ use crate::draw;
 use crate::fault::Failure;
 use crate::job;
 use crate::model::{counted, Sheet, Variant};
+use crate::proposal::{self, Written};
 use crate::refusals::{self, Refusal};
 use crate::search::{self, Own};
 use crate::sheet;
@@ -103,6 +104,13 @@ pub fn check(file: &str, data: &[u8], sort: bool, form: Form) -> Result<Told, Fa
         return Err(Failure::Sheet { faults: read.faults, notes: read.notes });
     }
     Ok(Told::text(checked.status(), checked.text()))
+}
+
+/// Somebody else's path; notes and warnings go to standard error.
+pub fn check_path(data: &[u8], sort: bool, written: &Written) -> Result<Told, Failure> {
+    let (sheet, notes) = read(data, sort)?;
+    let told = proposal::told(&sheet, written)?;
+    Ok(Told { remarks: remarks(&notes, &[]), ..told })
 }
 
 /// The job form takes sheets that the rules refuse, but not a sequence over its limit, nor letters other than 0.

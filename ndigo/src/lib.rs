@@ -9,6 +9,7 @@ pub mod fault;
 pub mod float;
 pub mod job;
 pub mod model;
+pub mod proposal;
 pub mod refusals;
 pub mod search;
 pub mod sheet;

@@ -1,6 +1,7 @@
-//! ndigo's command line. Statuses: 0 done, 1 refused by the rules, 2 cannot be read, 3 cannot be written.
+//! ndigo's command line. Statuses: 0 done, 1 refused by the rules or a no, 2 cannot be read, 3 cannot be written.
 use ndigo::asked::{self, table_line};
 use ndigo::commands::{grammar, parsed, Cli, Command, Form};
+use ndigo::proposal::Written;
 use ndigo::work::{put_all, run, say, Sink, Told};
 use ndigo::{answer, batch, check};
 use std::process::ExitCode;
@@ -18,6 +19,11 @@ fn status(cli: Cli) -> u8 {
         Command::Check { sheets, form } => run(&sheets.files, &output(form, &check::TABLE_HEADINGS), |file, data| {
             asked::check(file, data, sheets.sort, form).unwrap_or_else(Told::from)
         }),
+        Command::CheckPath { sheets, rows, parts, score, haplotype } => {
+            let written = Written { rows: &rows, parts: &parts, score: &score, haplotype: haplotype.as_deref() };
+            let sink = Sink::Output { first: vec![], titled: true };
+            run(&sheets.files, &sink, |_, data| asked::check_path(data, sheets.sort, &written).unwrap_or_else(Told::from))
+        }
         Command::Draw { sheets, rows, into } => {
             let sink = Sink::Files { folder: into.into, ending: "svg" };
             run(&sheets.files, &sink, |file, data| asked::draw(file, data, sheets.sort, rows.as_deref()).unwrap_or_else(Told::from))

@@ -68,6 +68,14 @@ pub fn answers(sheet: &Sheet) -> Result<Vec<Own>, Vec<Refusal>> {
     Ok(own.into_iter().zip(&each).map(alone).collect())
 }
 
+/// Whether a path that someone else proposes for a haplotype, in a sheet of its own, is a good one; or every reason why that is refused.
+/// Record numbers play no part in it.
+pub fn check_path(own: &Sheet, rows: &[usize], positions: &[usize], score: f32) -> Result<bool, Vec<Refusal>> {
+    let settings = own.settings.to_library();
+    let asked = table(own, &settings).and_then(|table| ndigomarr::check_path(&settings, &table, &haplotype(&own.parts, &settings)?, rows, positions, score));
+    asked.map_err(|refusal| with_first(refusal, refusals::of(own).into_iter().filter(|reason| reason.number != 14).collect()))
+}
+
 /// Every reason why the library refuses, as `answers` gives them; the search itself is left at its first path, since it refuses nothing.
 pub fn refused(sheet: &Sheet) -> Vec<Refusal> {
     let mut short = sheet.clone();
@@ -141,6 +149,27 @@ fn lists(length: usize, count: usize) -> Vec<Vec<usize>> {
         all = all.iter().flat_map(extended).collect();
     }
     all
+}
+
+/// How alike some rows and some parts are.
+pub struct Alike {
+    /// Whether the sizes have one sign.
+    pub signs: bool,
+    pub sizesim: f32,
+    pub seqsim: f32,
+}
+
+/// By the library's own similarities; none where a sequence or a sum is over its limit.
+pub fn alike(sheet: &Sheet, rows: &[usize], parts: &[usize]) -> Option<Alike> {
+    let settings = sheet.settings.to_library();
+    let rows: Option<Vec<_>> = rows.iter().map(|&row| counted(&sheet.variants[row].sequence, &settings)).collect();
+    let parts: Option<Vec<_>> = parts.iter().map(|&part| counted(&sheet.parts[part], &settings)).collect();
+    let ((size, features), (part_size, part_features)) = (summed(rows?.iter(), settings.k), summed(parts?.iter(), settings.k));
+    Some(Alike {
+        signs: size.signum() == part_size.signum(),
+        sizesim: ndigomarr::sizesim(size.unsigned_abs(), part_size.unsigned_abs()).ok()?,
+        seqsim: ndigomarr::seqsim(&features, &part_features, settings.minkfreq).ok()?,
+    })
 }
 
 /// Which parts the answer's list holds; none where nothing was matched. The library says how many were left out; the list is the

@@ -36,4 +36,5 @@ TABLE: Dict[int, Tuple[str, str]] = {
     51: ("NO_SUCH_SAMPLE", "a sample index at or above the sample count"),
     52: ("UNEQUAL_SAMPLES", "unequal sample counts"),
     53: ("COVERAGE_OVERFLOW", "a coverage sum passes 64 bits"),
+    54: ("LONG_PROPOSAL", "a proposal over 64 rows or over 64 positions"),
 }

@@ -5,7 +5,7 @@ from dataclasses import asdict, dataclass
 from itertools import accumulate
 from typing import Any, List, Optional, Sequence, Union
 
-from ._lent import array, word
+from ._lent import Numbers, array, word
 from ._library import LIBRARY, Refused, accepted
 from ._meta import HaplotypeMeta
 from ._settings import Settings, Words
@@ -90,6 +90,22 @@ def apply_haplotype(settings: Settings, table: Table, haplotype: Haplotype) -> A
         ctypes.byref(words), *_table(table, settings), *_given(haplotype.sizes, i32), *_given(_read_alike(haplotype, settings), i32),
         links, room, keys, room, rows, len(rows), records, len(records), report), haplotype.meta)
     return _answer(report, rows, records, haplotype.meta)
+
+
+def check_path(settings: Settings, table: Table, haplotype: Haplotype, rows: Numbers, positions: Numbers, score: float) -> bool:
+    """Whether a path that someone else found is a good one: rows of the table, positions among the haplotype's parts, from 0, and a score.
+
+    Yes exactly where the rows ascend and no two overlap, the positions are one of the lists of parts that a search tries, and that list scored
+    against those rows passes every test and gives that score, greater than 0, bit for bit, as a float of 32 bits. An answer in search mode with
+    a score above 0 gets a yes with the list that won. A row or a position that isn't there is a no; over 64 of either is refused by 54.
+    """
+    u32, u64, i32, yes = ctypes.c_uint32, ctypes.c_uint64, ctypes.c_int32, ctypes.c_uint32()
+    words = words_of(settings)
+    held = (*_given(table.starts, u64), *_given(table.ends, u64), *_given(table.sizes, i32), *_given(_read_alike(table, settings), i32))
+    accepted(LIBRARY.nd_check_path(
+        ctypes.byref(words), *held, *_given(haplotype.sizes, i32), *_given(_read_alike(haplotype, settings), i32),
+        *_given(rows, u32), *_given(positions, u32), float(score), ctypes.byref(yes)))
+    return yes.value == 1
 
 
 def apply_haplotypes(settings: Settings, table: Table, haplotypes: Sequence[Haplotype]) -> List[Union[Answer, Refused]]:

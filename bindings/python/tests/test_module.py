@@ -145,6 +145,19 @@ def test_one_reading_for_table_haplotype_and_settings():
         assert answers[0].rows == [0] and answers[1].number == 6
 
 
+def test_somebody_elses_path():
+    table, haplotype = worked()
+    answer = ndigomarr.apply_haplotype(SETTINGS, table, haplotype)
+    asked = lambda rows, positions, score: ndigomarr.check_path(SETTINGS, table, haplotype, rows, positions, score)
+    assert asked(answer.rows, [0], answer.score)
+    for rows, positions, score in [([1], [0], 1.0), ([0, 1], [0], 1.0), ([1, 0], [0], 1.0), ([2], [0], 1.0), ([0], [], 1.0), ([0], [1], 1.0), ([0], [0], 0.99999994), ([0], [0], float("nan"))]:
+        assert not asked(rows, positions, score)
+    for rows, positions in [([0] * 65, [0]), ([0], [0] * 65)]:
+        with pytest.raises(Refused) as told:
+            asked(rows, positions, 1.0)
+        assert (told.value.number, told.value.name) == (54, "LONG_PROPOSAL")
+
+
 def test_a_repeated_record_number():
     table, haplotype = worked()
     table.insertion(30, "AG", record=268)

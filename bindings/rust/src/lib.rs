@@ -290,6 +290,38 @@ pub fn apply_haplotypes_in(settings: &Settings, table: &Table, haplotypes: &[Hap
     raw::apply_haplotypes(settings, table, haplotypes, room)
 }
 
+/// Whether a path that someone else found is a good one: rows of the table, positions among the haplotype's parts, from 0, and a score.
+/// Yes exactly where the rows ascend and no two overlap, the positions are one of the lists of parts that a search tries, and that list scored
+/// against those rows passes every test and gives that score, greater than 0, bit for bit. An answer in search mode with a score above 0 gets a
+/// yes with the list that won. A row or a position that isn't there is a no; over 64 of either is refused by 54.
+///
+/// ```
+/// use ndigomarr::{apply_haplotype, check_path, Settings};
+///
+/// let settings = Settings { k: 1, minkfreq: 1, ..Settings::default() };
+/// let mut table = settings.table();
+/// table.insertion(10, b"AG")?;
+/// table.insertion(20, b"CT")?;
+/// let mut haplotype = settings.haplotype();
+/// haplotype.insertion(b"AG")?;
+///
+/// let answer = apply_haplotype(&settings, &table, &haplotype)?;
+/// assert!(check_path(&settings, &table, &haplotype, &answer.rows, &[0], answer.score)?);
+/// assert!(!check_path(&settings, &table, &haplotype, &[1], &[0], answer.score)?);
+/// assert!(!check_path(&settings, &table, &haplotype, &answer.rows, &[0], 0.9)?);
+/// # Ok::<(), ndigomarr::Refusal>(())
+/// ```
+pub fn check_path(settings: &Settings, table: &Table, haplotype: &Haplotype, rows: &[usize], positions: &[usize], score: f32) -> Result<bool, Refusal> {
+    let mut yes = 0;
+    let number = raw::check_path(settings, table, haplotype, &lent(rows), &lent(positions), score, &mut yes);
+    checked(number, yes == 1)
+}
+
+/// Numbers as they are lent. One that no u32 holds is beyond every table, and so is the largest u32.
+fn lent(numbers: &[usize]) -> Vec<u32> {
+    numbers.iter().map(|&number| u32::try_from(number).unwrap_or(u32::MAX)).collect()
+}
+
 /// The program's answer to a job's bytes: its lines of text. A job that the program refuses is answered by a line that says so.
 ///
 /// ```

@@ -64,6 +64,27 @@ mod archive {
         pub fn nd_meta_new(index: u64, samples: u64, meta: *mut [u64; 28]) -> u32;
         pub fn nd_meta_blank(samples: u64, meta: *mut [u64; 28]) -> u32;
         pub fn nd_meta_combine(left: *mut [u64; 28], right: *const [u64; 28]) -> u32;
+        pub fn nd_check_path(
+            settings: *const [u32; 14],
+            starts: *const u64,
+            starts_len: usize,
+            ends: *const u64,
+            ends_len: usize,
+            sizes: *const i32,
+            sizes_len: usize,
+            features: *const i32,
+            features_len: usize,
+            part_sizes: *const i32,
+            part_sizes_len: usize,
+            part_features: *const i32,
+            part_features_len: usize,
+            rows: *const u32,
+            rows_len: usize,
+            positions: *const u32,
+            positions_len: usize,
+            score: f32,
+            yes: *mut u32,
+        ) -> u32;
         pub fn nd_apply_haplotype(
             settings: *const [u32; 14],
             starts: *const u64,
@@ -409,6 +430,32 @@ fn search_all(settings: &Settings, table: &Table, parts: &Stretches, room: &mut 
             left.records.len(),
             left.reports.as_mut_ptr(),
             left.reports.len(),
+        )
+    }
+}
+
+pub fn check_path(settings: &Settings, table: &Table, haplotype: &Haplotype, rows: &[u32], positions: &[u32], score: f32, yes: &mut u32) -> u32 {
+    unsafe {
+        archive::nd_check_path(
+            &words(settings),
+            table.starts().as_ptr(),
+            table.starts().len(),
+            table.ends().as_ptr(),
+            table.ends().len(),
+            table.sizes().as_ptr(),
+            table.sizes().len(),
+            table.features(settings.letters).as_ptr(),
+            table.features(settings.letters).len(),
+            haplotype.sizes().as_ptr(),
+            haplotype.sizes().len(),
+            haplotype.features(settings.letters).as_ptr(),
+            haplotype.features(settings.letters).len(),
+            rows.as_ptr(),
+            rows.len(),
+            positions.as_ptr(),
+            positions.len(),
+            score,
+            yes,
         )
     }
 }

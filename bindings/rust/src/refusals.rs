@@ -72,12 +72,14 @@ pub enum Refusal {
     UnequalSamples,
     /// 53: a coverage sum passes 64 bits
     CoverageOverflow,
+    /// 54: a proposal over 64 rows or over 64 positions
+    LongProposal,
     /// A number that this table has not: the library that is linked is of another edition than this crate.
     Other(u32),
 }
 
 /// Number, case and words of each.
-pub(crate) const TABLE: [(u32, Refusal, &str); 34] = [
+pub(crate) const TABLE: [(u32, Refusal, &str); 35] = [
     (1, Refusal::BadK, "k not 1 to 6"),
     (2, Refusal::BadFloat, "a float setting is NaN or outside its range"),
     (3, Refusal::BadNumber, "a whole-number setting over its limit"),
@@ -112,4 +114,5 @@ pub(crate) const TABLE: [(u32, Refusal, &str); 34] = [
     (51, Refusal::NoSuchSample, "a sample index at or above the sample count"),
     (52, Refusal::UnequalSamples, "unequal sample counts"),
     (53, Refusal::CoverageOverflow, "a coverage sum passes 64 bits"),
+    (54, Refusal::LongProposal, "a proposal over 64 rows or over 64 positions"),
 ];

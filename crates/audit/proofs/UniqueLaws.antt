@@ -90,6 +90,7 @@ unique = record {
   count-fault = λ starts ends cap. one;
   count-chains = λ starts ends full cap. one;
   apply-haplotype = λ s starts ends sizes features partSizes partFeatures links keys rows. agree;
+  check-path = λ s starts ends sizes features partSizes partFeatures rows positions score. one;
   put-report = λ answer report. one;
   apply-haplotypes = λ s starts ends sizes features partEnds featureEnds partSizes partFeatures links keys rows reports x y p q.
       agree x y (recorded (x .says) p) (recorded (y .says) q);
@@ -154,4 +155,5 @@ unique = record {
   nd-meta-new = λ index samples meta. two;
   nd-meta-blank = λ samples meta. two;
   nd-meta-combine = λ left right. two;
+  nd-check-path = λ settings starts ends sizes features partSizes partFeatures rows positions score word. two;
 }

@@ -16,8 +16,9 @@ use Rattle.params.specs.Promises.{SearchModePromise, QueueRoomPromise, CallFaul
 use Rattle.kplib.specs.Answer.{searches}
 use Rattle.kplib.specs.declared.vargraph.ChainCount.{ChainCount}
 use Rattle.kplib.specs.declared.traverse.Answer.{Answer}
+use Rattle.kplib.specs.declared.checkpath.PathCheck.{PathCheck}
 use Rattle.kplib.specs.Haplotypes.{severalSearches}
-use Rattle.kplib.specs.Promises.{callLent, severalLent, CountChainsPromise, ApplyHaplotypePromise, PutReportPromise, ApplyHaplotypesPromise}
+use Rattle.kplib.specs.Promises.{callLent, severalLent, CountChainsPromise, ApplyHaplotypePromise, PutReportPromise, ApplyHaplotypesPromise, CheckPathPromise}
 use Rattle.dive.specs.Numbered.{numberedSearches}
 use Rattle.dive.specs.NumberedSeveral.{numberedSeveralSearches}
 use Rattle.dive.specs.Promises.{numberedLent, numberedSeveralLent, NumberedFaultPromise, ApplyNumberedPromise, ApplyNumberedHaplotypesPromise}
@@ -49,7 +50,7 @@ use Rattle.companions.specs.Promises.{AddPromise, RemovePromise, TogetherPromis
 use Rattle.desk.specs.Promises.{AnswerPromise}
 use Rattle.capi.specs.Words.{settingsOfWords}
 use Rattle.capi.specs.Promises.{NdSeqToKmerPromise, NdSeqsimPromise, NdSizesimPromise, NdCountChainsPromise, NdAnswerPromise, NdApplyHaplotypePromise, NdApplyHaplotypesPromise}
-use Rattle.capi.specs.Promises.{NdReadBedPromise, NdWriteBedPromise}
+use Rattle.capi.specs.Promises.{NdReadBedPromise, NdWriteBedPromise, NdCheckPathPromise}
 use Rattle.capi.specs.Promises.{NdCompanionsAddPromise, NdCompanionsRemovePromise, NdCompanionsTogetherPromise, NdCompanionsCountPromise}
 use Rattle.capi.specs.Promises.{NdMetaNewPromise, NdMetaBlankPromise, NdMetaCombinePromise}
 
@@ -109,6 +110,8 @@ pub record Unique : Type 0 where
   pub apply-haplotype : (s : Settings) (starts ends : List ℕ) (sizes features partSizes partFeatures : List ℤ) (links keys rows : List ℕ)
       → Agree Answer (searches (callLent s starts ends sizes features partSizes partFeatures links keys rows))
       (λ x. ApplyHaplotypePromise s starts ends sizes features partSizes partFeatures links keys rows (x .links) (x .keys) (x .rows) (x .says))
+  pub check-path : (s : Settings) (starts ends : List ℕ) (sizes features partSizes partFeatures : List ℤ) (rows positions : List ℕ) (score : Float)
+      → One PathCheck (CheckPathPromise s starts ends sizes features partSizes partFeatures rows positions score)
   pub put-report : (answer : Answer) (report : List ℕ) → One (List ℕ) (PutReportPromise answer report)
   pub apply-haplotypes : (s : Settings) (starts ends : List ℕ) (sizes features : List ℤ) (partEnds featureEnds : List ℕ) (partSizes partFeatures : List ℤ) (links keys rows reports : List ℕ)
       → Agree (List ℕ × ℕ) (severalSearches (severalLent s starts ends sizes features partEnds featureEnds partSizes partFeatures links keys rows reports))
@@ -201,3 +204,5 @@ pub record Unique : Type 0 where
   pub nd-meta-new : (index samples : ℕ) (meta : List ℕ) → Two (List ℕ) ℕ (NdMetaNewPromise index samples meta)
   pub nd-meta-blank : (samples : ℕ) (meta : List ℕ) → Two (List ℕ) ℕ (NdMetaBlankPromise samples meta)
   pub nd-meta-combine : (left right : List ℕ) → Two (List ℕ) ℕ (NdMetaCombinePromise left right)
+  pub nd-check-path : (settings starts ends : List ℕ) (sizes features partSizes partFeatures : List ℤ) (rows positions : List ℕ) (score : Float) (word : ℕ)
+      → Two ℕ ℕ (NdCheckPathPromise settings starts ends sizes features partSizes partFeatures rows positions score word)

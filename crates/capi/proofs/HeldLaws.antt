@@ -12,6 +12,8 @@ use Rattle.params.specs.Several.{haplotypes}
 use Rattle.params.specs.declared.Settings.{Settings}
 use Rattle.params.proofs.CheckLaws.{k-high}
 use Rattle.kplib.specs.Answer.{foundAfter}
+use Rattle.kplib.specs.Proposal.{Proposal, proposalFault, checkOf, isGood, checkCase}
+use Rattle.kplib.specs.declared.checkpath.PathCheck.the-variants.{Refused}
 use Rattle.kplib.specs.Haplotypes.{laid, answeredAfter}
 use Rattle.dive.specs.Numbered.{Numbered, numberedFault, numberedAnswer, numberedRows, recordsAt, recordsOf, numberedSearches}
 use Rattle.dive.specs.NumberedSeveral.{NumberedSeveral, ownNumbered, numberedSeveralFault, numberedAnswered, numberedRowsAfter, recordsAfter, numberedReportsAfter, numberedSeveralSearches}
@@ -156,3 +158,16 @@ module _ (s : Settings) (t : Table) (p : Parts) (partEnds featureEnds : List ℕ
 
   pub several-alike : {made : Settings} → made ≡ settingsHeld s → SeveralAlike (several-with made) (several-with s)
   several-alike e = rw e (several-kept (kept s))
+
+-- ---- the same of a proposal
+module _ (s : Settings) (t : Table) (p : Parts) (o : Proposal) where
+  refused-check : (made : Settings) (n : ℕ) → firstOf (settingsRules made) ≡ suc n → checkOf made t p o ≡ Refused (suc n)
+  unfolding checkOf proposalFault
+  refused-check made n e = ap (λ (fault : ℕ). checkCase fault (isGood made t p o)) (by-settings made n _ e)
+
+  check-kept : Kept s → checkOf (settingsHeld s) t p o ≡ checkOf s t p o
+  check-kept (same e) = ap (λ (made : Settings). checkOf made t p o) e
+  check-kept (refused n ex ey) = refused-check (settingsHeld s) n ex ∙ sym (refused-check s n ey)
+
+  pub check-alike : {made : Settings} → made ≡ settingsHeld s → checkOf made t p o ≡ checkOf s t p o
+  check-alike e = rw e (check-kept (kept s))

@@ -10,7 +10,9 @@ use lib.ListN.{length}
 use Rattle.metrics.specs.Letters.{countsBy, counterAnswer, countedNumber, rowAfter}
 use Rattle.metrics.specs.Placed.{placed}
 use Rattle.metrics.specs.Similarity.{sizesimOf, seqsimOf, number, value}
+use Rattle.params.specs.Numbers.{tableOf, partsOf}
 use Rattle.kplib.specs.Graph.{cappedCount, countNumber, countValue}
+use Rattle.kplib.specs.Proposal.{proposalOf, checkNumber, checkWord, checkOf}
 use Rattle.kplib.specs.Report.{reportOf}
 use Rattle.dive.specs.Numbered.{numberedAnswer, numberedRows, recordsOf}
 use Rattle.dive.specs.Promises.{numberedLent, NumberedQueueKept, ApplyNumberedHaplotypesPromise}
@@ -99,3 +101,8 @@ abbrev pub NdMetaCombinePromise : List ℕ → List ℕ → List ℕ → ℕ →
 NdMetaCombinePromise left right left' r =
     let told = combinedTwo (metaOfWords left) (metaOfWords right) in
     (r ≡ told .refusal) × (left' ≡ wordsUnless (told .refusal) (wordsOfMeta (told .left)) left)
+
+abbrev pub NdCheckPathPromise : List ℕ → List ℕ → List ℕ → List ℤ → List ℤ → List ℤ → List ℤ → List ℕ → List ℕ → Float → ℕ → ℕ → ℕ → Type 0
+NdCheckPathPromise settings starts ends sizes features partSizes partFeatures rows positions score word word' r =
+    let told = checkOf (settingsOfWords settings) (tableOf starts ends sizes features) (partsOf partSizes partFeatures) (proposalOf rows positions score) in
+    (r ≡ checkNumber told) × (word' ≡ checkWord told)

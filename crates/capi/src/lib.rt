@@ -1,5 +1,6 @@
 // What Rust and C link: the library's calls on numbers and slices. Each gives back the refusal's number, 0 for an accepted call.
 ghost use Rattle.capi.specs.Promises.{NdSeqToKmerPromise, NdSeqsimPromise, NdSizesimPromise, NdCountChainsPromise, NdAnswerPromise};
+ghost use Rattle.capi.specs.Promises.{NdCheckPathPromise};
 ghost use Rattle.capi.specs.Promises.{NdApplyHaplotypePromise, NdApplyHaplotypesPromise, NdReadBedPromise, NdWriteBedPromise};
 ghost use Rattle.capi.specs.Promises.{NdCompanionsAddPromise, NdCompanionsRemovePromise, NdCompanionsTogetherPromise, NdCompanionsCountPromise};
 ghost use Rattle.capi.specs.Promises.{NdMetaNewPromise, NdMetaBlankPromise, NdMetaCombinePromise};
@@ -10,6 +11,7 @@ use bed::BedRead;
 use bed::BedWritten;
 use companions::Later;
 use companions::Paired;
+use kplib::checkpath::PathCheck;
 use kplib::report::put_report;
 use kplib::vargraph::ChainCount;
 use meta::words::meta_of_words;
@@ -355,4 +357,51 @@ pub extern "C" fn nd_meta_combine(left: &mut [u64; 28], right: &[u64; 28]) -> u3
     let both = combined.left;
     *left = words_of_meta(both);
     ACCEPTED
+}
+
+// Whether a path that someone else proposes is one that the search could have found. Yes is 1, no is 0; 0 on a refusal.
+#[no_mangle]
+pub extern "C" fn nd_check_path(
+    settings: &[u32; 14],
+    starts: &[u64],
+    ends: &[u64],
+    sizes: &[i32],
+    features: &[i32],
+    part_sizes: &[i32],
+    part_features: &[i32],
+    rows: &[u32],
+    positions: &[u32],
+    score: f32,
+    yes: &mut u32,
+) -> u32
+    ensures { λ r. ⌜ NdCheckPathPromise (now (settings .entry)) (now (starts .entry)) (now (ends .entry)) (now (sizes .entry)) (now (features .entry))
+        (now («part_sizes» .entry)) (now («part_features» .entry)) (now (rows .entry)) (now (positions .entry)) score (now (yes .entry)) (now (yes .exit)) r ⌝ }
+{
+    let s = settings_of_words(settings);
+    let checked = kplib::checkpath::check_path(
+        s,
+        starts,
+        ends,
+        sizes,
+        features,
+        part_sizes,
+        part_features,
+        rows,
+        positions,
+        score,
+    );
+    match checked {
+        PathCheck::Yes => {
+            *yes = 1;
+            ACCEPTED
+        }
+        PathCheck::No => {
+            *yes = 0;
+            ACCEPTED
+        }
+        PathCheck::Refused(n) => {
+            *yes = 0;
+            n
+        }
+    }
 }

@@ -68,3 +68,5 @@ pub const NO_SUCH_SAMPLE: u32 = 51;
 pub const UNEQUAL_SAMPLES: u32 = 52;
 // a coverage sum passes 64 bits
 pub const COVERAGE_OVERFLOW: u32 = 53;
+// a proposal over 64 rows or over 64 positions
+pub const LONG_PROPOSAL: u32 = 54;

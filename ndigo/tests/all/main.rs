@@ -8,6 +8,7 @@ mod haplotypes;
 mod jobs;
 mod library;
 mod messages;
+mod paths;
 mod people;
 mod pictures;
 mod warnings;

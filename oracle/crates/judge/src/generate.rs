@@ -1,11 +1,14 @@
 //! Seeded jobs that reach what document 01 speaks of: ties, zero and negative sizes, squish, bare graphs, one-to-one,
 //! thresholds and penalties at telling values, every kind of refusal, sums at their limits, record numbers of all kinds, rows all zero, and in calls of
 //! the library both readings of letters.
+use crate::answer::Answer;
 use crate::call::{counted, queue_need, Call};
+use crate::document::list_score;
 use crate::job::{record_length, shape, Job, Part, Settings, Variant};
+use crate::proposal::{self, Proposal};
 use crate::random::Random;
 use crate::rules::{DOCUMENT, SIZE_LIMIT};
-use crate::rust::chains;
+use crate::rust::{chains, part_positions};
 use crate::several::Several;
 
 /// How large the jobs may be.
@@ -844,4 +847,83 @@ pub fn input(r: &mut Random) -> Vec<u8> {
         disturb_bytes(r, &mut bytes);
     }
     bytes
+}
+
+/// Rows of the table that may be a chain: each with some chance where it overlaps none before it, now and then where it does.
+fn some_rows(r: &mut Random, call: &Call) -> Vec<u32> {
+    let mut rows: Vec<u32> = vec![];
+    for row in 0..call.starts.len().min(call.ends.len()).min(64) as u32 {
+        let apart = call.settings.full && rows.iter().all(|&earlier| !DOCUMENT.overlaps(call.interval(earlier as usize), call.interval(row as usize)));
+        if r.chance(if apart { 30 } else { 1 }) {
+            rows.push(row);
+        }
+    }
+    rows
+}
+
+/// One row or position off: another, one less, one more, two in each other's place, one twice, or one that is not there.
+fn one_off(r: &mut Random, numbers: &mut Vec<u32>, count: usize) {
+    let at = r.below(numbers.len() as u64 + 1) as usize;
+    let any = r.below(count as u64 + 1) as u32;
+    let other = at.min(numbers.len().saturating_sub(1)).max(1);
+    match r.below(6) {
+        0 if at < numbers.len() => numbers[at] = any,
+        1 if at < numbers.len() => drop(numbers.remove(at)),
+        2 if numbers.len() > 1 => numbers.swap(0, other),
+        3 if at < numbers.len() => numbers.insert(at, numbers[at]),
+        4 => numbers.push(r.pick(&[count as u32, u32::MAX, 0])),
+        _ => numbers.insert(at, any),
+    }
+}
+
+/// What is made of a good proposal: near misses, and lists too long.
+fn disturb_proposal(r: &mut Random, proposal: &mut Proposal, v: usize, m: usize) {
+    match r.below(12) {
+        0..=2 => one_off(r, &mut proposal.rows, v),
+        3..=5 => one_off(r, &mut proposal.positions, m),
+        10 => proposal.positions.retain(|_| r.chance(50)),
+        11 => proposal.rows = proposal.rows.iter().flat_map(|&row| vec![row; r.pick(&[1, 1, 2])]).collect(),
+        6 => proposal.score = f32::from_bits(proposal.score.to_bits() ^ 1 << r.below(32)),
+        7 => proposal.score = r.pick(&[0.0, -0.0, f32::NAN, f32::INFINITY, -proposal.score, 1.0]),
+        8 => proposal.rows = vec![0; r.pick(&[64, 65, 66])],
+        _ => proposal.positions = (0..r.pick(&[63, 64, 65, 66])).collect(),
+    }
+}
+
+/// A call for which paths are proposed: now and then its penalties take all of a score, so that it is 0 exactly.
+pub fn proposed_call(r: &mut Random, library: bool) -> Call {
+    let mut call = if library { call(r, 300_000) } else { small_call(r) };
+    if call.refusal(&DOCUMENT) == 0 && r.chance(20) {
+        let s = &mut call.settings;
+        (s.sizesim, s.seqsim, s.squish) = (0.0, 0.0, false);
+        (s.fpenalty, s.gpenalty) = (r.pick(&[0.0, 0.5]), r.pick(&[0.25, 0.5, 1.0]));
+        if r.chance(50) {
+            call.part_sizes.iter_mut().for_each(|size| *size = 0);
+        }
+    }
+    call
+}
+
+/// A proposal for a call: what its own answer says with the list that won, or some chain and list with their score, whatever that is; half of
+/// them as they are, else with one thing off, and then now and then with the score that it has so.
+pub fn proposal(r: &mut Random, call: &Call, answer: &Answer) -> Proposal {
+    let (v, m) = (call.starts.len(), call.part_sizes.len());
+    let accepted = answer.refusal == 0;
+    let own = if accepted && call.searches(&DOCUMENT) && r.chance(60) { proposal::own(call, &answer.rows, answer.score) } else { None };
+    let mut proposal = own.unwrap_or_else(|| {
+        let rows = some_rows(r, call);
+        let lists = if accepted { part_positions(call) } else { vec![] };
+        let place = r.below(lists.len().max(1) as u64) as usize;
+        let positions = lists.get(place).cloned().unwrap_or_else(|| (0..m.min(64) as u32).collect());
+        let score = if accepted && !lists.is_empty() { list_score(call, &rows, &positions) } else { 0.5 };
+        Proposal { rows, positions, score }
+    });
+    if r.chance(50) {
+        disturb_proposal(r, &mut proposal, v, m);
+        let there = |numbers: &[u32], count: usize| numbers.iter().all(|&number| (number as usize) < count);
+        if accepted && there(&proposal.rows, v) && there(&proposal.positions, m) && r.chance(70) {
+            proposal.score = list_score(call, &proposal.rows, &proposal.positions);
+        }
+    }
+    proposal
 }

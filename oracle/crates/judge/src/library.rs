@@ -2,6 +2,7 @@
 use crate::answer::Answer;
 use crate::call::Call;
 use crate::kinds::Counts;
+use crate::proposal::{Checked, Proposal};
 use crate::random::Random;
 use crate::several::{Seen, Several};
 
@@ -33,6 +34,11 @@ pub fn answer(_call: &Call) -> Result<Said, String> {
 }
 
 #[cfg(not(feature = "linked"))]
+pub fn check_path(_call: &Call, _proposal: &Proposal) -> Result<Checked, String> {
+    Err("the library is not linked".to_string())
+}
+
+#[cfg(not(feature = "linked"))]
 pub fn smaller_call(_r: &mut Random, _counts: &mut Counts) -> Result<(), String> {
     Err("the library is not linked".to_string())
 }
@@ -43,7 +49,7 @@ pub fn counts_alike(_text: &[u8], _k: u8, _negative: bool, _counts: &mut Counts)
 }
 
 #[cfg(feature = "linked")]
-pub use linked::{answer, counts_alike, several, smaller_call};
+pub use linked::{answer, check_path, counts_alike, several, smaller_call};
 
 #[cfg(feature = "linked")]
 mod linked {
@@ -77,6 +83,13 @@ mod linked {
             part_sizes: *const i32, part_sizes_len: usize, part_features: *const i32, part_features_len: usize,
             links: *mut u32, links_len: usize, keys: *mut u64, keys_len: usize, rows: *mut u32, rows_len: usize,
             records: *mut u32, records_len: usize, reports: *mut u32, reports_len: usize,
+        ) -> u32;
+        fn nd_check_path(
+            settings: *const [u32; 14],
+            starts: *const u64, starts_len: usize, ends: *const u64, ends_len: usize,
+            sizes: *const i32, sizes_len: usize, features: *const i32, features_len: usize,
+            part_sizes: *const i32, part_sizes_len: usize, part_features: *const i32, part_features_len: usize,
+            rows: *const u32, rows_len: usize, positions: *const u32, positions_len: usize, score: f32, yes: *mut u32,
         ) -> u32;
         fn nd_count_chains(starts: *const u64, starts_len: usize, ends: *const u64, ends_len: usize, full: bool, cap: u32, count: *mut u32) -> u32;
         fn nd_seq_to_kmer(text: *const u8, text_len: usize, k: u8, negative: bool, letters: u8, row: *mut i32, row_len: usize) -> u32;
@@ -204,6 +217,25 @@ mod linked {
             guards_unchanged: !guards.contains(&false),
             seen: Seen { returned, rows: rows.lent().to_vec(), records: records.lent().to_vec(), reports: reports.lent().to_vec() },
         })
+    }
+
+    /// The number that the check returns, and its word.
+    pub fn check_path(call: &Call, proposal: &Proposal) -> Result<Checked, String> {
+        let mut yes = MARK;
+        // SAFETY: every pointer comes with its slice's length.
+        let number = unsafe {
+            nd_check_path(
+                &words(&call.settings),
+                call.starts.as_ptr(), call.starts.len(), call.ends.as_ptr(), call.ends.len(),
+                call.sizes.as_ptr(), call.sizes.len(), call.features.as_ptr(), call.features.len(),
+                call.part_sizes.as_ptr(), call.part_sizes.len(), call.part_features.as_ptr(), call.part_features.len(),
+                proposal.rows.as_ptr(), proposal.rows.len(), proposal.positions.as_ptr(), proposal.positions.len(), proposal.score, &mut yes,
+            )
+        };
+        if yes > 1 {
+            return Err(format!("the word for yes or no is {yes}"));
+        }
+        Ok((number, yes == 1))
     }
 
     /// One call of the counter, seqsim, sizesim, the chain count or those of a haplotype's data, compared with the Rust's; refusals by the documents.

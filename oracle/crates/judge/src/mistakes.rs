@@ -1,6 +1,7 @@
 //! The planted mistakes: the documents with one rule misread, each under its words.
 use crate::answer::Target;
 use crate::rules::{Rules, DOCUMENT, SIZE_LIMIT};
+use std::collections::HashSet;
 
 pub struct Mistake {
     pub words: &'static str,
@@ -224,4 +225,30 @@ mistakes! {
     "the flags of both alone": flags_of_both = |left, right| left & right;
     "the id of the right": id_of_both = |_, right| right;
     "a refused combining combined anyway": left_after = |_, combined, _| combined;
+    "54 looked for before 10": proposal_refusals = || &[1, 2, 3, 4, 5, 6, 7, 8, 9, 54, 10, 16];
+    "54 looked for before 16": proposal_refusals = || &[1, 2, 3, 4, 5, 6, 7, 8, 9, 10, 54, 16];
+    "54 looked for first": proposal_refusals = || &[54, 1, 2, 3, 4, 5, 6, 7, 8, 9, 10, 16];
+    "16 not looked for in a check": proposal_refusals = || &[1, 2, 3, 4, 5, 6, 7, 8, 9, 10, 54];
+    "54 for 64 rows": proposal_is_long = |rows, positions| rows >= 64 || positions > 64;
+    "54 for rows only": proposal_is_long = |rows, _| rows > 64;
+    "54 for positions only": proposal_is_long = |_, positions| positions > 64;
+    "proposed rows in any order": rows_ascend = |rows| rows.iter().collect::<HashSet<_>>().len() == rows.len();
+    "a proposed row twice": rows_ascend = |rows| rows.is_sorted();
+    "a proposed list below the lower end": is_a_part_list = |positions, lists, m| {
+        let rises = positions.windows(2).all(|pair| pair[0] < pair[1]) && positions.iter().all(|&position| (position as usize) < m);
+        DOCUMENT.is_a_part_list(positions, lists, m) || rises && !positions.is_empty()
+    };
+    "the empty list proposed": is_a_part_list = |positions, lists, m| positions.is_empty() || DOCUMENT.is_a_part_list(positions, lists, m);
+    "positions in any order": is_a_part_list = |positions, lists, m| {
+        let mut sorted = positions.to_vec();
+        sorted.sort();
+        DOCUMENT.is_a_part_list(&sorted, lists, m)
+    };
+    "only the whole haplotype proposed": is_a_part_list = |positions, _, m| positions.len() == m;
+    "equal bits not asked": is_that_score = |score, proposed| score > 0.0 && (score - proposed).abs() < 0.001;
+    "any score proposed": is_that_score = |score, _| score > 0.0;
+    "a score of 0 taken": is_that_score = |score, proposed| score >= 0.0 && score.to_bits() == proposed.to_bits();
+    "a score below 0 taken": is_that_score = |score, proposed| score != 0.0 && score.to_bits() == proposed.to_bits();
+    "no path in one-to-one": mode_forbids = |s, _| s.one_to_one;
+    "no path where V exceeds maxnodes": mode_forbids = |s, v| v > s.maxnodes as usize;
 }

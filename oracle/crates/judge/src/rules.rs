@@ -454,4 +454,36 @@ rules! {
     fn left_after(before: [u64; 28], combined: [u64; 28], refused: bool) -> [u64; 28] {
         if refused { before } else { combined }
     }
+
+    // Document 02, P13: check a path someone else proposes
+
+    /// "Table, part and settings refusals come first; a proposal over 64 rows or 64 positions is a 54 after them."
+    fn proposal_refusals() -> &'static [u32] {
+        &[1, 2, 3, 4, 5, 6, 7, 8, 9, 10, 16, 54]
+    }
+
+    /// "over 64 rows or 64 positions"
+    fn proposal_is_long(rows: usize, positions: usize) -> bool {
+        rows > 64 || positions > 64
+    }
+
+    /// "the rows are a chain": as they are sent each is later than the one before
+    fn rows_ascend(rows: &[u32]) -> bool {
+        rows.windows(2).all(|pair| pair[0] < pair[1])
+    }
+
+    /// "the positions are one of the part lists"
+    fn is_a_part_list(positions: &[u32], lists: &[Vec<u32>], _m: usize) -> bool {
+        lists.iter().any(|list| list == positions)
+    }
+
+    /// "gives that score, greater than 0, bit for bit"
+    fn is_that_score(score: f32, proposed: f32) -> bool {
+        score > 0.0 && score.to_bits() == proposed.to_bits()
+    }
+
+    /// "whether the job asks for one-to-one, or V exceeds maxnodes, plays no part"
+    fn mode_forbids(_s: &Settings, _v: usize) -> bool {
+        false
+    }
 }

@@ -3,14 +3,15 @@
 //! input can show it. A rule that no mistake misreads is a failure too.
 use judge::answer::Answer;
 use judge::call::{counted, Call};
-use judge::document::{call_answer, features, program_text, record_buffer, several_answers};
-use judge::generate::{input, several_call, several_input, small_call, PROGRAM};
+use judge::document::{call_answer, checked, features, program_text, record_buffer, several_answers};
+use judge::generate::{self, input, several_call, several_input, small_call, PROGRAM};
 use judge::met::Met;
 use judge::mistakes::{Mistake, MISTAKES};
+use judge::proposal::{Checked, Proposal};
 use judge::random::Random;
 use judge::rules::{Rules, DOCUMENT};
 use judge::several::{self, Several};
-use judge::{describe, exhaust, meta, program, rust, shrink};
+use judge::{describe, exhaust, meta, program, proposal, rust, shrink};
 use std::process::ExitCode;
 
 /// What anyone outside sees of a call: the answer, and what the second buffer holds after it.
@@ -88,6 +89,15 @@ struct Asked {
     inputs: Vec<(String, Vec<u8>)>,
     calls: Vec<(Seen, Call)>,
     several: Vec<(several::Seen, Several)>,
+    proposals: Vec<(Checked, Call, Proposal)>,
+}
+
+/// A call and a path proposed for it, behind the judge's answer.
+fn proposed(seed: u64) -> (Checked, Call, Proposal) {
+    let mut r = Random::new(seed);
+    let call = generate::proposed_call(&mut r, false);
+    let one = generate::proposal(&mut r, &call, &rust::judged(&call).answer);
+    (proposal::judged(&call, &one), call, one)
 }
 
 impl Asked {
@@ -101,6 +111,7 @@ impl Asked {
             inputs: inputs.into_iter().map(|bytes| (program::text(&bytes), bytes)).collect(),
             calls: calls.map(|call| (must_be(&call), call)).collect(),
             several: several.map(|several| (several_must_be(&several), several)).collect(),
+            proposals: (0..count / 2).map(proposed).collect(),
         }
     }
 
@@ -120,6 +131,17 @@ impl Asked {
     fn by_several(&self, rules: &Rules) -> Vec<usize> {
         let differs = |&at: &usize| seen_of_several(rules, &self.several[at].1) != self.several[at].0;
         (0..self.several.len()).filter(differs).collect()
+    }
+}
+
+impl Asked {
+    /// Those of the paths proposed.
+    fn by_proposals(&self, rules: &Rules) -> Vec<usize> {
+        let differs = |&at: &usize| {
+            let (must, call, one) = &self.proposals[at];
+            checked(rules, call, one) != *must
+        };
+        (0..self.proposals.len()).filter(differs).collect()
     }
 }
 
@@ -156,6 +178,14 @@ fn tell_several(rules: &Rules, asked: &Asked, found: &[usize]) {
     println!("    would be {:?}", seen_of_several(rules, &small));
 }
 
+fn tell_proposal(rules: &Rules, asked: &Asked, found: &[usize]) {
+    let length = |at: &&usize| describe::call(&asked.proposals[**at].1).len();
+    let (must, call, one) = &asked.proposals[*found.iter().min_by_key(length).expect("some proposal shows it")];
+    println!("    {} for {}", describe::proposal(one), describe::call(call));
+    println!("    must be  {must:?}");
+    println!("    would be {:?}", checked(rules, call, one));
+}
+
 /// Whether it is caught, and by what.
 fn is_caught(words: &str, rules: &Rules, asked: &Asked) -> bool {
     let found = asked.by_inputs(rules);
@@ -176,6 +206,12 @@ fn is_caught(words: &str, rules: &Rules, asked: &Asked) -> bool {
         tell_several(rules, asked, &found);
         return true;
     }
+    let found = asked.by_proposals(rules);
+    if let Some(first) = found.first() {
+        println!("caught {words}: first at proposed path {}, {} of {}", first + 1, found.len(), asked.proposals.len());
+        tell_proposal(rules, asked, &found);
+        return true;
+    }
     let shown = smaller_calls(rules);
     match &shown {
         Some(shown) => println!("caught {words}: by a smaller call; no answer can show it\n    {shown}"),
@@ -190,15 +226,17 @@ fn main() -> ExitCode {
     let input = asked.by_inputs(&DOCUMENT).first().map(|&at| describe::bytes(&asked.inputs[at].1));
     let call = asked.by_calls(&DOCUMENT).first().map(|&at| describe::call(&asked.calls[at].1));
     let several = asked.by_several(&DOCUMENT).first().map(|&at| describe::several(&asked.several[at].1));
-    if let Some(words) = input.or(call).or(several).or(smaller_calls(&DOCUMENT)) {
+    let path = asked.by_proposals(&DOCUMENT).first().map(|&at| describe::proposal(&asked.proposals[at].2));
+    if let Some(words) = input.or(call).or(several).or(path).or(smaller_calls(&DOCUMENT)) {
         println!("with nothing planted: {words}");
         return ExitCode::FAILURE;
     }
     println!(
-        "nothing planted: {} inputs, {} library calls and {} for several haplotypes, no difference",
+        "nothing planted: {} inputs, {} library calls, {} for several haplotypes and {} proposed paths, no difference",
         asked.inputs.len(),
         asked.calls.len(),
-        asked.several.len()
+        asked.several.len(),
+        asked.proposals.len()
     );
     let unplanted: Vec<&str> = Rules::NAMES.iter().copied().filter(|&rule| MISTAKES.iter().all(|mistake| mistake.rule != rule)).collect();
     if !unplanted.is_empty() {

@@ -3,7 +3,7 @@
 //! [--inputs N] [--calls N] [--every N]`; `--every` takes each N-th of the jobs that are made exhaustively
 use judge::answer::{self, Answer};
 use judge::call::Call;
-use judge::document::{call_answer, program_answers, record_buffer, several_answers};
+use judge::document::{call_answer, checked, program_answers, record_buffer, several_answers};
 use judge::generate;
 use judge::job;
 use judge::kinds::{self, Counts};
@@ -12,7 +12,7 @@ use judge::random::Random;
 use judge::rules::DOCUMENT;
 use judge::rust::Judged;
 use judge::several::Several;
-use judge::{describe, exhaust, library, program, rust, shrink};
+use judge::{describe, exhaust, library, program, proposal, rust, shrink};
 use std::io::{self, Read, Write};
 use std::process::{Command, ExitCode, Stdio};
 use std::sync::atomic::{AtomicU64, Ordering};
@@ -143,6 +143,39 @@ fn compare_call(tally: &mut Tally, call: &Call, o: &Options) {
         if let Err(words) = library_says(call, &judged.answer) {
             tally.differ(|| format!("{words}\n  of {}", describe::call(call)));
         }
+    }
+}
+
+/// Our own answer with the list that won, which must be a yes, or something near it; by the judge, the second reading and the library.
+fn compare_proposal(tally: &mut Tally, call: &Call, r: &mut Random, o: &Options) {
+    let answer = rust::judged(call).answer;
+    let ours = answer.refusal == 0 && call.searches(&DOCUMENT) && f32::from_bits(answer.score) > 0.0;
+    let mut proposals = vec![generate::proposal(r, call, &answer)];
+    if ours {
+        proposals.extend(proposal::own(call, &answer.rows, answer.score));
+    }
+    for (at, one) in proposals.iter().enumerate() {
+        let must = if at == 1 { (0, true) } else { proposal::judged(call, one) };
+        let kind = match must {
+            (0, true) if at == 1 => "our own answer".to_string(),
+            (0, yes) => if yes { "yes" } else { "no" }.to_string(),
+            (number, _) => format!("refusal {number}"),
+        };
+        kinds::add(&mut tally.counts, format!("proposal: {kind}"));
+        let second = checked(&DOCUMENT, call, one);
+        if second != must || proposal::judged(call, one) != must {
+            tally.differ(|| format!("the second reading says {second:?}, the judge {must:?} of {} for {}", describe::proposal(one), describe::call(call)));
+        }
+        if o.library {
+            tally.compared += 1;
+            let said = library::check_path(call, one);
+            if said != Ok(must) {
+                tally.differ(|| format!("must be {must:?}, is {said:?}\n  of {} for {}", describe::proposal(one), describe::call(call)));
+            }
+        }
+    }
+    if ours && proposals.len() < 2 {
+        tally.differ(|| format!("no list gives the score of {answer:?} for {}", describe::call(call)));
     }
 }
 
@@ -320,16 +353,23 @@ fn main() -> ExitCode {
     });
     report("smaller calls of the library", smaller.compared, &smaller);
     let (texts, long_texts) = (all_texts(&o), drawn_texts(&o));
-    let all = [&all_short, &inputs, &several_inputs, &calls, &several_calls, &smaller, &texts, &long_texts];
+    let proposals = work(2 * o.calls, |tally, i| {
+        let mut r = seeded(&o, 6, i);
+        let call = generate::proposed_call(&mut r, i % 5 == 0);
+        compare_proposal(tally, &call, &mut r, &o);
+    });
+    report("proposed paths", 2 * o.calls, &proposals);
+    let all = [&all_short, &inputs, &several_inputs, &calls, &several_calls, &smaller, &texts, &long_texts, &proposals];
     let differences: u64 = all.iter().map(|tally| tally.differences).sum();
     println!(
-        "compared {} program-size and {} library-size jobs, {} and {} with several haplotypes, {} smaller calls and {} counts in both readings: {}",
+        "compared {} program-size and {} library-size jobs, {} and {} with several haplotypes, {} smaller calls, {} counts in both readings and {} proposed paths: {}",
         all_short.compared + inputs.compared,
         calls.compared,
         several_inputs.compared,
         several_calls.compared,
         smaller.compared,
         texts.compared + long_texts.compared,
+        proposals.compared,
         if differences == 0 { "no difference off the list".to_string() } else { format!("{differences} differences") }
     );
     ExitCode::from((differences > 0) as u8)
