@@ -31,5 +31,9 @@ TABLE: Dict[int, Tuple[str, str]] = {
     42: ("TOO_MANY_LINES", "a sixty-fifth line of BED"),
     43: ("LITTLE_TEXT_ROOM", "too little room for BED text"),
     44: ("MISSING_ROW", "a row that isn't there"),
+    45: ("MISSING_VERSION", "a version that isn't there"),
+    46: ("VERSIONS_USED", "all 255 versions are used"),
+    47: ("LITTLE_BOOK_ROOM", "fewer than 43 bytes left in the book"),
+    48: ("BROKEN_BOOK", "a book that breaks its rules or holds settings we would refuse"),
     49: ("NOT_ITS_SHEET", "a sheet that isn't its table's, or a table that breaks 5 to 8"),
 }

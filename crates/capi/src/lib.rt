@@ -18,7 +18,13 @@ use metrics::refusals::ACCEPTED;
 mod words;
 
 #[no_mangle]
-pub extern "C" fn nd_seq_to_kmer(text: &[u8], k: u8, negative: bool, letters: u8, row: &mut [i32]) -> u32
+pub extern "C" fn nd_seq_to_kmer(
+    text: &[u8],
+    k: u8,
+    negative: bool,
+    letters: u8,
+    row: &mut [i32],
+) -> u32
     ensures { λ r. ⌜ NdSeqToKmerPromise (now (text .entry)) k negative letters (now (row .entry)) (now (row .exit)) r ⌝ }
 {
     let counted = metrics::kmer::seq_to_kmer(text, k, negative, letters, row);

@@ -21,7 +21,13 @@ fn count_row(
     requires { ⌜ RowFits reading k at end from to (now letters) (now table) ⌝ }
     ensures { λ _. ⌜ now (table .exit) ≡ rowStored from to (now (table .entry)) (countsBy reading k negative (take (end - at) (drop at (now (letters .entry))))) ⌝ }
 {
-    seq_to_kmer(&letters[at..end], k, negative, reading, &mut table[from..to]);
+    seq_to_kmer(
+        &letters[at..end],
+        k,
+        negative,
+        reading,
+        &mut table[from..to],
+    );
 }
 
 // A row for each count, of the letters from `first` on. Returns the position behind the last letter.
