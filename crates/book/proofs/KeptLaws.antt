@@ -1,18 +1,17 @@
 -- A save that is refused changes nothing, and one that is accepted keeps every version before it; going back is a save of what the book holds, which is accepted.
 -- So whatever is done later, a version reads as it was saved. Assumes nothing.
-use Prim.Native.Nat.{ℕ, zero, suc, _+_, _-_, _*_, _<_, _≤_}
+use Prim.Native.Nat.{ℕ, zero, suc, _+_, _-_, _<_, _≤_}
 use native.Mathlib.Omega.{arith}
 use mathlib.Core.Path.{_≡_, refl, sym, ap, subst, _∙_}
-use mathlib.Core.Bool.{true, false}
+use mathlib.Core.Bool.{true}
 use mathlib.Core.Logic.{_⊎_, inl, inr, ⊎-elim}
 use mathlib.Core.List.{List, [], _∷_}
-use lib.ListN.{length, getD, drop, replicate}
+use lib.ListN.{length, getD, replicate}
 use Rattle.form.specs.Form.{allZero}
 use Rattle.form.specs.Settings41.{settings41Fault}
-use Rattle.book.specs.Book.{settingsLen, placeOf, versionsOf, settingsIn, settingsAt, broken}
+use Rattle.book.specs.Book.{settingsLen, placeOf, versionsOf, settingsIn, settingsAt}
 use Rattle.book.specs.Changes.{saveFault, readFault, restoreFault, nextVersion, appended, changedUnless, savedCase, savedOf, afterSave, restoredOf, afterRestore}
 use Rattle.book.specs.Kept.{Sound, Change, Save, Restore, afterAll, Lent, BookKept}
-use Rattle.book.specs.declared.Saved.{Saved}
 use Rattle.book.proofs.FaultLaws.{Good, good-at, read-there, Found, found, save-room, restore-room, restore-found, kept-refused, changed, long-settings}
 use Rattle.book.proofs.SavedLaws.{versions-are, sound-made, before-kept, new-there, behind-kept, long-kept, settings-new, versions-new, sound-new, old-settings}
 

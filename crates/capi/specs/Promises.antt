@@ -20,6 +20,8 @@ use Rattle.bed.specs.Writing.{rowsText, writeFault, writeAnswer, writtenNumber,
 use Rattle.companions.specs.Companions.{lentOf}
 use Rattle.companions.specs.Questions.{pairOf, laterIn, pairNumber, pairYes, laterNumber, laterCount}
 use Rattle.companions.specs.Promises.{AddPromise, RemovePromise}
+use Rattle.book.specs.Changes.{savedOf, afterSave, restoredOf, afterRestore, savedNumber, savedVersion}
+use Rattle.book.specs.Promises.{ReadPromise}
 use Rattle.capi.specs.Words.{settingsOfWords}
 
 abbrev pub NdSeqToKmerPromise : List ℕ → ℕ → Bool → ℕ → List ℤ → List ℤ → ℕ → Type 0
@@ -86,3 +88,17 @@ abbrev pub NdCompanionsCountPromise : List ℕ → List ℕ → List Bool → �
 NdCompanionsCountPromise starts ends sheet rows row count count' r =
     let told = laterIn (lentOf starts ends sheet rows) row in
     (r ≡ laterNumber told) × (count' ≡ laterCount told)
+
+-- the word is the version that was added, 0 on a refusal
+abbrev pub NdBookSavePromise : List ℕ → List ℕ → ℕ → List ℕ → ℕ → ℕ → Type 0
+NdBookSavePromise book settings version book' version' r =
+    let told = savedOf book settings in
+    (r ≡ savedNumber told) × ((version' ≡ savedVersion told) × (book' ≡ afterSave book settings))
+
+abbrev pub NdBookReadPromise : List ℕ → ℕ → List ℕ → List ℕ → ℕ → Type 0
+NdBookReadPromise book version settings settings' r = ReadPromise book version settings settings' r
+
+abbrev pub NdBookRestorePromise : List ℕ → ℕ → ℕ → List ℕ → ℕ → ℕ → Type 0
+NdBookRestorePromise book version new book' new' r =
+    let told = restoredOf book version in
+    (r ≡ savedNumber told) × ((new' ≡ savedVersion told) × (book' ≡ afterRestore book version))

@@ -1,5 +1,5 @@
 -- 7 and 8 row by row: a table passes them where each of its rows does, so with one row less it passes them, and with one more where that row does. Assumes nothing.
-use Prim.Native.Nat.{ℕ, zero, suc, _+_, _-_, _≤_, _<_}
+use Prim.Native.Nat.{ℕ, _+_, _-_, _≤_, _<_}
 use native.Mathlib.Omega.{arith}
 use mathlib.Core.Path.{_≡_, refl}
 use mathlib.Core.Bool.{Bool, true, false}
@@ -8,7 +8,7 @@ use borrow.Author.Tests.{ltb-true, ltb-false, le-ltb}
 use lib.Dec.{ltb}
 use lib.ListN.{length, getD, take, set}
 use lib.Seq.{length-take-le, getD-take, getD-set-same, getD-set-other}
-use Rattle.params.specs.Numbers.{firstOf, boundRules, startAfterEnd, fallingStart, anyBelow}
+use Rattle.params.specs.Numbers.{firstOf, boundRules, startAfterEnd, fallingStart}
 use Rattle.params.proofs.CheckLaws.{none-given, none-below, any-where}
 
 -- each of the first n rows passes 7, and each but the last 8 of the next

@@ -1,6 +1,5 @@
 -- Nothing is changed on a refusal; the settings of the version are laid over those lent. Assumes nothing.
 use native.Mathlib.Omega.{arith}
-use mathlib.Core.Path.{_≡_, _∙_}
 use Rattle.book.proofs.FaultLaws.{kept-refused, found, read-done}
 use borrow.Author.Needs.{needs}
 use Rattle.book.proofs.read.Statement.{statement}

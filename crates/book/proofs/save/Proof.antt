@@ -1,6 +1,5 @@
 -- Nothing is changed on a refusal; an accepted record is laid behind the last. Assumes nothing.
 use native.Mathlib.Omega.{arith}
-use mathlib.Core.Path.{_≡_, _∙_}
 use denote.Ref.{now}
 use Rattle.book.proofs.FaultLaws.{Ready, line-room, save-refused, save-ready, save-done}
 use borrow.Author.Needs.{needs}

@@ -1,12 +1,11 @@
 -- Test by test; the settings decide the rest. Assumes nothing.
-use Prim.Native.Nat.{_+_, _-_, _≤_}
+use Prim.Native.Nat.{_+_}
 use native.Mathlib.Omega.{arith}
-use mathlib.Core.Path.{_≡_, ap, _∙_}
+use mathlib.Core.Path.{ap, _∙_}
 use mathlib.Core.List.{List}
 use Prim.Native.Nat.{ℕ}
 use lib.Dec.{eqb}
 use denote.Ref.{now}
-use lib.ListN.{length, getD}
 use borrow.Author.Needs.{needs}
 use Rattle.form.specs.Settings41.{settings41Fault}
 use Rattle.book.proofs.FaultLaws.{slice-settings}

@@ -1,5 +1,4 @@
 -- Kind and version before the settings. Assumes nothing.
-use native.Mathlib.Omega.{arith}
 use mathlib.Core.Path.{_∙_}
 use borrow.Author.Needs.{needs}
 use Rattle.book.proofs.RecordLaws.{record-made}
