@@ -24,7 +24,7 @@ static void expect(const char *what, uint32_t got, uint32_t wanted)
 
 static void count(const char *letters, int32_t *row)
 {
-    expect(letters, nd_seq_to_kmer((const uint8_t *)letters, strlen(letters), K, false, row, ENTRIES), ND_ACCEPTED);
+    expect(letters, nd_seq_to_kmer((const uint8_t *)letters, strlen(letters), K, false, 0, row, ENTRIES), ND_ACCEPTED);
 }
 
 static struct nd_settings worked_settings(void)
@@ -89,6 +89,26 @@ static void worked_example(void)
     expect("k 257", search(&settings, record_numbers, V, &answer), ND_REFUSED_BAD_K);
     expect("its words", strcmp(nd_refusal_text(ND_REFUSED_BAD_K), "k not 1 to 6") == 0, 1);
     expect("its report", answer.report[ND_SCORE], 0);
+    settings.k = K;
+    settings.letters = 1;
+    expect("letters 1", search(&settings, record_numbers, V, &answer), ND_ACCEPTED);
+    settings.letters = 2;
+    expect("letters 2", search(&settings, record_numbers, V, &answer), ND_REFUSED_BAD_NUMBER);
+    settings.letters = 256;
+    expect("letters 256", search(&settings, record_numbers, V, &answer), ND_REFUSED_BAD_NUMBER);
+}
+
+/* What an n does in each reading, at k 1. */
+static void unread_letters(void)
+{
+    const uint8_t *text = (const uint8_t *)"AGnC";
+    int32_t row[ENTRIES] = {MARK, MARK, MARK, MARK}; /* of A, G, C and T */
+    expect("letters 2 of the counter", nd_seq_to_kmer(text, 4, K, false, 2, row, ENTRIES), ND_REFUSED_BAD_NUMBER);
+    expect("the row after it", row[0] == MARK && row[3] == MARK, 1);
+    expect("letters 0", nd_seq_to_kmer(text, 4, K, false, 0, row, ENTRIES), ND_ACCEPTED);
+    expect("an n as A", row[0] == 2 && row[1] == 1 && row[2] == 1 && row[3] == 0, 1);
+    expect("letters 1", nd_seq_to_kmer(text, 4, K, true, 1, row, ENTRIES), ND_ACCEPTED);
+    expect("an n left out", row[0] == -1 && row[1] == -1 && row[2] == -1 && row[3] == 0, 1);
 }
 
 /* A refused search writes its report alone. */
@@ -228,13 +248,14 @@ static void similarities(void)
     expect("a size of 8,388,609", nd_sizesim(0, 8388609, &value), ND_REFUSED_BAD_SIZE);
     expect("its value", value == 0, 1);
     expect("unequal lengths", nd_seqsim(one, 1, two, 2, 1, &value), ND_REFUSED_BAD_LENGTHS);
-    expect("k 7", nd_seq_to_kmer((const uint8_t *)"A", 1, 7, false, one, 1), ND_REFUSED_BAD_K);
+    expect("k 7", nd_seq_to_kmer((const uint8_t *)"A", 1, 7, false, 0, one, 1), ND_REFUSED_BAD_K);
     expect("the row after a refusal", (uint32_t)one[0], 1);
 }
 
 int main(void)
 {
     worked_example();
+    unread_letters();
     refused_records("a repeated record number", 31, 31, V, ND_REFUSED_REPEATED_NUMBER);
     refused_records("room for one record", 31, 32, V - 1, ND_REFUSED_ANSWER_ROOM);
     refused_records("both", 31, 31, V - 1, ND_REFUSED_REPEATED_NUMBER);

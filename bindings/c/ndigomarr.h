@@ -106,9 +106,11 @@ static inline const char *nd_refusal_text(uint32_t number)
 }
 
 /* Counts the windows of k letters in a row of 4^k entries, each +1, or -1 for a negative sequence.
- * Refuses by 1, 6 (row_len not 4^k), 13 (over 131,072 letters), in this order. */
-uint32_t nd_seq_to_kmer(const uint8_t *letters, size_t letters_len, uint8_t k, bool negative,
-                        int32_t *row, size_t row_len);
+ * With letters 0 a byte other than A, C, G and T in either case counts as A; with letters 1 each
+ * window that holds one is left out, and the entries sum to plus or minus the windows kept.
+ * Refuses by 1, 3 (letters not 0 or 1), 6 (row_len not 4^k), 13 (over 131,072 letters), in this order. */
+uint32_t nd_seq_to_kmer(const uint8_t *text, size_t text_len, uint8_t k, bool negative,
+                        uint8_t letters, int32_t *row, size_t row_len);
 
 /* The similarity of two feature rows in *place: over entries with |x| + |y| at least minkfreq,
  * 1 - (sum of |x - y|) / (sum of |x| + |y|). Refuses by 3 (minkfreq over 16,777,216), 6 (unequal
@@ -149,6 +151,7 @@ struct nd_settings {
     uint32_t fnmax; /* How many parts a part list may leave out. */
     uint32_t pileupmax; /* From this many parts on only the whole haplotype is tried; at most 12. */
     uint32_t minkfreq; /* K-mers seen fewer times in both rows together are passed over. */
+    uint32_t letters; /* How bytes other than A, C, G and T in either case are read: 0 counts each as A, 1 leaves out each window that holds one. */
     float sizesim; /* The least similarity of sizes, 0 to 1. */
     float seqsim; /* The least similarity of sequences, 0 to 1. */
     float fpenalty; /* Taken off the score for each part left out, 0 to 1,000. */
@@ -157,7 +160,7 @@ struct nd_settings {
 
 /* kanpig's defaults where they lie in the limits here:
  * struct nd_settings settings = ND_SETTINGS_DEFAULT; settings.k = 5; */
-#define ND_SETTINGS_DEFAULT {4, 0, 0, 1, 4095, 5000, 3, 12, 2, 0.9f, 0.9f, 0.1f, 0.02f}
+#define ND_SETTINGS_DEFAULT {4, 0, 0, 1, 4095, 5000, 3, 12, 2, 0, 0.9f, 0.9f, 0.1f, 0.02f}
 
 /* The path of a table that best explains a haplotype. Rows are row numbers of the table handed
  * over, from 0, ascending, at the front of rows. Of equally good paths the later one wins.
@@ -166,7 +169,8 @@ struct nd_settings {
  * change nothing else of an answer. What lies in rows and records behind that stays as it was.
  * V is starts_len, m is part_sizes_len; feature rows of 4^k entries lie one behind the other. links
  * and keys, the queue, hold at least 1 + (maxpaths + 1) * V entries each in a search; their content
- * afterwards is open. Refuses by 1 to 12, by 14 (a repeated record number), which comes after 8 and
+ * afterwards is open. Features come counted: count all of them by the settings' k and letters, of
+ * which the latter is only checked here. Refuses by 1 to 12, by 14 (a repeated record number), which comes after 8 and
  * before 9, and by 16 (a variant's feature row is all zero; a part's may be), after 10 and before 11;
  * 6 is also for other than V record numbers, and 12 for fewer than V entries in rows or in records.
  * The report is then all zeros. */

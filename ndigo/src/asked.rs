@@ -105,9 +105,12 @@ pub fn check(file: &str, data: &[u8], sort: bool, form: Form) -> Result<Told, Fa
     Ok(Told::text(checked.status(), checked.text()))
 }
 
-/// The job form takes sheets that the rules refuse, but not a sequence over its limit.
+/// The job form takes sheets that the rules refuse, but not a sequence over its limit, nor letters other than 0.
 pub fn job(data: &[u8], sort: bool) -> Result<Told, Failure> {
     let (sheet, notes) = read(data, sort)?;
+    if let Some(words) = job::objection(&sheet) {
+        return Err(Failure::Input(words));
+    }
     let long = refusals::long_sequences(&sheet);
     if !long.is_empty() {
         let reasons = long.iter().map(|refusal| refusal.to_string()).collect();

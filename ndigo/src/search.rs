@@ -2,7 +2,7 @@
 use crate::job::LETTERS_LIMIT;
 use crate::model::{Sequence, Sheet, MAXPATHS, SEQSIM, SIZESIM};
 use crate::refusals::{self, Refusal};
-use ndigomarr::{Answer, Haplotype, Room, Table, Target};
+use ndigomarr::{Answer, Haplotype, Room, Settings, Table, Target};
 use std::cell::RefCell;
 
 /// Of a table or a haplotype that is too long anyway, one more than the limit is enough to be refused.
@@ -13,8 +13,8 @@ fn seen(row: usize, sequence: &Sequence) -> bool {
     row < ENOUGH || sequence.letters.len() > LETTERS_LIMIT
 }
 
-fn table(sheet: &Sheet, k: u8) -> Result<Table, ndigomarr::Refusal> {
-    let mut table = Table::new(k);
+fn table(sheet: &Sheet, settings: &Settings) -> Result<Table, ndigomarr::Refusal> {
+    let mut table = settings.table();
     for (_, variant) in sheet.variants.iter().enumerate().filter(|(row, variant)| seen(*row, &variant.sequence)) {
         let sequence = &variant.sequence;
         table.add(variant.start, variant.end, sequence.size, &sequence.letters, sequence.negative)?;
@@ -23,8 +23,8 @@ fn table(sheet: &Sheet, k: u8) -> Result<Table, ndigomarr::Refusal> {
     Ok(table.with_record_numbers(&numbers))
 }
 
-fn haplotype(parts: &[Sequence], k: u8) -> Result<Haplotype, ndigomarr::Refusal> {
-    let mut haplotype = Haplotype::new(k);
+fn haplotype(parts: &[Sequence], settings: &Settings) -> Result<Haplotype, ndigomarr::Refusal> {
+    let mut haplotype = settings.haplotype();
     for (_, part) in parts.iter().enumerate().filter(|(row, part)| seen(*row, part)) {
         haplotype.add(part.size, &part.letters, part.negative)?;
     }
@@ -39,8 +39,8 @@ thread_local! {
 /// The answer of each haplotype, by one call of the library.
 fn asked(sheet: &Sheet) -> Result<Vec<Result<Answer, ndigomarr::Refusal>>, ndigomarr::Refusal> {
     let settings = sheet.settings.to_library();
-    let table = table(sheet, settings.k)?;
-    let haplotypes: Result<Vec<Haplotype>, _> = sheet.part_lists().into_iter().map(|parts| haplotype(parts, settings.k)).collect();
+    let table = table(sheet, &settings)?;
+    let haplotypes: Result<Vec<Haplotype>, _> = sheet.part_lists().into_iter().map(|parts| haplotype(parts, &settings)).collect();
     let haplotypes = haplotypes?;
     ROOM.with(|room| ndigomarr::apply_haplotypes_in(&settings, &table, &haplotypes, &mut room.borrow_mut()))
 }
@@ -119,8 +119,8 @@ pub fn foretold(sheet: &Sheet) -> Foretold {
 }
 
 /// Size and features, by the library's own counter.
-fn counted(sequence: &Sequence, k: u8) -> Option<(i64, Vec<i32>)> {
-    Some((i64::from(sequence.size), ndigomarr::seq_to_kmer(&sequence.letters, k, sequence.negative).ok()?))
+fn counted(sequence: &Sequence, settings: &Settings) -> Option<(i64, Vec<i32>)> {
+    Some((i64::from(sequence.size), ndigomarr::seq_to_kmer(&sequence.letters, settings.k, sequence.negative, settings.letters).ok()?))
 }
 
 fn summed<'a>(counted: impl Iterator<Item = &'a (i64, Vec<i32>)>, k: u8) -> (i64, Vec<i32>) {
@@ -154,8 +154,8 @@ pub fn used_parts(sheet: &Sheet, answer: &Answer) -> Option<Vec<usize>> {
         Target::Partial(left_out) => left_out as usize,
     };
     let settings = sheet.settings.to_library();
-    let rows: Option<Vec<_>> = answer.rows.iter().map(|&row| counted(&sheet.variants[row].sequence, settings.k)).collect();
-    let parts: Option<Vec<_>> = sheet.parts.iter().map(|part| counted(part, settings.k)).collect();
+    let rows: Option<Vec<_>> = answer.rows.iter().map(|&row| counted(&sheet.variants[row].sequence, &settings)).collect();
+    let parts: Option<Vec<_>> = sheet.parts.iter().map(|part| counted(part, &settings)).collect();
     let (rows, parts) = (rows?, parts?);
     let (size, features) = summed(rows.iter(), settings.k);
     lists(all, all.checked_sub(left_out)?).into_iter().find(|list| {

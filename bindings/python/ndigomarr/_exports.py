@@ -12,6 +12,7 @@ def declare(library: ctypes.CDLL) -> None:
         ctypes.c_size_t,
         ctypes.c_uint8,
         ctypes.c_bool,
+        ctypes.c_uint8,
         ctypes.POINTER(ctypes.c_int32),
         ctypes.c_size_t,
     ]

@@ -34,8 +34,8 @@ class Answer:
 
 
 def words_of(settings: Settings) -> Words:
-    """The settings as the library takes them: each by its field's kind, so that a float of any library stays one. A k that no byte holds is
-    refused as any other wrong one."""
+    """The settings as the library takes them: each by its field's kind, so that a float of any library stays one. A k or
+    letters that no byte holds is refused as any other wrong one."""
     given = asdict(settings)
     kinds = {name: kind for name, kind in Words._fields_}
     return Words(**{name: float(value) if kinds[name] is ctypes.c_float else word(value) for name, value in given.items()})
@@ -64,9 +64,16 @@ def _answer(report: Any, rows: Any, records: Any) -> Answer:
     return Answer(list(rows[:count]), list(records[:count]), left_out, float_of(score), float_of(sizesim), float_of(seqsim), scored, complete == 1)
 
 
-def _table(table: Table) -> Any:
+def _read_alike(counted: Union[Table, Haplotype], settings: Settings) -> Any:
+    """The features where the settings' reading is the one that they were counted by. The library cannot see how a row was counted: rows of
+    another reading are no rows of these settings, so none are lent, and its own 6 tells it, as it does of another k."""
+    return counted.features if counted.letters == settings.letters else []
+
+
+def _table(table: Table, settings: Settings) -> Any:
     u32, u64, i32 = ctypes.c_uint32, ctypes.c_uint64, ctypes.c_int32
-    return (*_given(table.starts, u64), *_given(table.ends, u64), *_given(table.sizes, i32), *_given(table.features, i32), *_given(table.records, u32))
+    features = _read_alike(table, settings)
+    return (*_given(table.starts, u64), *_given(table.ends, u64), *_given(table.sizes, i32), *_given(features, i32), *_given(table.records, u32))
 
 
 def apply_haplotype(settings: Settings, table: Table, haplotype: Haplotype) -> Answer:
@@ -77,7 +84,7 @@ def apply_haplotype(settings: Settings, table: Table, haplotype: Haplotype) -> A
     links, keys = (u32 * room)(), (u64 * room)()
     rows, records, report = (u32 * len(table))(), (u32 * len(table))(), (u32 * 7)()
     accepted(LIBRARY.nd_apply_haplotype(
-        ctypes.byref(words), *_table(table), *_given(haplotype.sizes, i32), *_given(haplotype.features, i32),
+        ctypes.byref(words), *_table(table, settings), *_given(haplotype.sizes, i32), *_given(_read_alike(haplotype, settings), i32),
         links, room, keys, room, rows, len(rows), records, len(records), report))
     return _answer(report, rows, records)
 
@@ -91,14 +98,15 @@ def apply_haplotypes(settings: Settings, table: Table, haplotypes: Sequence[Hapl
     u32, u64, i32 = ctypes.c_uint32, ctypes.c_uint64, ctypes.c_int32
     words = words_of(settings)
     sizes = [size for haplotype in haplotypes for size in haplotype.sizes]
-    features = [entry for haplotype in haplotypes for entry in haplotype.features]
+    rows_of = [_read_alike(haplotype, settings) for haplotype in haplotypes]
+    features = [entry for counted in rows_of for entry in counted]
     part_ends = list(accumulate(len(haplotype.sizes) for haplotype in haplotypes))
-    feature_ends = list(accumulate(len(haplotype.features) for haplotype in haplotypes))
+    feature_ends = list(accumulate(len(counted) for counted in rows_of))
     room, v, count = queue_room(settings, len(table)), len(table), len(haplotypes)
     links, keys = (u32 * room)(), (u64 * room)()
     rows, records, reports = (u32 * (v * count))(), (u32 * (v * count))(), (u32 * (8 * count))()
     accepted(LIBRARY.nd_apply_haplotypes(
-        ctypes.byref(words), *_table(table), *_given(part_ends, u64), *_given(feature_ends, u64), *_given(sizes, i32), *_given(features, i32),
+        ctypes.byref(words), *_table(table, settings), *_given(part_ends, u64), *_given(feature_ends, u64), *_given(sizes, i32), *_given(features, i32),
         links, room, keys, room, rows, len(rows), records, len(records), reports, len(reports)))
     own = [(reports[8 * at], _answer(reports[8 * at + 1:8 * at + 8], rows[v * at:v * at + v], records[v * at:v * at + v])) for at in range(count)]
     return [Refused(number) if number else answer for number, answer in own]

@@ -82,6 +82,11 @@ def test_every_refusal_has_the_tables_words():
     (1, lambda: ndigomarr.seq_to_kmer("A", 257)),
     (2, lambda: ndigomarr.apply_haplotype(Settings(k=1, sizesim=float("nan")), *worked())),
     (3, lambda: ndigomarr.apply_haplotype(Settings(k=1, maxpaths=4096), *worked())),
+    (3, lambda: ndigomarr.apply_haplotype(Settings(k=1, letters=2), *worked())),
+    (3, lambda: ndigomarr.apply_haplotype(Settings(k=1, letters=256), *worked())),
+    (3, lambda: ndigomarr.seq_to_kmer("A", 1, letters=2)),
+    (3, lambda: ndigomarr.seq_to_kmer("A", 1, letters=256)),
+    (3, lambda: Table(1, letters=2).insertion(1, "A")),
     (4, lambda: ndigomarr.apply_haplotype(SETTINGS, Table(1), Haplotype(1))),
     (6, lambda: ndigomarr.seqsim([1], [1, 2], 1)),
     (6, lambda: ndigomarr.apply_haplotype(Settings(k=2), *worked())),
@@ -95,6 +100,49 @@ def test_refusals(number, call):
     with pytest.raises(Refused) as told:
         call()
     assert told.value.number == number
+
+
+def test_what_n_does_in_each_reading():
+    assert list(ndigomarr.seq_to_kmer("ANCgn-", 1)) == [4, 1, 1, 0]
+    assert list(ndigomarr.seq_to_kmer("ANCgn-", 1, True, 1)) == [-1, -1, -1, 0]
+    found = []
+    for letters in (0, 1):
+        settings = Settings(k=2, minkfreq=1, sizesim=0.5, seqsim=0.5, letters=letters)
+        table, haplotype = Table(settings.k, settings.letters), Haplotype(settings.k, settings.letters)
+        table.insertion(10, "CCAACC")
+        haplotype.insertion("CCNNCC")
+        found.append(ndigomarr.apply_haplotype(settings, table, haplotype).seqsim)
+    # CC CA AA AC CC in both, and then CC CC of the read against these five: n is 3, d 7
+    assert found == [1.0, pytest.approx(1 - 3 / 7)]
+
+
+def test_every_window_left_out_is_a_16():
+    for letters, number in ((0, None), (1, 16)):
+        settings = Settings(k=2, letters=letters)
+        table, haplotype = Table(2, letters), Haplotype(2, letters)
+        table.insertion(10, "ACGT")
+        haplotype.insertion("ANCNG")
+        ndigomarr.apply_haplotype(settings, table, haplotype)
+        table.insertion(20, "ANCNG")
+        if number:
+            assert refused(ndigomarr.apply_haplotype, settings, table, haplotype) == number
+        else:
+            ndigomarr.apply_haplotype(settings, table, haplotype)
+
+
+def test_one_reading_for_table_haplotype_and_settings():
+    def made(letters):
+        table, haplotype = Table(1, letters), Haplotype(1, letters)
+        table.insertion(10, "AG")
+        haplotype.insertion("AG")
+        return Settings(k=1, minkfreq=1, letters=letters), table, haplotype
+    for one, other in ((made(0), made(1)), (made(1), made(0))):
+        settings, table, haplotype = one
+        assert ndigomarr.apply_haplotype(*one).rows == [0]
+        for given in ((other[0], table, haplotype), (settings, other[1], haplotype), (settings, table, other[2])):
+            assert refused(ndigomarr.apply_haplotype, *given) == 6
+        answers = ndigomarr.apply_haplotypes(settings, table, [haplotype, other[2]])
+        assert answers[0].rows == [0] and answers[1].number == 6
 
 
 def test_a_repeated_record_number():

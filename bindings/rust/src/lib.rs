@@ -47,24 +47,24 @@ pub use settings::Settings;
 pub use table::{Haplotype, Table};
 
 impl Settings {
-    /// A table of no rows for these settings: its letters will be counted by windows of `k`.
+    /// A table of no rows for these settings: its letters will be counted by windows of `k`, as `letters` reads them.
     ///
     /// ```
     /// let settings = ndigomarr::Settings { k: 2, ..Default::default() };
     /// assert_eq!(settings.table(), ndigomarr::Table::new(2));
     /// ```
     pub fn table(&self) -> Table {
-        Table::new(self.k)
+        Table::read_by(self.k, self.letters)
     }
 
-    /// A haplotype of no parts for these settings: its letters will be counted by windows of `k`.
+    /// A haplotype of no parts for these settings: its letters will be counted by windows of `k`, as `letters` reads them.
     ///
     /// ```
     /// let settings = ndigomarr::Settings { k: 2, ..Default::default() };
     /// assert_eq!(settings.haplotype(), ndigomarr::Haplotype::new(2));
     /// ```
     pub fn haplotype(&self) -> Haplotype {
-        Haplotype::new(self.k)
+        Haplotype::read_by(self.k, self.letters)
     }
 }
 
@@ -142,16 +142,19 @@ fn checked<T>(number: u32, value: T) -> Result<T, Refusal> {
     }
 }
 
-/// The k-mer counts of a sequence, a row of 4^k entries; negative ones for a `negative` sequence.
+/// The k-mer counts of a sequence, a row of 4^k entries; negative ones for a `negative` sequence. A byte other than A, C, G and T in
+/// either case counts as A with `letters` 0; with 1 each window that holds one is left out.
 ///
 /// ```
-/// assert_eq!(ndigomarr::seq_to_kmer(b"AAG", 1, false)?, [2, 1, 0, 0]); // A, G, C, T
-/// assert_eq!(ndigomarr::seq_to_kmer(b"AAG", 1, true)?, [-2, -1, 0, 0]);
+/// assert_eq!(ndigomarr::seq_to_kmer(b"AAG", 1, false, 0)?, [2, 1, 0, 0]); // A, G, C, T
+/// assert_eq!(ndigomarr::seq_to_kmer(b"AAG", 1, true, 0)?, [-2, -1, 0, 0]);
+/// assert_eq!(ndigomarr::seq_to_kmer(b"NAG", 1, false, 0)?, [2, 1, 0, 0]);
+/// assert_eq!(ndigomarr::seq_to_kmer(b"NAG", 1, false, 1)?, [1, 1, 0, 0]);
 /// # Ok::<(), ndigomarr::Refusal>(())
 /// ```
-pub fn seq_to_kmer(sequence: &[u8], k: u8, negative: bool) -> Result<Vec<i32>, Refusal> {
+pub fn seq_to_kmer(sequence: &[u8], k: u8, negative: bool, letters: u8) -> Result<Vec<i32>, Refusal> {
     let mut row = vec![0; raw::entries(k)];
-    seq_to_kmer_into(sequence, k, negative, &mut row)?;
+    seq_to_kmer_into(sequence, k, negative, letters, &mut row)?;
     Ok(row)
 }
 
@@ -159,12 +162,12 @@ pub fn seq_to_kmer(sequence: &[u8], k: u8, negative: bool) -> Result<Vec<i32>, R
 ///
 /// ```
 /// let mut row = [7; 4];
-/// ndigomarr::seq_to_kmer_into(b"CT", 1, false, &mut row)?;
+/// ndigomarr::seq_to_kmer_into(b"CT", 1, false, 0, &mut row)?;
 /// assert_eq!(row, [0, 0, 1, 1]);
 /// # Ok::<(), ndigomarr::Refusal>(())
 /// ```
-pub fn seq_to_kmer_into(sequence: &[u8], k: u8, negative: bool, row: &mut [i32]) -> Result<(), Refusal> {
-    checked(raw::seq_to_kmer(sequence, k, negative, row), ())
+pub fn seq_to_kmer_into(sequence: &[u8], k: u8, negative: bool, letters: u8, row: &mut [i32]) -> Result<(), Refusal> {
+    checked(raw::seq_to_kmer(sequence, k, negative, letters, row), ())
 }
 
 /// The similarity of two feature rows.
@@ -207,7 +210,8 @@ pub fn count_chains(table: &Table, full: bool, cap: u32) -> Result<u32, Refusal>
     checked(number, count)
 }
 
-/// The path of the table that best explains the haplotype.
+/// The path of the table that best explains the haplotype. A table or a haplotype of another k than the settings', or counted by another
+/// reading of letters, is a 6.
 ///
 /// ```
 /// use ndigomarr::{apply_haplotype, Settings};

@@ -20,6 +20,9 @@ fn settings(s: &Settings) -> String {
             words.push(word.to_string());
         }
     }
+    if s.letters != 0 {
+        words.push(format!("letters {}", s.letters));
+    }
     words.push(format!(
         "maxpaths {} maxnodes {} fnmax {} pileupmax {} minkfreq {} sizesim {:?} seqsim {:?} fpenalty {:?} gpenalty {:?}",
         s.maxpaths, s.maxnodes, s.fnmax, s.pileupmax, s.minkfreq, s.sizesim, s.seqsim, s.fpenalty, s.gpenalty

@@ -10,12 +10,13 @@ use crate::several::Several;
 use std::cell::OnceCell;
 use std::collections::BTreeMap;
 
-/// The counts of all windows of k letters. "A window of k letters is a base-4 number, first letter highest."
-pub fn features(rules: &Rules, k: u8, letters: &[u8], negative: bool) -> Vec<i32> {
+/// The counts of the windows of k letters that a reading keeps. "A window of k letters is a base-4 number, first letter highest."
+pub fn features(rules: &Rules, letters: u32, k: u8, text: &[u8], negative: bool) -> Vec<i32> {
+    let codes: Vec<Option<usize>> = text.iter().map(|&letter| rules.code(letter, letters)).collect();
     let mut row = vec![0; 4usize.pow(k.into())];
-    for window in letters.windows(k.into()) {
-        let number = window.iter().try_fold(0, |number, &letter| Some(number * 4 + rules.code(letter)?));
-        if let Some(number) = number {
+    for (at, window) in codes.windows(k.into()).enumerate() {
+        if rules.is_kept(&codes, at, k.into()) {
+            let number = window.iter().fold(0, |number, code| number * 4 + code.unwrap_or(0));
             row[number] += rules.window_adds(negative);
         }
     }
@@ -249,7 +250,7 @@ pub fn several_answers(rules: &Rules, several: &Several, met: &mut Met) -> Vec<A
 
 /// All haplotypes of the job as a call, its features counted and its record numbers given by the rules.
 fn several_of(rules: &Rules, job: &Job) -> Several {
-    Several::of_job_by(job, rules.present_numbers(job.variants.len()), |k, letters, negative| features(rules, k, letters, negative))
+    Several::of_job_by(job, rules.present_numbers(job.variants.len()), |k, text, negative| features(rules, job.settings.letters, k, text, negative))
 }
 
 /// The first alone.

@@ -1,6 +1,7 @@
 //! Seeded jobs that reach what document 01 speaks of: ties, zero and negative sizes, squish, bare graphs, one-to-one,
-//! thresholds and penalties at telling values, every kind of refusal, sums at their limits, record numbers of all kinds, and rows all zero.
-use crate::call::{queue_need, Call};
+//! thresholds and penalties at telling values, every kind of refusal, sums at their limits, record numbers of all kinds, rows all zero, and in calls of
+//! the library both readings of letters.
+use crate::call::{counted, queue_need, Call};
 use crate::job::{record_length, shape, Job, Part, Settings, Variant};
 use crate::random::Random;
 use crate::rules::{DOCUMENT, SIZE_LIMIT};
@@ -29,6 +30,23 @@ fn letter(r: &mut Random, style: u64) -> u8 {
         8 => r.pick(b"ACGTNnacgt-"),
         _ => r.below(256) as u8,
     }
+}
+
+/// A text for the counter: of letters that were read, with few, some or many others among them, or stretches of these.
+pub fn text(r: &mut Random, length: usize) -> Vec<u8> {
+    let others = r.pick(&[0, 1, 10, 50, 95]);
+    let stretch = r.pick(&[1, 1, 3, 200]);
+    let mut text = vec![];
+    while text.len() < length {
+        if r.chance(others) {
+            let other = if r.chance(70) { r.pick(b"Nn-") } else { r.below(256) as u8 };
+            text.resize(text.len() + 1 + r.below(stretch) as usize, other);
+        } else {
+            text.extend((0..1 + r.below(stretch)).map(|_| r.pick(b"ACGTacgt")));
+        }
+    }
+    text.truncate(length);
+    text
 }
 
 fn sequence(r: &mut Random, size: Size) -> Vec<u8> {
@@ -191,6 +209,7 @@ fn settings(r: &mut Random, v: u64, m: u64, size: Size) -> Settings {
             2 | 3 => r.below(6) as u32,
             _ => r.pick(&[1u32, 2]),
         },
+        letters: 0,
         sizesim: threshold(r),
         seqsim: threshold(r),
         fpenalty: penalty(r),
@@ -321,12 +340,43 @@ pub fn cost(call: &Call) -> u64 {
     chains(call, limit) * (lists(call.part_sizes.len(), &call.settings) * entries + 8 * v)
 }
 
+/// What only the library can be asked: the reading of letters, often 1 and now and then one that there is not. With 1 most variants keep a window.
+fn read_by(r: &mut Random, job: &mut Job) {
+    job.settings.letters = match r.below(20) {
+        0..=8 => 1,
+        9 if r.chance(50) => r.pick(&[2, 3, 255, 256, 257, 0x0100_0000, u32::MAX]),
+        _ => return,
+    };
+    if job.settings.letters > 1 {
+        // beside a refusal that comes before it
+        match r.below(8) {
+            0 => job.settings.k = 7,
+            1 => job.settings.seqsim = f32::NAN,
+            _ => {}
+        }
+        return;
+    }
+    if r.chance(10) {
+        return;
+    }
+    let k = usize::from(job.settings.k);
+    for variant in &mut job.variants {
+        let letters = &mut variant.letters;
+        if letters.len() >= k && (1..=6).contains(&k) && DOCUMENT.is_blank(&counted(1, job.settings.k, letters, false)) {
+            let place = r.pick(&[0, letters.len()]);
+            let read: Vec<u8> = (0..k).map(|_| r.pick(b"ACGTacgt")).collect();
+            letters.splice(place..place, read);
+        }
+    }
+}
+
 /// A library call of at most the given cost; more costly ones score fewer chains.
 pub fn call(r: &mut Random, budget: u64) -> Call {
     let mut job = if r.chance(1) { job_at_limits(r) } else { job(r, LIBRARY) };
     if r.chance(5) {
         disturb_job(r, &mut job);
     }
+    read_by(r, &mut job);
     let call = lent(r, &job, budget);
     numbered(r, call)
 }
@@ -337,6 +387,7 @@ pub fn small_call(r: &mut Random) -> Call {
     if r.chance(30) {
         disturb_job(r, &mut job);
     }
+    read_by(r, &mut job);
     let call = lent(r, &job, 100_000);
     numbered(r, call)
 }
@@ -522,7 +573,9 @@ pub fn several_input(r: &mut Random) -> Vec<u8> {
 
 /// A library call for several haplotypes; each of at most the given cost.
 pub fn several_call(r: &mut Random, size: Size, budget: u64) -> Several {
-    let mut several = Several::of_job(&several_job_or_refused(r, size));
+    let mut job = several_job_or_refused(r, size);
+    read_by(r, &mut job);
+    let mut several = Several::of_job(&job);
     if several.refusal(&DOCUMENT) == 0 {
         if r.chance(20) {
             scatter(r, &mut several.call);

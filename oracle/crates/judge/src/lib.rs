@@ -1,7 +1,7 @@
 //! The judge: what documents 01 and 02 and kanpig's Rust together say about a job.
 //!
 //! - `job`: a job, its bytes, and the faults of the job form.
-//! - `call`: a haplotype as the library is asked for it, and the refusals 1 to 12, 14 and 16; `several`: several over one table.
+//! - `call`: a haplotype as the library is asked for it, its rows counted, and the refusals 1 to 12, 14 and 16; `several`: several over one table.
 //! - `rust`: the answer by kanpig's Rust, unchanged or ordered.
 //! - `answer`: an answer and its eight lines.
 //! - `program`: what the program must print for given bytes.

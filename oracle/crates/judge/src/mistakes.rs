@@ -19,9 +19,9 @@ macro_rules! mistakes {
 }
 
 mistakes! {
-    "letters counted in A C G T order": code = |letter| DOCUMENT.code(letter).map(|code| [0, 2, 1, 3][code]);
-    "lower case read as another byte": code = |letter| if letter.is_ascii_lowercase() { Some(0) } else { DOCUMENT.code(letter) };
-    "windows with another byte left out": code = |letter| DOCUMENT.code(letter).filter(|_| b"AGCTagct".contains(&letter));
+    "letters counted in A C G T order": code = |letter, letters| DOCUMENT.code(letter, letters).map(|code| [0, 2, 1, 3][code]);
+    "lower case read as another byte": code = |letter, letters| DOCUMENT.code(if letter.is_ascii_lowercase() { b'N' } else { letter }, letters);
+    "windows with another byte left out": code = |letter, _| DOCUMENT.code(letter, 1);
     "a negative sequence counted up": window_adds = |_| 1;
     "entries must exceed minkfreq": n_and_d = |a, b, minkfreq| DOCUMENT.n_and_d(a, b, minkfreq + 1);
     "seqsim rounded once, not after the division": seqsim = |n, d| if n == 0 || d == 0 { DOCUMENT.seqsim(n, d) } else { (1.0 - n as f64 / d as f64) as f32 };
@@ -170,6 +170,22 @@ mistakes! {
     "`hap` printed for one haplotype too": hap_lines_stand = |_| true;
     "`hap` not printed": hap_lines_stand = |_| false;
     "`hap` from 1": hap_number = |at| at + 1;
+    "an unread letter counted as A with letters 1": code = |letter, _| DOCUMENT.code(letter, 0);
+    "lower case unread with letters 1": code = |letter, letters| DOCUMENT.code(letter, letters).filter(|_| letters == 0 || !letter.is_ascii_lowercase());
+    "n counted as A with letters 1, and N not": code = |letter, letters| if letter == b'n' { Some(0) } else { DOCUMENT.code(letter, letters) };
+    "only N and n unread with letters 1": code = |letter, letters| DOCUMENT.code(letter, if b"Nn".contains(&letter) { letters } else { 0 });
+    "a window kept whose last letter is unread": is_kept = |codes, at, k| DOCUMENT.is_kept(codes, at, k - 1);
+    "a window kept whose first letter is unread": is_kept = |codes, at, k| DOCUMENT.is_kept(codes, at + 1, k - 1);
+    "a window kept that has one letter with a code": is_kept = |codes, at, k| codes[at..at + k].iter().any(Option::is_some);
+    "the window behind an unread letter lost": is_kept = |codes, at, k| DOCUMENT.is_kept(codes, at, k) && (at == 0 || codes[at - 1].is_some());
+    "the window before an unread letter lost": is_kept = |codes, at, k| DOCUMENT.is_kept(codes, at, k) && codes.get(at + k).is_none_or(Option::is_some);
+    "nothing counted behind the first unread letter": is_kept = |codes, at, k| DOCUMENT.is_kept(codes, 0, at + k);
+    "nothing counted of a sequence with an unread letter": is_kept = |codes, _, _| DOCUMENT.is_kept(codes, 0, codes.len());
+    "a job's letters read by 1": present_letters = || 1;
+    "letters 2 accepted": letters_are_refused = |letters| letters > 2;
+    "letters 1 refused": letters_are_refused = |letters| letters > 0;
+    "letters compared by a byte": letters_are_refused = |letters| DOCUMENT.letters_are_refused(letters & 0xff);
+    "letters not looked at": letters_are_refused = |_| false;
     "16 looked for before 10": refusals = || &[1, 2, 3, 4, 27, 5, 6, 7, 8, 14, 9, 16, 10, 11, 12];
     "16 looked for before 9": refusals = || &[1, 2, 3, 4, 27, 5, 6, 7, 8, 14, 16, 9, 10, 11, 12];
     "16 looked for after 11": refusals = || &[1, 2, 3, 4, 27, 5, 6, 7, 8, 14, 9, 10, 11, 16, 12];

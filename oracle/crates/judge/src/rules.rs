@@ -64,14 +64,15 @@ rules! {
 
     // From letters to similarity
 
-    /// "A, G, C and T give 0, 1, 2, 3 in either case; any other byte gives 0." A window is counted when all its letters have a code.
-    fn code(letter: u8) -> Option<usize> {
+    /// "A, G, C and T give 0, 1, 2, 3 in either case; any other byte gives 0." Document 02, P6: "0 is document 01's reading", and with 1 a byte other
+    /// than these has no code.
+    fn code(letter: u8, letters: u32) -> Option<usize> {
         match letter {
             b'A' | b'a' => Some(0),
             b'G' | b'g' => Some(1),
             b'C' | b'c' => Some(2),
             b'T' | b't' => Some(3),
-            _ => Some(0),
+            _ => (letters != 1).then_some(0),
         }
     }
 
@@ -360,6 +361,23 @@ rules! {
     /// "a line `hap` and its number from 0"
     fn hap_number(at: usize) -> usize {
         at
+    }
+
+    // Document 02, P6: unread letters are not A
+
+    /// "A library setting other than 0 or 1 is a 3."
+    fn letters_are_refused(letters: u32) -> bool {
+        letters > 1
+    }
+
+    /// "1 leaves out each window that holds a byte other than A, G, C, T in either case": one is kept exactly when each of its k bytes has a code
+    fn is_kept(codes: &[Option<usize>], at: usize, k: usize) -> bool {
+        codes[at..at + k].iter().all(Option::is_some)
+    }
+
+    /// "Old jobs read as 0."
+    fn present_letters() -> u32 {
+        0
     }
 
     // Document 02, P11: rows that can match nothing

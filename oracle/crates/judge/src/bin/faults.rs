@@ -2,7 +2,7 @@
 //! prints how many inputs it took and the smallest found that shows it: an input of the program, or a call of the library where no
 //! input can show it. A rule that no mistake misreads is a failure too.
 use judge::answer::Answer;
-use judge::call::Call;
+use judge::call::{counted, Call};
 use judge::document::{call_answer, features, program_text, record_buffer, several_answers};
 use judge::generate::{input, several_call, several_input, small_call, PROGRAM};
 use judge::met::Met;
@@ -39,18 +39,28 @@ fn several_must_be(several: &Several) -> several::Seen {
     several.seen(&DOCUMENT, &answers)
 }
 
-/// The first short sequence that a mistaken counter counts otherwise than the Rust, and the first sizes likewise.
-fn smaller_calls(rules: &Rules) -> Option<String> {
-    let sequences = (1..=3u32).flat_map(|n| (0..5u32.pow(n)).map(move |code| (n, code)));
+/// The first short sequence that a mistaken counter counts otherwise than the Rust, or with letters 1 than the second program.
+fn counted_otherwise(rules: &Rules) -> Option<String> {
+    const BYTES: &[u8; 8] = b"ACGTNan-";
+    let sequences = (1..=3u32).flat_map(|n| (0..8u32.pow(n)).map(move |code| (n, code)));
     for (n, code) in sequences {
-        let letters: Vec<u8> = (0..n).map(|i| b"ACGTN"[(code / 5u32.pow(i) % 5) as usize]).collect();
-        for k in 1..=2u8 {
-            let rust = rust::features(k, &letters, false);
-            let would = features(rules, k, &letters, false);
-            if would != rust {
-                return Some(format!("counting {} at k {k} must be {rust:?}, would be {would:?}", letters.escape_ascii()));
+        let text: Vec<u8> = (0..n).map(|i| BYTES[(code / 8u32.pow(i) % 8) as usize]).collect();
+        for (k, letters) in [(1, 0), (2, 0), (1, 1), (2, 1)] {
+            let must = counted(letters, k, &text, false);
+            let would = features(rules, letters, k, &text, false);
+            if would != must {
+                return Some(format!("counting {} at k {k} with letters {letters} must be {must:?}, would be {would:?}", text.escape_ascii()));
             }
         }
+    }
+    None
+}
+
+/// That, or the first sizes likewise.
+fn smaller_calls(rules: &Rules) -> Option<String> {
+    let shown = counted_otherwise(rules);
+    if shown.is_some() {
+        return shown;
     }
     for a in 0..6 {
         for b in 0..6 {
