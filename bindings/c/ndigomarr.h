@@ -55,6 +55,10 @@ enum nd_refusal {
     ND_REFUSED_TOO_MANY_LINES = 42, /* a sixty-fifth line of BED */
     ND_REFUSED_LITTLE_TEXT_ROOM = 43, /* too little room for BED text */
     ND_REFUSED_MISSING_ROW = 44, /* a row that isn't there */
+    ND_REFUSED_MISSING_VERSION = 45, /* a version that isn't there */
+    ND_REFUSED_VERSIONS_USED = 46, /* all 255 versions are used */
+    ND_REFUSED_LITTLE_BOOK_ROOM = 47, /* fewer than 43 bytes left in the book */
+    ND_REFUSED_BROKEN_BOOK = 48, /* a book that breaks its rules or holds settings we would refuse */
     ND_REFUSED_NOT_ITS_SHEET = 49, /* a sheet that isn't its table's, or a table that breaks 5 to 8 */
     ND_REFUSED_BAD_SAMPLES = 50, /* a sample count not 1 to 8 */
     ND_REFUSED_NO_SUCH_SAMPLE = 51, /* a sample index at or above the sample count */
@@ -97,6 +101,10 @@ static inline const char *nd_refusal_text(uint32_t number)
     case ND_REFUSED_TOO_MANY_LINES: return "a sixty-fifth line of BED";
     case ND_REFUSED_LITTLE_TEXT_ROOM: return "too little room for BED text";
     case ND_REFUSED_MISSING_ROW: return "a row that isn't there";
+    case ND_REFUSED_MISSING_VERSION: return "a version that isn't there";
+    case ND_REFUSED_VERSIONS_USED: return "all 255 versions are used";
+    case ND_REFUSED_LITTLE_BOOK_ROOM: return "fewer than 43 bytes left in the book";
+    case ND_REFUSED_BROKEN_BOOK: return "a book that breaks its rules or holds settings we would refuse";
     case ND_REFUSED_NOT_ITS_SHEET: return "a sheet that isn't its table's, or a table that breaks 5 to 8";
     case ND_REFUSED_BAD_SAMPLES: return "a sample count not 1 to 8";
     case ND_REFUSED_NO_SUCH_SAMPLE: return "a sample index at or above the sample count";
