@@ -25,9 +25,9 @@ outcome (suc f) m = refused
 -- refused where either is, or where `combine` refuses the two; else what `combine` gives
 infixl 50 _with_
 abbrev pub _with_ : Outcome → Outcome → Outcome
-refused with o = refused
-is a with refused = refused
-is a with is b = outcome (combinedTwo a b .refusal) (combinedTwo a b .left)
+_with_ refused o = refused
+_with_ (is a) refused = refused
+_with_ (is a) (is b) = outcome (combinedTwo a b .refusal) (combinedTwo a b .left)
 
 -- ---- a list, from the front
 
