@@ -852,7 +852,7 @@ pub fn input(r: &mut Random) -> Vec<u8> {
 /// Rows of the table that may be a chain: each with some chance where it overlaps none before it, now and then where it does.
 fn some_rows(r: &mut Random, call: &Call) -> Vec<u32> {
     let mut rows: Vec<u32> = vec![];
-    for row in 0..call.starts.len().min(64) as u32 {
+    for row in 0..call.starts.len().min(call.ends.len()).min(64) as u32 {
         let apart = call.settings.full && rows.iter().all(|&earlier| !DOCUMENT.overlaps(call.interval(earlier as usize), call.interval(row as usize)));
         if r.chance(if apart { 30 } else { 1 }) {
             rows.push(row);
