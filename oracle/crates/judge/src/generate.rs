@@ -878,14 +878,30 @@ fn one_off(r: &mut Random, numbers: &mut Vec<u32>, count: usize) {
 
 /// What is made of a good proposal: near misses, and lists too long.
 fn disturb_proposal(r: &mut Random, proposal: &mut Proposal, v: usize, m: usize) {
-    match r.below(10) {
+    match r.below(12) {
         0..=2 => one_off(r, &mut proposal.rows, v),
         3..=5 => one_off(r, &mut proposal.positions, m),
+        10 => proposal.positions.retain(|_| r.chance(50)),
+        11 => proposal.rows = proposal.rows.iter().flat_map(|&row| vec![row; r.pick(&[1, 1, 2])]).collect(),
         6 => proposal.score = f32::from_bits(proposal.score.to_bits() ^ 1 << r.below(32)),
         7 => proposal.score = r.pick(&[0.0, -0.0, f32::NAN, f32::INFINITY, -proposal.score, 1.0]),
         8 => proposal.rows = vec![0; r.pick(&[64, 65, 66])],
         _ => proposal.positions = (0..r.pick(&[63, 64, 65, 66])).collect(),
     }
+}
+
+/// A call for which paths are proposed: now and then its penalties take all of a score, so that it is 0 exactly.
+pub fn proposed_call(r: &mut Random, library: bool) -> Call {
+    let mut call = if library { call(r, 300_000) } else { small_call(r) };
+    if call.refusal(&DOCUMENT) == 0 && r.chance(20) {
+        let s = &mut call.settings;
+        (s.sizesim, s.seqsim, s.squish) = (0.0, 0.0, false);
+        (s.fpenalty, s.gpenalty) = (r.pick(&[0.0, 0.5]), r.pick(&[0.25, 0.5, 1.0]));
+        if r.chance(50) {
+            call.part_sizes.iter_mut().for_each(|size| *size = 0);
+        }
+    }
+    call
 }
 
 /// A proposal for a call: what its own answer says with the list that won, or some chain and list with their score, whatever that is; half of
@@ -905,7 +921,7 @@ pub fn proposal(r: &mut Random, call: &Call, answer: &Answer) -> Proposal {
     if r.chance(50) {
         disturb_proposal(r, &mut proposal, v, m);
         let there = |numbers: &[u32], count: usize| numbers.iter().all(|&number| (number as usize) < count);
-        if accepted && there(&proposal.rows, v) && there(&proposal.positions, m) && r.chance(50) {
+        if accepted && there(&proposal.rows, v) && there(&proposal.positions, m) && r.chance(70) {
             proposal.score = list_score(call, &proposal.rows, &proposal.positions);
         }
     }

@@ -92,10 +92,10 @@ struct Asked {
     proposals: Vec<(Checked, Call, Proposal)>,
 }
 
-/// A call of either size and a path proposed for it, behind the judge's answer.
+/// A call and a path proposed for it, behind the judge's answer.
 fn proposed(seed: u64) -> (Checked, Call, Proposal) {
     let mut r = Random::new(seed);
-    let call = small_call(&mut r);
+    let call = generate::proposed_call(&mut r, false);
     let one = generate::proposal(&mut r, &call, &rust::judged(&call).answer);
     (proposal::judged(&call, &one), call, one)
 }

@@ -355,7 +355,7 @@ fn main() -> ExitCode {
     let (texts, long_texts) = (all_texts(&o), drawn_texts(&o));
     let proposals = work(2 * o.calls, |tally, i| {
         let mut r = seeded(&o, 6, i);
-        let call = if i % 5 == 0 { generate::call(&mut r, 300_000) } else { generate::small_call(&mut r) };
+        let call = generate::proposed_call(&mut r, i % 5 == 0);
         compare_proposal(tally, &call, &mut r, &o);
     });
     report("proposed paths", 2 * o.calls, &proposals);
