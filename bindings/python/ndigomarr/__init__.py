@@ -15,13 +15,14 @@ numbers of the :class:`Table` handed over, from 0; its records are those rows' r
 >>> answer.rows, answer.score, answer.scored, answer.complete
 ([0], 1.0, 4, True)
 """
+from ._book import Book
 from ._library import Bed, Companions, Refused, answer, count_chains, read_bed, seq_to_kmer, seqsim, sizesim, write_bed
 from ._search import Answer, apply_haplotype, apply_haplotypes
 from ._settings import Settings
 from ._table import Haplotype, Table
 
 __all__ = [
-    "Answer", "Bed", "Companions", "Haplotype", "Refused", "Settings", "Table", "answer", "apply_haplotype", "apply_haplotypes",
+    "Answer", "Bed", "Book", "Companions", "Haplotype", "Refused", "Settings", "Table", "answer", "apply_haplotype", "apply_haplotypes",
     "count_chains", "read_bed", "seq_to_kmer", "seqsim", "sizesim", "write_bed",
 ]
 __version__ = "0.1.0"

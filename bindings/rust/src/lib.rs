@@ -33,6 +33,7 @@
 struct Readme;
 
 mod bed;
+mod book;
 mod companions;
 mod raw;
 mod refusal;
@@ -41,6 +42,7 @@ mod settings;
 mod table;
 
 pub use bed::Bed;
+pub use book::Book;
 pub use companions::Companions;
 pub use refusals::Refusal;
 pub use settings::Settings;

@@ -149,5 +149,5 @@ unique = record {
   nd-companions-count = λ starts ends sheet rows row count. two;
   nd-book-save = λ book settings version x y u v p q. two x y u v (both u p) (both v q);
   nd-book-read = λ book version settings. two;
-  nd-book-restore = λ book version new x y u v p q. two x y u v (both u p) (both v q);
+  nd-book-restore = λ book version added x y u v p q. two x y u v (both u p) (both v q);
 }

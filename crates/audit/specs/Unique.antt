@@ -184,4 +184,4 @@ pub record Unique : Type 0 where
   pub nd-companions-count : (starts ends : List ℕ) (sheet : List Bool) (rows row count : ℕ) → Two ℕ ℕ (NdCompanionsCountPromise starts ends sheet rows row count)
   pub nd-book-save : (book settings : List ℕ) (version : ℕ) → Two (List ℕ) (ℕ × ℕ) (λ x u. NdBookSavePromise book settings version x (u .0) (u .1))
   pub nd-book-read : (book : List ℕ) (version : ℕ) (settings : List ℕ) → Two (List ℕ) ℕ (NdBookReadPromise book version settings)
-  pub nd-book-restore : (book : List ℕ) (version new : ℕ) → Two (List ℕ) (ℕ × ℕ) (λ x u. NdBookRestorePromise book version new x (u .0) (u .1))
+  pub nd-book-restore : (book : List ℕ) (version added : ℕ) → Two (List ℕ) (ℕ × ℕ) (λ x u. NdBookRestorePromise book version added x (u .0) (u .1))
