@@ -6,11 +6,11 @@ use mathlib.Core.List.{List}
 use Prim.Native.Nat.{ℕ, suc, _<_}
 use native.Mathlib.Omega.{arith}
 use lib.Dec.{ltb}
-use borrow.Author.Tests.{ltb-true, lt-ltb}
+use borrow.Author.Tests.{ltb-true, lt-ltb, ne-eqb}
 use Rattle.params.specs.Numbers.{Table, Parts, callOf, badK, badFloat, badNumber, firstOf, settingsRules, anyBelow}
 use Rattle.params.specs.Several.{haplotypes}
 use Rattle.params.specs.declared.Settings.{Settings}
-use Rattle.params.proofs.CheckLaws.{k-high, stops}
+use Rattle.params.proofs.CheckLaws.{k-high}
 use Rattle.kplib.specs.Answer.{foundAfter}
 use Rattle.kplib.specs.Haplotypes.{laid, answeredAfter}
 use Rattle.dive.specs.Numbered.{Numbered, numberedFault, numberedAnswer, numberedRows, recordsAt, recordsOf, numberedSearches}
@@ -32,7 +32,12 @@ later false b e = e
 
 letters-refused : (s : Settings) → 1 < s .letters → badNumber s ≡ true
 unfolding badNumber
-letters-refused s h = later _ _ (later _ _ (later _ _ (later _ _ (later _ _ (lt-ltb 1 (s .letters) h)))))
+letters-refused s h =
+    later (ltb 4095 (s .maxpaths)) _
+    (later (ltb 65535 (s .maxnodes)) _
+    (later (ltb 65535 (s .fnmax)) _
+    (later (ltb 12 (s .pileupmax)) _
+    (later (ltb 16777216 (s .minkfreq)) _ (lt-ltb 1 (s .letters) h)))))
 
 -- k and the floats are the same, so that it is the same of 1 to 3
 number-kept : (s : Settings) (low float : Bool) → firstOf (settingsRules (settingsHeld s)) ≡ cond low 1 (cond float 2 3) → firstOf (settingsRules s) ≡ cond low 1 (cond float 2 3) → Kept s
@@ -55,6 +60,16 @@ kept s = go (ltb 255 (s .k)) (ltb 255 (s .letters)) refl refl
         let own : badNumber s ≡ true = letters-refused s (omega arith) in
         number-kept s (badK s) (badFloat s) (rw (made, e) refl) (rw own refl)
 
+-- settings that are refused have the call refused by the same number
+by-settings : (s : Settings) (n rest : ℕ) → firstOf (settingsRules s) ≡ suc n → cond (badK s) 1 (cond (badFloat s) 2 (cond (badNumber s) 3 rest)) ≡ suc n
+by-settings s n rest = go (badK s) (badFloat s) (badNumber s)
+  where
+    go : (k float number : Bool) → cond k 1 (cond float 2 (cond number 3 0)) ≡ suc n → cond k 1 (cond float 2 (cond number 3 rest)) ≡ suc n
+    go true float number e = e
+    go false true number e = e
+    go false false true e = e
+    go false false false e = absurd (omega arith)
+
 -- ---- two calls that are answered alike
 pub record Alike (x y : Numbered) : Type 0 where
   pub answer : numberedAnswer x ≡ numberedAnswer y
@@ -64,7 +79,7 @@ pub record Alike (x y : Numbered) : Type 0 where
 
 refused-call : (x : Numbered) (n : ℕ) → firstOf (settingsRules (x .call .settings)) ≡ suc n → numberedFault x ≡ suc n
 unfolding numberedFault
-refused-call x n e = sym (stops (settingsRules (x .call .settings)) _ (suc n) (sym e) (λ z. omega arith))
+refused-call x n e = by-settings (x .call .settings) n _ e
 
 both-refused : (x y : Numbered) (n : ℕ) → numberedFault x ≡ suc n → numberedFault y ≡ suc n → Alike x y
 unfolding numberedAnswer numberedRows recordsAt numberedSearches
@@ -72,7 +87,7 @@ both-refused x y n ex ey = record {
   answer = rw (ex, ey) refl;
   rows = ap (λ n. foundAfter n (x .call) .rows) ex ∙ sym (ap (λ n. foundAfter n (y .call) .rows) ey);
   records = ap (λ n. recordsAt (x .numbers) (foundAfter n (x .call) .rows)) ex ∙ sym (ap (λ n. recordsAt (y .numbers) (foundAfter n (y .call) .rows)) ey);
-  search = rw (ex, ey) refl;
+  search = rw (ex, ey, ne-eqb (suc n) 0 (λ z. omega arith)) refl;
 }
 
 module _ (s : Settings) (t : Table) (p : Parts) (queue answers : ℕ) (numbers : List ℕ) (room : ℕ) where
@@ -98,7 +113,7 @@ pub record SeveralAlike (x y : NumberedSeveral) : Type 0 where
 
 refused-several : (x : NumberedSeveral) (n : ℕ) → firstOf (settingsRules (x .several .settings)) ≡ suc n → numberedSeveralFault x ≡ suc n
 unfolding numberedSeveralFault
-refused-several x n e = sym (stops (settingsRules (x .several .settings)) _ (suc n) (sym e) (λ z. omega arith))
+refused-several x n e = by-settings (x .several .settings) n _ e
 
 none-laid : (x : NumberedSeveral) (n : ℕ) → numberedSeveralFault x ≡ suc n → (width : ℕ) (each : ℕ → List ℕ) (l : List ℕ) → laid width each (numberedAnswered x) l ≡ l
 unfolding laid
