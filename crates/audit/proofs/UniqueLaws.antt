@@ -164,5 +164,5 @@ unique = record {
   nd-check-path = λ settings starts ends sizes features partSizes partFeatures rows positions score word. two;
   nd-book-save = λ book settings version x y u v p q. two x y u v (both u p) (both v q);
   nd-book-read = λ book version settings. two;
-  nd-book-restore = λ book version new x y u v p q. two x y u v (both u p) (both v q);
+  nd-book-restore = λ book version added x y u v p q. two x y u v (both u p) (both v q);
 }

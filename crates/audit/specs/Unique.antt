@@ -217,4 +217,4 @@ pub record Unique : Type 0 where
       → Two ℕ ℕ (NdCheckPathPromise settings starts ends sizes features partSizes partFeatures rows positions score word)
   pub nd-book-save : (book settings : List ℕ) (version : ℕ) → Two (List ℕ) (ℕ × ℕ) (λ x u. NdBookSavePromise book settings version x (u .0) (u .1))
   pub nd-book-read : (book : List ℕ) (version : ℕ) (settings : List ℕ) → Two (List ℕ) ℕ (NdBookReadPromise book version settings)
-  pub nd-book-restore : (book : List ℕ) (version new : ℕ) → Two (List ℕ) (ℕ × ℕ) (λ x u. NdBookRestorePromise book version new x (u .0) (u .1))
+  pub nd-book-restore : (book : List ℕ) (version added : ℕ) → Two (List ℕ) (ℕ × ℕ) (λ x u. NdBookRestorePromise book version added x (u .0) (u .1))

@@ -119,6 +119,6 @@ abbrev pub NdBookReadPromise : List ℕ → ℕ → List ℕ → List ℕ → �
 NdBookReadPromise book version settings settings' r = ReadPromise book version settings settings' r
 
 abbrev pub NdBookRestorePromise : List ℕ → ℕ → ℕ → List ℕ → ℕ → ℕ → Type 0
-NdBookRestorePromise book version new book' new' r =
+NdBookRestorePromise book version added book' added' r =
     let told = restoredOf book version in
-    (r ≡ savedNumber told) × ((new' ≡ savedVersion told) × (book' ≡ afterRestore book version))
+    (r ≡ savedNumber told) × ((added' ≡ savedVersion told) × (book' ≡ afterRestore book version))

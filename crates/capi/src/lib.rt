@@ -435,17 +435,17 @@ pub extern "C" fn nd_book_read(book: &[u8], version: u32, settings: &mut [u8; 41
 
 // The settings of a version saved again under the next, which is told; 0 on a refusal.
 #[no_mangle]
-pub extern "C" fn nd_book_restore(book: &mut [u8], version: u32, new: &mut u32) -> u32
-    ensures { λ r. ⌜ NdBookRestorePromise (now (book .entry)) version (now (new .entry)) (now (book .exit)) (now (new .exit)) r ⌝ }
+pub extern "C" fn nd_book_restore(book: &mut [u8], version: u32, added: &mut u32) -> u32
+    ensures { λ r. ⌜ NdBookRestorePromise (now (book .entry)) version (now (added .entry)) (now (book .exit)) (now (added .exit)) r ⌝ }
 {
     let restored = book::restore(book, version);
     match restored {
         Saved::Version(n) => {
-            *new = n;
+            *added = n;
             ACCEPTED
         }
         Saved::Refused(n) => {
-            *new = 0;
+            *added = 0;
             n
         }
     }
