@@ -101,9 +101,9 @@ def check_path(settings: Settings, table: Table, haplotype: Haplotype, rows: Num
     """
     u32, u64, i32, yes = ctypes.c_uint32, ctypes.c_uint64, ctypes.c_int32, ctypes.c_uint32()
     words = words_of(settings)
-    held = (*_given(table.starts, u64), *_given(table.ends, u64), *_given(table.sizes, i32), *_given(table.features, i32))
+    held = (*_given(table.starts, u64), *_given(table.ends, u64), *_given(table.sizes, i32), *_given(_read_alike(table, settings), i32))
     accepted(LIBRARY.nd_check_path(
-        ctypes.byref(words), *held, *_given(haplotype.sizes, i32), *_given(haplotype.features, i32),
+        ctypes.byref(words), *held, *_given(haplotype.sizes, i32), *_given(_read_alike(haplotype, settings), i32),
         *_given(rows, u32), *_given(positions, u32), float(score), ctypes.byref(yes)))
     return yes.value == 1
 
