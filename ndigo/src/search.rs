@@ -72,7 +72,7 @@ pub fn answers(sheet: &Sheet) -> Result<Vec<Own>, Vec<Refusal>> {
 /// Record numbers play no part in it.
 pub fn check_path(own: &Sheet, rows: &[usize], positions: &[usize], score: f32) -> Result<bool, Vec<Refusal>> {
     let settings = own.settings.to_library();
-    let asked = table(own, settings.k).and_then(|table| ndigomarr::check_path(&settings, &table, &haplotype(&own.parts, settings.k)?, rows, positions, score));
+    let asked = table(own, &settings).and_then(|table| ndigomarr::check_path(&settings, &table, &haplotype(&own.parts, &settings)?, rows, positions, score));
     asked.map_err(|refusal| with_first(refusal, refusals::of(own).into_iter().filter(|reason| reason.number != 14).collect()))
 }
 
@@ -162,8 +162,8 @@ pub struct Alike {
 /// By the library's own similarities; none where a sequence or a sum is over its limit.
 pub fn alike(sheet: &Sheet, rows: &[usize], parts: &[usize]) -> Option<Alike> {
     let settings = sheet.settings.to_library();
-    let rows: Option<Vec<_>> = rows.iter().map(|&row| counted(&sheet.variants[row].sequence, settings.k)).collect();
-    let parts: Option<Vec<_>> = parts.iter().map(|&part| counted(&sheet.parts[part], settings.k)).collect();
+    let rows: Option<Vec<_>> = rows.iter().map(|&row| counted(&sheet.variants[row].sequence, &settings)).collect();
+    let parts: Option<Vec<_>> = parts.iter().map(|&part| counted(&sheet.parts[part], &settings)).collect();
     let ((size, features), (part_size, part_features)) = (summed(rows?.iter(), settings.k), summed(parts?.iter(), settings.k));
     Some(Alike {
         signs: size.signum() == part_size.signum(),
