@@ -291,6 +291,31 @@ static void data(void)
     expect("the fourth of three", nd_meta_new(3, 3, right), ND_REFUSED_NO_SUCH_SAMPLE);
 }
 
+/* Two versions in a book of three places, the first saved again, and a byte behind the last. */
+static void book(void)
+{
+    uint8_t book[3 * ND_BOOK_RECORD_LEN] = {0}, read[ND_BOOK_SETTINGS_LEN] = {0};
+    uint8_t settings[ND_BOOK_SETTINGS_LEN] = {4, 0, 0, 1}; /* k 4, full, all numbers 0 */
+    uint32_t version = MARK;
+    expect("settings saved", nd_book_save(book, sizeof book, settings, &version), ND_ACCEPTED);
+    expect("their version", version, 1);
+    settings[0] = 5;
+    expect("other settings", nd_book_save(book, sizeof book, settings, &version), ND_ACCEPTED);
+    expect("their version", version, 2);
+    settings[0] = 7;
+    expect("k 7", nd_book_save(book, sizeof book, settings, &version), ND_REFUSED_BAD_K);
+    expect("its version", version, 0);
+    settings[40] = 2;
+    expect("letters 2", nd_book_save(book, sizeof book, settings, &version), ND_REFUSED_BAD_FLAG);
+    expect("version 1", nd_book_read(book, sizeof book, 1, read), ND_ACCEPTED);
+    expect("its k", read[0], 4);
+    expect("version 3", nd_book_read(book, sizeof book, 3, read), ND_REFUSED_MISSING_VERSION);
+    expect("version 1 again", nd_book_restore(book, sizeof book, 1, &version), ND_ACCEPTED);
+    expect("its new version", version, 3);
+    expect("a full book", nd_book_restore(book, sizeof book, 1, &version), ND_REFUSED_LITTLE_BOOK_ROOM);
+    expect("a book cut short", nd_book_read(book, sizeof book - 1, 1, read), ND_REFUSED_BROKEN_BOOK);
+}
+
 static void similarities(void)
 {
     float value = 2;
@@ -320,6 +345,7 @@ int main(void)
     companions();
     data();
     check_path();
+    book();
     similarities();
     puts(failed ? "the " LANGUAGE " binding differs" : "the " LANGUAGE " binding agrees");
     return failed;

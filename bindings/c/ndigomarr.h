@@ -4,8 +4,9 @@
  * and that what is written overlaps nothing else that is lent. An empty slice still needs a pointer
  * that is not null.
  * Each but nd_answer, which returns a length, returns 0 or the number of a refusal. On a refusal
- * every lent buffer is as it was, but for *place, *count, *yes, the report of one search, the counts
- * and *written, which are then 0, and for data that was to be made, which is then a blank of one sample.
+ * every lent buffer is as it was, but for *place, *count, *yes, *version, *added, the report of one
+ * search, the counts and *written, which are then 0, and for data that was to be made, which is then a
+ * blank of one sample.
  *
  * What a call promises is proved of the Rattle source; tools/prototypes holds this header to it.
  */
@@ -22,7 +23,8 @@ extern "C" {
 
 /* The refusals, each with the table's words. 1 to 14, 16 and 27 are returned, and some of them stand in
  * nd_answer's text too; 20 to 26 stand there alone; 30 is the Rattle reader's and writer's; 40 to
- * 44 are BED's; 44 and 49 the companions sheet's; 50 to 53 those of a haplotype's data.
+ * 44 are BED's; 44 and 49 the companions sheet's; 45 to 48 the book's, which gives 24 and 1 to 3 too;
+ * 50 to 53 those of a haplotype's data.
  * Made from docs/refusals.tsv by tools/refusals --write. */
 enum nd_refusal {
     ND_ACCEPTED = 0,
@@ -55,6 +57,10 @@ enum nd_refusal {
     ND_REFUSED_TOO_MANY_LINES = 42, /* a sixty-fifth line of BED */
     ND_REFUSED_LITTLE_TEXT_ROOM = 43, /* too little room for BED text */
     ND_REFUSED_MISSING_ROW = 44, /* a row that isn't there */
+    ND_REFUSED_MISSING_VERSION = 45, /* a version that isn't there */
+    ND_REFUSED_VERSIONS_USED = 46, /* all 255 versions are used */
+    ND_REFUSED_LITTLE_BOOK_ROOM = 47, /* fewer than 43 bytes left in the book */
+    ND_REFUSED_BROKEN_BOOK = 48, /* a book that breaks its rules or holds settings we would refuse */
     ND_REFUSED_NOT_ITS_SHEET = 49, /* a sheet that isn't its table's, or a table that breaks 5 to 8 */
     ND_REFUSED_BAD_SAMPLES = 50, /* a sample count not 1 to 8 */
     ND_REFUSED_NO_SUCH_SAMPLE = 51, /* a sample index at or above the sample count */
@@ -97,6 +103,10 @@ static inline const char *nd_refusal_text(uint32_t number)
     case ND_REFUSED_TOO_MANY_LINES: return "a sixty-fifth line of BED";
     case ND_REFUSED_LITTLE_TEXT_ROOM: return "too little room for BED text";
     case ND_REFUSED_MISSING_ROW: return "a row that isn't there";
+    case ND_REFUSED_MISSING_VERSION: return "a version that isn't there";
+    case ND_REFUSED_VERSIONS_USED: return "all 255 versions are used";
+    case ND_REFUSED_LITTLE_BOOK_ROOM: return "fewer than 43 bytes left in the book";
+    case ND_REFUSED_BROKEN_BOOK: return "a book that breaks its rules or holds settings we would refuse";
     case ND_REFUSED_NOT_ITS_SHEET: return "a sheet that isn't its table's, or a table that breaks 5 to 8";
     case ND_REFUSED_BAD_SAMPLES: return "a sample count not 1 to 8";
     case ND_REFUSED_NO_SUCH_SAMPLE: return "a sample index at or above the sample count";
@@ -315,6 +325,35 @@ uint32_t nd_meta_blank(uint64_t samples, uint64_t meta[ND_META_LEN]);
  * left's. Refuses by 50 (either's count not 1 to 8), 52 (unequal counts), 53 (a sum passes 64 bits);
  * left is then as it was. */
 uint32_t nd_meta_combine(uint64_t left[ND_META_LEN], const uint64_t right[ND_META_LEN]);
+
+/* Settings with versions: a book in a lent buffer, one record of ND_BOOK_RECORD_LEN bytes for each
+ * version, 1, 2, 3 and on to ND_BOOK_VERSIONS, and zeros behind the last. A buffer of zeros is a book
+ * of no versions; ND_BOOK_LEN bytes hold all that a book may have. Settings are lent as their
+ * ND_BOOK_SETTINGS_LEN bytes: k, squish, one_to_one and full, a byte each, the flags 0 or 1; maxpaths,
+ * maxnodes, fnmax, pileupmax, minkfreq and then the bits of sizesim, seqsim, fpenalty and gpenalty,
+ * four bytes each, the lowest first; and letters, a byte of 0 or 1. They are kept as they are lent.
+ * Each call refuses first by 48 (a book that breaks these rules or holds settings we would refuse);
+ * nothing is changed on a refusal, but *version and *added are then 0. */
+enum {
+    ND_BOOK_SETTINGS_LEN = 41,
+    ND_BOOK_RECORD_LEN = 43,
+    ND_BOOK_VERSIONS = 255,
+    ND_BOOK_LEN = 10965
+};
+
+/* Saves the settings under the next version, which *version tells. Refuses by 48, 24 (a flag or
+ * letters not 0 or 1), 1 to 3, 46 (all 255 versions are used), 47 (fewer than 43 bytes left). */
+uint32_t nd_book_save(uint8_t *book, size_t book_len, const uint8_t settings[ND_BOOK_SETTINGS_LEN],
+                      uint32_t *version);
+
+/* Reads the settings saved under a version, whatever was saved later. Refuses by 48, 45 (a version
+ * that isn't there, 0 among them). */
+uint32_t nd_book_read(const uint8_t *book, size_t book_len, uint32_t version,
+                      uint8_t settings[ND_BOOK_SETTINGS_LEN]);
+
+/* Saves the settings of a version again, under the next, which *added tells. Refuses by 48, 45, 46,
+ * 47. */
+uint32_t nd_book_restore(uint8_t *book, size_t book_len, uint32_t version, uint32_t *added);
 
 #ifdef __cplusplus
 }

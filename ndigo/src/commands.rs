@@ -107,8 +107,27 @@ pub enum Command {
         #[command(flatten)]
         into: Into,
     },
+    /// Settings with versions in a file: which map used which
+    Book {
+        #[command(subcommand)]
+        asked: BookCommand,
+    },
     /// What a shell needs to complete these commands
     Completions { shell: Shell },
+}
+
+#[derive(Debug, Subcommand)]
+pub enum BookCommand {
+    /// Saves the sheet's settings under the next version; a book that is not there is begun
+    Save {
+        book: PathBuf,
+        /// A sheet; - is standard input
+        sheet: String,
+    },
+    /// Every version, with what changed from the one before
+    List { book: PathBuf },
+    /// Saves the settings of a version again, under the next
+    Restore { book: PathBuf, version: String },
 }
 
 #[derive(Debug, Args)]
@@ -119,6 +138,9 @@ pub struct Sheets {
     /// Sort the variants by start first, and say so
     #[arg(long)]
     pub sort: bool,
+    /// The settings of a version of a book, such as sea.book:3, in place of the sheet's own; the answer says which
+    #[arg(long, value_name = "BOOK:VERSION")]
+    pub settings: Option<String>,
 }
 
 #[derive(Clone, Copy, Debug, Args)]

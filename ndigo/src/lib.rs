@@ -2,6 +2,7 @@
 pub mod answer;
 pub mod asked;
 pub mod batch;
+pub mod book;
 pub mod check;
 pub mod commands;
 pub mod draw;

@@ -56,6 +56,8 @@ pub struct Settings {
     pub words: [u32; 14],
     /// The line that named each; none for a default.
     pub lines: [Option<usize>; 14],
+    /// Which version of which book they are, where they are not the sheet's own.
+    pub version: Option<String>,
 }
 
 impl Default for Settings {
@@ -66,7 +68,7 @@ impl Default for Settings {
 
 impl Settings {
     pub fn of_words(words: [u32; 14]) -> Self {
-        Self { words, lines: [None; 14] }
+        Self { words, lines: [None; 14], version: None }
     }
 
     pub fn of_library(s: &ndigomarr::Settings) -> Self {

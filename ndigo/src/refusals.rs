@@ -67,7 +67,8 @@ pub fn long_sequences(sheet: &Sheet) -> Vec<Refusal> {
     long.map(|s| at(13, s.line, format!("\"{}\" has {} letters, the limit is {LETTERS_LIMIT}", s.name, s.letters.len()))).collect()
 }
 
-fn of_setting(sheet: &Sheet, number: u32, place: usize, limit: &str) -> Refusal {
+/// A setting that is refused, with its line where the sheet names it.
+pub fn of_setting(sheet: &Sheet, number: u32, place: usize, limit: &str) -> Refusal {
     let reason = format!("{} is {}, {limit}", SETTINGS[place].name, sheet.settings.text(place));
     Refusal { number, reason, line: sheet.settings.lines[place], haplotype: None }
 }
@@ -88,6 +89,11 @@ fn bad_letters(sheet: &Sheet) -> Vec<Refusal> {
 fn before_the_table(sheet: &Sheet) -> Vec<Refusal> {
     let (first, last) = if sheet.sequences().next().is_some() { (bad_letters(sheet), vec![]) } else { (vec![], bad_letters(sheet)) };
     [bad_k(sheet), first, long_sequences(sheet), bad_settings(sheet), last].concat()
+}
+
+/// What the settings alone are refused by.
+pub fn of_settings(sheet: &Sheet) -> Vec<Refusal> {
+    [bad_k(sheet), bad_settings(sheet), bad_letters(sheet)].concat()
 }
 
 fn bad_settings(sheet: &Sheet) -> Vec<Refusal> {

@@ -204,3 +204,24 @@ def declare(library: ctypes.CDLL) -> None:
         ctypes.c_float,
         ctypes.POINTER(ctypes.c_uint32),
     ]
+    library.nd_book_save.restype = ctypes.c_uint32
+    library.nd_book_save.argtypes = [
+        ctypes.POINTER(ctypes.c_uint8),
+        ctypes.c_size_t,
+        ctypes.POINTER(ctypes.c_uint8),
+        ctypes.POINTER(ctypes.c_uint32),
+    ]
+    library.nd_book_read.restype = ctypes.c_uint32
+    library.nd_book_read.argtypes = [
+        ctypes.POINTER(ctypes.c_uint8),
+        ctypes.c_size_t,
+        ctypes.c_uint32,
+        ctypes.POINTER(ctypes.c_uint8),
+    ]
+    library.nd_book_restore.restype = ctypes.c_uint32
+    library.nd_book_restore.argtypes = [
+        ctypes.POINTER(ctypes.c_uint8),
+        ctypes.c_size_t,
+        ctypes.c_uint32,
+        ctypes.POINTER(ctypes.c_uint32),
+    ]

@@ -347,3 +347,22 @@ def test_what_the_pages_show():
     place = {}
     exec(shown.replace("print(", "said = ("), place)  # the page's own example
     assert place["said"] == ([0], [40713], 1.0, True)
+
+
+def test_a_book_of_settings():
+    book = ndigomarr.Book()
+    assert (len(book), bytes(book)) == (0, b"")
+    each = [Settings(k=k, full=bool(k % 2), letters=k % 2) for k in (1, 2, 3)]
+    assert [book.save(settings) for settings in each] == [1, 2, 3]
+    assert (book.restore(1), [book.read(version).k for version in (1, 2, 3, 4)]) == (4, [1, 2, 3, 1])
+    assert (book.read(2).full, book.read(3).letters) == (False, 1)
+    again = ndigomarr.Book(bytes(book))
+    assert (len(again), bytes(again), len(bytes(book))) == (4, bytes(book), 172)
+    assert [refused(book.save, Settings(k=7)), refused(book.save, Settings(letters=2)), refused(book.save, Settings(letters=256)),
+            refused(book.save, Settings(seqsim=2.0)), refused(book.save, Settings(maxpaths=4096))] == [1, 24, 24, 2, 3]
+    assert [refused(book.read, 0), refused(book.read, 5), refused(book.restore, 256)] == [45, 45, 45]
+    for wrong in (bytes(book)[:-1], bytes(book)[43:], b"!", b"\0\1"):
+        assert refused(ndigomarr.Book, wrong) == 48
+    while len(book) < 255:
+        book.restore(2)
+    assert (refused(book.restore, 1), refused(book.save, each[0]), len(book)) == (46, 46, 255)

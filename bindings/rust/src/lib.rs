@@ -33,6 +33,7 @@
 struct Readme;
 
 mod bed;
+mod book;
 mod companions;
 mod meta;
 mod raw;
@@ -42,6 +43,7 @@ mod settings;
 mod table;
 
 pub use bed::Bed;
+pub use book::Book;
 pub use companions::Companions;
 pub use meta::{apply_haplotypes_with_meta, apply_with_meta, HaplotypeMeta, Told};
 pub use refusals::Refusal;

@@ -85,6 +85,9 @@ mod archive {
             score: f32,
             yes: *mut u32,
         ) -> u32;
+        pub fn nd_book_save(book: *mut u8, book_len: usize, settings: *const [u8; 41], version: *mut u32) -> u32;
+        pub fn nd_book_read(book: *const u8, book_len: usize, version: u32, settings: *mut [u8; 41]) -> u32;
+        pub fn nd_book_restore(book: *mut u8, book_len: usize, version: u32, added: *mut u32) -> u32;
         pub fn nd_apply_haplotype(
             settings: *const [u32; 14],
             starts: *const u64,
@@ -208,6 +211,18 @@ pub fn meta_blank(samples: u64, meta: &mut [u64; 28]) -> u32 {
 
 pub fn meta_combine(left: &mut [u64; 28], right: &[u64; 28]) -> u32 {
     unsafe { archive::nd_meta_combine(left, right) }
+}
+
+pub fn book_save(book: &mut [u8], settings: &[u8; 41], version: &mut u32) -> u32 {
+    unsafe { archive::nd_book_save(book.as_mut_ptr(), book.len(), settings, version) }
+}
+
+pub fn book_read(book: &[u8], version: u32, settings: &mut [u8; 41]) -> u32 {
+    unsafe { archive::nd_book_read(book.as_ptr(), book.len(), version, settings) }
+}
+
+pub fn book_restore(book: &mut [u8], version: u32, added: &mut u32) -> u32 {
+    unsafe { archive::nd_book_restore(book.as_mut_ptr(), book.len(), version, added) }
 }
 
 /// A table of up to 64 rows and its companions sheet, as they are lent.

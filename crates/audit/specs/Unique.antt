@@ -12,7 +12,7 @@ use Rattle.metrics.specs.declared.kmer.Counted.{Counted}
 use Rattle.metrics.specs.Promises.{SizesimPromise, SimilarityPromise, SeqsimPromise, OverlapsPromise, BitsOfPromise}
 use Rattle.metrics.specs.Promises.{SeqToKmerPromise, ClearRowPromise, EntriesPromise, MagnitudePromise, RowOverPromise}
 use Rattle.params.specs.declared.Settings.{Settings}
-use Rattle.params.specs.Promises.{SearchModePromise, QueueRoomPromise, CallFaultPromise, PartsFaultPromise, CountFaultPromise, SeveralFaultPromise, EarlierPromise}
+use Rattle.params.specs.Promises.{SearchModePromise, SettingsFaultPromise, QueueRoomPromise, CallFaultPromise, PartsFaultPromise, CountFaultPromise, SeveralFaultPromise, EarlierPromise}
 use Rattle.kplib.specs.Answer.{searches}
 use Rattle.kplib.specs.declared.vargraph.ChainCount.{ChainCount}
 use Rattle.kplib.specs.declared.traverse.Answer.{Answer}
@@ -36,7 +36,7 @@ use Rattle.reader.specs.declared.Reading.{Reading}
 use Rattle.writer.specs.declared.Writing.{Writing}
 use Rattle.form.specs.Lent.{Lent}
 use Rattle.fields.specs.Promises.{U8AtPromise, U32AtPromise, U64AtPromise, I32OfPromise, U32OfPromise, FloatOfPromise, PutU8Promise, PutU32Promise, PutU64Promise}
-use Rattle.form.specs.Promises.{ScanPromise, KindOfPromise, BodyLenPromise, RecordAtPromise, ReadSettingsPromise, WriteSettingsPromise}
+use Rattle.form.specs.Promises.{ScanPromise, KindOfPromise, BodyLenPromise, RecordAtPromise, ReadSettingsPromise, ReadSettings41Promise, Settings41FaultPromise, WriteSettingsPromise}
 use Rattle.reader.specs.Promises.{ReadJobPromise}
 use Rattle.writer.specs.Promises.{WriteJobPromise}
 use Rattle.text.specs.Promises.{PutBytesPromise, PutDigitsPromise, PutRefusedPromise, PutHapPromise, PutAnswerPromise}
@@ -47,12 +47,15 @@ use Rattle.companions.specs.Companions.{Companions}
 use Rattle.companions.specs.declared.Paired.{Paired}
 use Rattle.companions.specs.declared.Later.{Later}
 use Rattle.companions.specs.Promises.{AddPromise, RemovePromise, TogetherPromise, CountPromise}
+use Rattle.book.specs.declared.Saved.{Saved}
+use Rattle.book.specs.Promises.{SavePromise, ReadPromise, RestorePromise}
 use Rattle.desk.specs.Promises.{AnswerPromise}
 use Rattle.capi.specs.Words.{settingsOfWords}
 use Rattle.capi.specs.Promises.{NdSeqToKmerPromise, NdSeqsimPromise, NdSizesimPromise, NdCountChainsPromise, NdAnswerPromise, NdApplyHaplotypePromise, NdApplyHaplotypesPromise}
 use Rattle.capi.specs.Promises.{NdReadBedPromise, NdWriteBedPromise, NdCheckPathPromise}
 use Rattle.capi.specs.Promises.{NdCompanionsAddPromise, NdCompanionsRemovePromise, NdCompanionsTogetherPromise, NdCompanionsCountPromise}
 use Rattle.capi.specs.Promises.{NdMetaNewPromise, NdMetaBlankPromise, NdMetaCombinePromise}
+use Rattle.capi.specs.Promises.{NdBookSavePromise, NdBookReadPromise, NdBookRestorePromise}
 
 -- at most one result meets a promise of a value, and at most one pair a promise of what a slice holds at exit and a value
 abbrev pub One : (A : Type 0) → (A → Type 0) → Type 0
@@ -98,6 +101,7 @@ pub record Unique : Type 0 where
   pub magnitude : (x : ℤ) → One ℕ (MagnitudePromise x)
   pub row-over : (a : List ℤ) (limit : ℕ) → One Bool (RowOverPromise a limit)
   pub search-mode : (s : Settings) (v : ℕ) → One Bool (SearchModePromise s v)
+  pub settings-fault : (s : Settings) → One ℕ (SettingsFaultPromise s)
   pub queue-room : (links keys : ℕ) → One ℕ (QueueRoomPromise links keys)
   pub call-fault : (s : Settings) (starts ends : List ℕ) (sizes features partSizes partFeatures : List ℤ) (queueRoom answerRoom : ℕ)
       → One ℕ (CallFaultPromise s starts ends sizes features partSizes partFeatures queueRoom answerRoom)
@@ -159,6 +163,8 @@ pub record Unique : Type 0 where
   pub body-len : (kind : Kind) → One ℕ (BodyLenPromise kind)
   pub record-at : (s : List ℕ) (at : ℕ) → One Record (RecordAtPromise s at)
   pub read-settings : (b : List ℕ) → One Settings (ReadSettingsPromise b)
+  pub read-settings41 : (b : List ℕ) → One Settings (ReadSettings41Promise b)
+  pub settings41-fault : (b : List ℕ) → One ℕ (Settings41FaultPromise b)
   pub write-settings : (out : List ℕ) (at : ℕ) (s : Settings) → One (List ℕ) (WriteSettingsPromise out at s)
   pub scan : (bytes : List ℕ) → One Scan (ScanPromise bytes)
   pub read-job : (bytes : List ℕ) (t : Lent) → Two Lent Reading (ReadsInto bytes t)
@@ -176,6 +182,9 @@ pub record Unique : Type 0 where
   pub remove : (starts ends : List ℕ) (sheet : List Bool) (rows : ℕ) → Two (List Bool × ℕ) ℕ (λ x. RemovePromise starts ends sheet rows (x .0) (x .1))
   pub together : (starts ends : List ℕ) (sheet : List Bool) (rows a b : ℕ) → One Paired (TogetherPromise starts ends sheet rows a b)
   pub count : (starts ends : List ℕ) (sheet : List Bool) (rows row : ℕ) → One Later (CountPromise starts ends sheet rows row)
+  pub save : (book settings : List ℕ) → Two (List ℕ) Saved (SavePromise book settings)
+  pub read : (book : List ℕ) (version : ℕ) (settings : List ℕ) → Two (List ℕ) ℕ (ReadPromise book version settings)
+  pub restore : (book : List ℕ) (version : ℕ) → Two (List ℕ) Saved (RestorePromise book version)
   pub answer : (input out : List ℕ) → Two (List ℕ) ℕ (AnswerPromise input out)
   pub nd-seq-to-kmer : (text : List ℕ) (k : ℕ) (negative : Bool) (reading : ℕ) (row : List ℤ) → Two (List ℤ) ℕ (NdSeqToKmerPromise text k negative reading row)
   pub nd-seqsim : (a b : List ℤ) (minkfreq : ℕ) (place : Float) → Two Float ℕ (NdSeqsimPromise a b minkfreq place)
@@ -206,3 +215,6 @@ pub record Unique : Type 0 where
   pub nd-meta-combine : (left right : List ℕ) → Two (List ℕ) ℕ (NdMetaCombinePromise left right)
   pub nd-check-path : (settings starts ends : List ℕ) (sizes features partSizes partFeatures : List ℤ) (rows positions : List ℕ) (score : Float) (word : ℕ)
       → Two ℕ ℕ (NdCheckPathPromise settings starts ends sizes features partSizes partFeatures rows positions score word)
+  pub nd-book-save : (book settings : List ℕ) (version : ℕ) → Two (List ℕ) (ℕ × ℕ) (λ x u. NdBookSavePromise book settings version x (u .0) (u .1))
+  pub nd-book-read : (book : List ℕ) (version : ℕ) (settings : List ℕ) → Two (List ℕ) ℕ (NdBookReadPromise book version settings)
+  pub nd-book-restore : (book : List ℕ) (version added : ℕ) → Two (List ℕ) (ℕ × ℕ) (λ x u. NdBookRestorePromise book version added x (u .0) (u .1))

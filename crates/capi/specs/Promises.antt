@@ -24,6 +24,8 @@ use Rattle.companions.specs.Questions.{pairOf, laterIn, pairNumber, pairYes, la
 use Rattle.companions.specs.Promises.{AddPromise, RemovePromise}
 use Rattle.meta.specs.Meta.{newMade, blankMade, combinedTwo}
 use Rattle.meta.specs.Words.{metaOfWords, wordsOfMeta}
+use Rattle.book.specs.Changes.{savedOf, afterSave, restoredOf, afterRestore, savedNumber, savedVersion}
+use Rattle.book.specs.Promises.{ReadPromise}
 use Rattle.capi.specs.Words.{settingsOfWords, wordsUnless}
 
 abbrev pub NdSeqToKmerPromise : List ℕ → ℕ → Bool → ℕ → List ℤ → List ℤ → ℕ → Type 0
@@ -106,3 +108,17 @@ abbrev pub NdCheckPathPromise : List ℕ → List ℕ → List ℕ → List ℤ 
 NdCheckPathPromise settings starts ends sizes features partSizes partFeatures rows positions score word word' r =
     let told = checkOf (settingsOfWords settings) (tableOf starts ends sizes features) (partsOf partSizes partFeatures) (proposalOf rows positions score) in
     (r ≡ checkNumber told) × (word' ≡ checkWord told)
+
+-- the word is the version that was added, 0 on a refusal
+abbrev pub NdBookSavePromise : List ℕ → List ℕ → ℕ → List ℕ → ℕ → ℕ → Type 0
+NdBookSavePromise book settings version book' version' r =
+    let told = savedOf book settings in
+    (r ≡ savedNumber told) × ((version' ≡ savedVersion told) × (book' ≡ afterSave book settings))
+
+abbrev pub NdBookReadPromise : List ℕ → ℕ → List ℕ → List ℕ → ℕ → Type 0
+NdBookReadPromise book version settings settings' r = ReadPromise book version settings settings' r
+
+abbrev pub NdBookRestorePromise : List ℕ → ℕ → ℕ → List ℕ → ℕ → ℕ → Type 0
+NdBookRestorePromise book version added book' added' r =
+    let told = restoredOf book version in
+    (r ≡ savedNumber told) × ((added' ≡ savedVersion told) × (book' ≡ afterRestore book version))

@@ -4,11 +4,13 @@ ghost use Rattle.capi.specs.Promises.{NdCheckPathPromise};
 ghost use Rattle.capi.specs.Promises.{NdApplyHaplotypePromise, NdApplyHaplotypesPromise, NdReadBedPromise, NdWriteBedPromise};
 ghost use Rattle.capi.specs.Promises.{NdCompanionsAddPromise, NdCompanionsRemovePromise, NdCompanionsTogetherPromise, NdCompanionsCountPromise};
 ghost use Rattle.capi.specs.Promises.{NdMetaNewPromise, NdMetaBlankPromise, NdMetaCombinePromise};
+ghost use Rattle.capi.specs.Promises.{NdBookSavePromise, NdBookReadPromise, NdBookRestorePromise};
 use crate::words::length_word;
 use crate::words::settings_of_words;
 use crate::words::word_of_flag;
 use bed::BedRead;
 use bed::BedWritten;
+use book::Saved;
 use companions::Later;
 use companions::Paired;
 use kplib::checkpath::PathCheck;
@@ -401,6 +403,49 @@ pub extern "C" fn nd_check_path(
         }
         PathCheck::Refused(n) => {
             *yes = 0;
+            n
+        }
+    }
+}
+
+// The settings under the next version of a book, which is told; 0 on a refusal.
+#[no_mangle]
+pub extern "C" fn nd_book_save(book: &mut [u8], settings: &[u8; 41], version: &mut u32) -> u32
+    ensures { λ r. ⌜ NdBookSavePromise (now (book .entry)) (now (settings .entry)) (now (version .entry)) (now (book .exit)) (now (version .exit)) r ⌝ }
+{
+    let saved = book::save(book, settings);
+    match saved {
+        Saved::Version(n) => {
+            *version = n;
+            ACCEPTED
+        }
+        Saved::Refused(n) => {
+            *version = 0;
+            n
+        }
+    }
+}
+
+#[no_mangle]
+pub extern "C" fn nd_book_read(book: &[u8], version: u32, settings: &mut [u8; 41]) -> u32
+    ensures { λ r. ⌜ NdBookReadPromise (now (book .entry)) version (now (settings .entry)) (now (settings .exit)) r ⌝ }
+{
+    book::read(book, version, settings)
+}
+
+// The settings of a version saved again under the next, which is told; 0 on a refusal.
+#[no_mangle]
+pub extern "C" fn nd_book_restore(book: &mut [u8], version: u32, added: &mut u32) -> u32
+    ensures { λ r. ⌜ NdBookRestorePromise (now (book .entry)) version (now (added .entry)) (now (book .exit)) (now (added .exit)) r ⌝ }
+{
+    let restored = book::restore(book, version);
+    match restored {
+        Saved::Version(n) => {
+            *added = n;
+            ACCEPTED
+        }
+        Saved::Refused(n) => {
+            *added = 0;
             n
         }
     }

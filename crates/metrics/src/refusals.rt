@@ -58,6 +58,14 @@ pub const TOO_MANY_LINES: u32 = 42;
 pub const LITTLE_TEXT_ROOM: u32 = 43;
 // a row that isn't there
 pub const MISSING_ROW: u32 = 44;
+// a version that isn't there
+pub const MISSING_VERSION: u32 = 45;
+// all 255 versions are used
+pub const VERSIONS_USED: u32 = 46;
+// fewer than 43 bytes left in the book
+pub const LITTLE_BOOK_ROOM: u32 = 47;
+// a book that breaks its rules or holds settings we would refuse
+pub const BROKEN_BOOK: u32 = 48;
 // a sheet that isn't its table's, or a table that breaks 5 to 8
 pub const NOT_ITS_SHEET: u32 = 49;
 // a sample count not 1 to 8

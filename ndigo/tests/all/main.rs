@@ -2,6 +2,7 @@
 mod answers;
 mod batch;
 mod bed;
+mod book;
 mod common;
 mod examples;
 mod haplotypes;
