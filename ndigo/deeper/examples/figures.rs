@@ -1,7 +1,7 @@
 //! How often the planted truth is found, or a path that scores as high: by the rules' own search, written down here once more and not
 //! the proved code, and by the deeper one. Each line is one kind of tables.
 use deeper::planted::{Planted, Random, DEFAULTS};
-use deeper::{scored, search, Ended, Problem, Settings};
+use deeper::{scored, search, Effort, Ended, Problem, Settings};
 use std::collections::BTreeMap;
 use std::time::{Duration, Instant};
 
@@ -68,7 +68,7 @@ fn one(random: &mut Random, kind: &Kind, time: Duration, tally: &mut Tally) {
     let (planted, problem, wanted) = Planted::findable(random, variants, kind.k, kind.settings);
     let (proved, complete) = proved_rule(&problem, 4095);
     let began = Instant::now();
-    let looked = search(&problem, 0.0, time, &mut |proposal| scored(&problem, &proposal.rows, &proposal.positions) == Some(proposal.score), &mut |_| {});
+    let looked = search(&problem, 0.0, Effort::of(time), &mut |proposal| scored(&problem, &proposal.rows, &proposal.positions) == Some(proposal.score), &mut |_| {});
     let took = began.elapsed();
     let (rows, score) = looked.found.map_or((vec![], 0.0), |found| (found.proposal.rows, found.proposal.score));
     tally.tables += 1;

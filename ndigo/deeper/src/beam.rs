@@ -2,8 +2,6 @@
 use crate::fit::Fit;
 use crate::table::{places, Rows, Table};
 
-pub const WIDTH: usize = 192;
-
 #[derive(Clone, Copy)]
 struct Way {
     chain: Rows,

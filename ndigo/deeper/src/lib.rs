@@ -17,4 +17,4 @@ mod table;
 pub use best::{Found, Proposal};
 pub use problem::{Counts, Problem, Settings, Variant};
 pub use score::scored;
-pub use search::{search, Ended, Looked, Step};
+pub use search::{search, Effort, Ended, Looked, Step};

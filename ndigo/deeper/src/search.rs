@@ -13,6 +13,20 @@ use std::time::{Duration, Instant};
 /// From how many of a beam's chains it is climbed.
 const CLIMBS: usize = 3;
 
+/// How much is done.
+#[derive(Clone, Copy, Debug)]
+pub struct Effort {
+    pub time: Duration,
+    /// How many ways a beam keeps; 0 leaves the beams out, and branch and bound is all.
+    pub width: usize,
+}
+
+impl Effort {
+    pub fn of(time: Duration) -> Self {
+        Self { time, width: 192 }
+    }
+}
+
 /// How the search came to its end.
 #[derive(Clone, Copy, Debug, PartialEq, Eq)]
 pub enum Ended {
@@ -49,6 +63,7 @@ struct Search<'a> {
     table: &'a Table,
     lists: Vec<Vec<usize>>,
     ends: Instant,
+    width: usize,
 }
 
 impl Search<'_> {
@@ -60,7 +75,7 @@ impl Search<'_> {
 
     fn beam(&self, fit: &Fit, list: &List, best: &mut Best) {
         let goes_on = || Instant::now() < self.ends;
-        let chains = beam::chains(self.table, fit, &fit.wanted(self.table, list), beam::WIDTH);
+        let chains = beam::chains(self.table, fit, &fit.wanted(self.table, list), self.width);
         let mut scores: Vec<(f32, u64)> = chains.iter().map(|&chain| (best.offer(chain, &self.table.sum(chain), list).score, chain)).collect();
         scores.sort_by(|a, b| b.0.total_cmp(&a.0));
         scores.iter().take(CLIMBS).for_each(|&(_, chain)| climb(self.table, list, best, chain, &goes_on));
@@ -69,7 +84,7 @@ impl Search<'_> {
     fn beams(&self, best: &mut Best, step: &mut dyn FnMut(Step)) {
         let fit = Fit::of(self.table);
         for (beams, positions) in self.lists.iter().enumerate() {
-            if Instant::now() >= self.ends {
+            if self.width == 0 || Instant::now() >= self.ends {
                 return;
             }
             if self.promises(positions, best) {
@@ -109,11 +124,11 @@ impl Search<'_> {
 }
 
 /// Looks for a path that scores above `than`. Each that it would hold is put to `check` first.
-pub fn search(problem: &Problem, than: f32, time: Duration, check: &mut dyn FnMut(&Proposal) -> bool, step: &mut dyn FnMut(Step)) -> Looked {
-    let ends = Instant::now() + time;
+pub fn search(problem: &Problem, than: f32, effort: Effort, check: &mut dyn FnMut(&Proposal) -> bool, step: &mut dyn FnMut(Step)) -> Looked {
+    let ends = Instant::now() + effort.time;
     let table = Table::of(problem);
     let mut best = Best::above(than, problem.settings, &table, check);
-    let search = Search { problem, table: &table, lists: positions(problem), ends };
+    let search = Search { problem, table: &table, lists: positions(problem), ends, width: effort.width };
     search.beams(&mut best, step);
     let closed = search.branches(&mut best, step);
     let ended = match (best.doubted, closed == search.lists.len()) {
