@@ -4,6 +4,7 @@ pub mod asked;
 pub mod batch;
 pub mod check;
 pub mod commands;
+pub mod deeper;
 pub mod draw;
 pub mod fault;
 pub mod float;

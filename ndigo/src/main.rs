@@ -1,7 +1,7 @@
 //! ndigo's command line. Statuses: 0 done, 1 refused by the rules, 2 cannot be read, 3 cannot be written.
 use ndigo::asked::{self, table_line};
 use ndigo::commands::{grammar, parsed, Cli, Command, Form};
-use ndigo::work::{put_all, run, say, Sink, Told};
+use ndigo::work::{put_all, run, run_shown, say, Sink, Told};
 use ndigo::{answer, batch, check};
 use std::process::ExitCode;
 
@@ -22,7 +22,13 @@ fn status(cli: Cli) -> u8 {
             let sink = Sink::Files { folder: into.into, ending: "svg" };
             run(&sheets.files, &sink, |file, data| asked::draw(file, data, sheets.sort, rows.as_deref()).unwrap_or_else(Told::from))
         }
-        Command::Batch { files, list, out, jobs, sort } => batch::run(&batch::Asked { files, list, out, jobs: jobs.map(usize::from), sort }),
+        Command::Deeper { sheets, time } => run_shown(&sheets.files, &Sink::Output { first: vec![], titled: true }, |file, data, bar| {
+            asked::deeper(file, data, sheets.sort, time.seconds, bar).unwrap_or_else(Told::from)
+        }),
+        Command::Batch { files, list, out, jobs, sort, deeper, time } => {
+            let deeper = deeper.then_some(time.seconds);
+            batch::run(&batch::Asked { files, list, out, jobs: jobs.map(usize::from), sort, deeper })
+        }
         Command::Job { sheets, into } => {
             let sink = Sink::Files { folder: into.into, ending: "job" };
             run(&sheets.files, &sink, |_, data| asked::job(data, sheets.sort).unwrap_or_else(Told::from))

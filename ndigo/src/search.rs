@@ -119,7 +119,7 @@ pub fn foretold(sheet: &Sheet) -> Foretold {
 }
 
 /// Size and features, by the library's own counter.
-fn counted(sequence: &Sequence, k: u8) -> Option<(i64, Vec<i32>)> {
+pub fn counted(sequence: &Sequence, k: u8) -> Option<(i64, Vec<i32>)> {
     Some((i64::from(sequence.size), ndigomarr::seq_to_kmer(&sequence.letters, k, sequence.negative).ok()?))
 }
 
