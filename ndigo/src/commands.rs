@@ -48,6 +48,7 @@ pub enum Command {
         time: Time,
     },
     /// Many sheets or jobs into one table: a line a haplotype, on all cores; stopped and started again it does what is missing
+    #[command(mut_arg("seconds", |seconds| seconds.requires("deeper")))]
     Batch {
         /// Sheets, jobs, or files of jobs one behind the other; - is standard input
         #[arg(required_unless_present = "list", value_name = "FILE")]

@@ -3,6 +3,7 @@ mod answers;
 mod batch;
 mod bed;
 mod common;
+mod deeper;
 mod examples;
 mod haplotypes;
 mod jobs;
