@@ -22,6 +22,13 @@ fn lists(problem: &Problem) -> Vec<Vec<usize>> {
     lists
 }
 
+/// Whether a list is not skipped for its size: most are, and then their letters need not be summed.
+fn alike(problem: &Problem, chain: i64, list: &[usize]) -> bool {
+    let list: i64 = list.iter().map(|&part| problem.parts[part].size).sum();
+    let (less, more) = (chain.abs().min(list.abs()).max(1), chain.abs().max(list.abs()).max(1));
+    chain.signum() == list.signum() && less as f32 / more as f32 >= problem.settings.sizesim
+}
+
 /// The best score of the rules' search, and whether it scored all chains.
 fn proved_rule(problem: &Problem, maxpaths: usize) -> (f32, bool) {
     let goal: i64 = problem.parts.iter().map(|part| part.size).sum();
@@ -31,7 +38,7 @@ fn proved_rule(problem: &Problem, maxpaths: usize) -> (f32, bool) {
     while taken <= maxpaths {
         let Some((_, (chain, size))) = queue.pop_first() else { return (best, true) };
         taken += 1;
-        best = lists.iter().filter_map(|list| scored(problem, &chain, list)).fold(best, f32::max);
+        best = lists.iter().filter(|list| alike(problem, size, list)).filter_map(|list| scored(problem, &chain, list)).fold(best, f32::max);
         let from = chain.last().map_or(0, |last| last + 1);
         for row in (from..problem.variants.len()).rev().filter(|&row| !chain.iter().any(|&other| overlap(problem, other, row))) {
             let size: i64 = size + problem.variants[row].counts.size;

@@ -63,7 +63,6 @@ impl<'a> Bound<'a> {
         Self { table, counts, thin, goal, letter: 1.0 / (table.entries as f64).sqrt(), margin }
     }
 
-
     fn weights(&self, slopes: &[f64]) -> Vec<f64> {
         let by_size = slopes[self.counts.len()] * self.letter;
         (0..self.table.rows.len()).map(|row| self.table.weight(row, slopes) + by_size * self.table.rows[row].counts.size as f64).collect()
@@ -114,8 +113,8 @@ impl<'a> Bound<'a> {
         value > self.margin
     }
 
-    /// Goes up for so many rounds, or until the bound rules all chains out.
-    pub fn raise(&self, open: Open, mut slopes: Vec<f64>, rounds: usize) -> Raised {
+    /// Goes up for so many rounds, or until the bound rules all chains out, or `goes_on` says no.
+    pub fn raise(&self, open: Open, mut slopes: Vec<f64>, rounds: usize, goes_on: &dyn Fn() -> bool) -> Raised {
         let steepest = 1.0 - self.goal.unlike;
         let last = self.counts.len();
         slopes[..last].iter_mut().for_each(|slope| *slope = slope.clamp(-steepest, steepest));
@@ -129,7 +128,7 @@ impl<'a> Bound<'a> {
             if value > best.value {
                 best = Raised { value, weights, slopes: slopes.clone(), chain, ..best };
             }
-            if self.rules_out(value) {
+            if self.rules_out(value) || !goes_on() {
                 break;
             }
             self.step(&mut slopes, &points, chain, value);

@@ -57,13 +57,13 @@ impl Tree<'_> {
     }
 
     /// What is left open below a node, the likelier last.
-    fn below(&self, node: Node, best: &mut Best) -> Vec<Node> {
+    fn below(&self, node: Node, best: &mut Best, goes_on: &dyn Fn() -> bool) -> Vec<Node> {
         let open = node.open;
         self.offer(best, open.taken);
         let goal = Goal::of(self.settings, self.list, best.score, self.gap(open)).filter(|goal| self.reaches(open, goal));
         let Some(goal) = goal else { return vec![] };
         let bound = Bound::of(self.table, self.list, self.settings.minkfreq, goal);
-        let raised = bound.raise(open, node.slopes.to_vec(), node.rounds);
+        let raised = bound.raise(open, node.slopes.to_vec(), node.rounds, goes_on);
         if bound.rules_out(raised.value) {
             return vec![];
         }
@@ -89,7 +89,7 @@ impl Tree<'_> {
             if !goes_on() {
                 return false;
             }
-            nodes.extend(self.below(node, best));
+            nodes.extend(self.below(node, best, goes_on));
         }
         true
     }

@@ -90,11 +90,12 @@ pub struct Planted {
 /// The settings that a sheet has where it names none; k is 4 there.
 pub const DEFAULTS: Settings = Settings { squish: false, fnmax: 3, pileupmax: 12, minkfreq: 2, sizesim: 0.9, seqsim: 0.9, fpenalty: 0.1, gpenalty: 0.02 };
 
-/// Starts 0 to 200 apart: many a deletion covers the start of the rows behind it.
+/// Starts up to 50, 200 or 1,000 apart, as the table is drawn: from one where many rows overlap to one where few do.
 fn rows(random: &mut Random, count: usize) -> Vec<Row> {
+    let apart = [50, 200, 1_000][random.below(3) as usize];
     let mut start = 1_000;
     let row = |_| {
-        start += random.below(201);
+        start += random.within(0, apart);
         let change = Change::random(random);
         Row { start, end: start + if change.negative { change.letters.len() as u64 } else { 0 }, change }
     };
