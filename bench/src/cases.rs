@@ -67,6 +67,7 @@ fn judges(s: &Settings) -> judge::job::Settings {
         fnmax: s.fnmax,
         pileupmax: s.pileupmax,
         minkfreq: s.minkfreq,
+        letters: s.letters.into(),
         sizesim: s.sizesim,
         seqsim: s.seqsim,
         fpenalty: s.fpenalty,
@@ -111,7 +112,7 @@ impl Change {
     }
 
     fn features(&self, k: u8) -> Vec<i32> {
-        seq_to_kmer(&self.letters, k, self.negative).expect("within the limits")
+        seq_to_kmer(&self.letters, k, self.negative, 0).expect("within the limits")
     }
 }
 

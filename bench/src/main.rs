@@ -19,17 +19,40 @@ fn counter(random: &mut Random, name: &str, k: u8, count: usize) -> Times {
     let mut row = vec![0i32; 1 << (2 * k as usize)];
     for sequence in &letters {
         let wanted = unchanged::kplib::seq_to_kmer(sequence, k, false);
-        seq_to_kmer_into(sequence, k, false, &mut row).expect("within the limits");
+        seq_to_kmer_into(sequence, k, false, 0, &mut row).expect("within the limits");
         assert_eq!(floats(&row), wanted, "the counters differ");
     }
     compare(
         name,
         inputs,
         &mut |at| {
-            black_box(seq_to_kmer_into(&letters[at], black_box(k), black_box(false), black_box(&mut row)).is_ok());
+            black_box(seq_to_kmer_into(&letters[at], black_box(k), black_box(false), black_box(0), black_box(&mut row)).is_ok());
         },
         &mut |at| {
             black_box(unchanged::kplib::seq_to_kmer(&letters[at], black_box(k), black_box(false)));
+        },
+    )
+}
+
+/// Our counter with letters 1 beside itself with letters 0, on the same texts; one letter in so many is an N, or none.
+fn reading(random: &mut Random, name: &str, k: u8, count: usize, one_in: Option<usize>) -> Times {
+    let inputs = 400_000 / count;
+    let texts: Vec<Vec<u8>> = (0..inputs).map(|_| random.letters_with_n(count, one_in)).collect();
+    let mut rows = [vec![0i32; 1 << (2 * k as usize)], vec![0i32; 1 << (2 * k as usize)]];
+    for (text, letters) in texts.iter().flat_map(|text| [(text, 0), (text, 1)]) {
+        let row = &mut rows[0];
+        seq_to_kmer_into(text, k, false, letters, row).expect("within the limits");
+        assert_eq!(*row, judge::call::counted(letters.into(), k, text, false), "the counters differ");
+    }
+    let [row, other] = &mut rows;
+    compare(
+        name,
+        inputs,
+        &mut |at| {
+            black_box(seq_to_kmer_into(&texts[at], black_box(k), black_box(false), black_box(1), black_box(row)).is_ok());
+        },
+        &mut |at| {
+            black_box(seq_to_kmer_into(&texts[at], black_box(k), black_box(false), black_box(0), black_box(other)).is_ok());
         },
     )
 }
@@ -208,6 +231,16 @@ impl Rows {
 fn main() {
     let asked = asked();
     let mut rows = Rows { only: asked.only, told: Vec::new() };
+    // in a table of its own: both columns are ours, and the ratio is to be at most 1.3
+    println!("{:<66} {:>12} {:>12} {:>8}", "the counter in both readings, microseconds", "letters 1", "letters 0", "ratio");
+    for (k, count) in [4, 6].into_iter().flat_map(|k| [(k, 100), (k, 1_000), (k, 100_000)]) {
+        for (one_in, kind) in [(None, "no N"), (Some(100), "one N in 100"), (Some(10), "one N in 10")] {
+            let name = format!("reading 1, k {k}, {count} letters, {kind}");
+            rows.tell(&name, |random| reading(random, &name, k, count, one_in));
+        }
+    }
+    // the chart is of the Rust beside us
+    rows.told.clear();
     println!("{:<66} {:>12} {:>12} {:>8}", "one call, microseconds", "ours", "the Rust", "ratio");
     for k in [4, 6] {
         for count in [50, 100, 1_000, 100_000] {

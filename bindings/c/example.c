@@ -24,7 +24,7 @@ static void expect(const char *what, uint32_t got, uint32_t wanted)
 
 static void count(const char *letters, int32_t *row)
 {
-    expect(letters, nd_seq_to_kmer((const uint8_t *)letters, strlen(letters), K, false, row, ENTRIES), ND_ACCEPTED);
+    expect(letters, nd_seq_to_kmer((const uint8_t *)letters, strlen(letters), K, false, 0, row, ENTRIES), ND_ACCEPTED);
 }
 
 static struct nd_settings worked_settings(void)
@@ -89,6 +89,26 @@ static void worked_example(void)
     expect("k 257", search(&settings, record_numbers, V, &answer), ND_REFUSED_BAD_K);
     expect("its words", strcmp(nd_refusal_text(ND_REFUSED_BAD_K), "k not 1 to 6") == 0, 1);
     expect("its report", answer.report[ND_SCORE], 0);
+    settings.k = K;
+    settings.letters = 1;
+    expect("letters 1", search(&settings, record_numbers, V, &answer), ND_ACCEPTED);
+    settings.letters = 2;
+    expect("letters 2", search(&settings, record_numbers, V, &answer), ND_REFUSED_BAD_NUMBER);
+    settings.letters = 256;
+    expect("letters 256", search(&settings, record_numbers, V, &answer), ND_REFUSED_BAD_NUMBER);
+}
+
+/* What an n does in each reading, at k 1. */
+static void unread_letters(void)
+{
+    const uint8_t *text = (const uint8_t *)"AGnC";
+    int32_t row[ENTRIES] = {MARK, MARK, MARK, MARK}; /* of A, G, C and T */
+    expect("letters 2 of the counter", nd_seq_to_kmer(text, 4, K, false, 2, row, ENTRIES), ND_REFUSED_BAD_NUMBER);
+    expect("the row after it", row[0] == MARK && row[3] == MARK, 1);
+    expect("letters 0", nd_seq_to_kmer(text, 4, K, false, 0, row, ENTRIES), ND_ACCEPTED);
+    expect("an n as A", row[0] == 2 && row[1] == 1 && row[2] == 1 && row[3] == 0, 1);
+    expect("letters 1", nd_seq_to_kmer(text, 4, K, true, 1, row, ENTRIES), ND_ACCEPTED);
+    expect("an n left out", row[0] == -1 && row[1] == -1 && row[2] == -1 && row[3] == 0, 1);
 }
 
 /* A refused search writes its report alone. */
@@ -166,6 +186,34 @@ static void two_haplotypes(void)
     expect("its report then", answers.reports[0], mark);
 }
 
+/* Somebody else's path over the same variants, with these letters in its part: rows and positions, as many as are said. */
+static uint32_t proposed(const uint32_t *rows, size_t rows_len, const uint32_t *positions, size_t positions_len, float score, uint32_t *yes)
+{
+    uint64_t starts[V] = {10, 20}, ends[V] = {10, 20};
+    int32_t sizes[V] = {2, 2}, features[V * ENTRIES], part_sizes[1] = {2}, part_features[ENTRIES];
+    struct nd_settings settings = worked_settings();
+    count("AG", features);
+    count("CT", features + ENTRIES);
+    count("AG", part_features);
+    return nd_check_path(&settings, starts, V, ends, V, sizes, V, features, V * ENTRIES, part_sizes, 1, part_features, ENTRIES, rows, rows_len, positions,
+                         positions_len, score, yes);
+}
+
+static void check_path(void)
+{
+    const uint32_t rows[V] = {0, 1}, other[V] = {1, 0}, position[1] = {0}, many[65] = {0};
+    uint32_t yes = MARK;
+    expect("the worked answer", proposed(rows, 1, position, 1, 1.0f, &yes), ND_ACCEPTED);
+    expect("a yes", yes, 1);
+    expect("another row", proposed(other, 1, position, 1, 1.0f, &yes), ND_ACCEPTED);
+    expect("a no", yes, 0);
+    expect("one bit less", proposed(rows, 1, position, 1, 0.99999994f, &yes) == ND_ACCEPTED && yes == 0, 1);
+    expect("no position", proposed(rows, 1, position, 0, 1.0f, &yes) == ND_ACCEPTED && yes == 0, 1);
+    expect("65 rows", proposed(many, 65, position, 1, 1.0f, &yes), ND_REFUSED_LONG_PROPOSAL);
+    expect("its answer", yes, 0);
+    expect("65 positions", proposed(rows, 1, many, 65, 1.0f, &yes), ND_REFUSED_LONG_PROPOSAL);
+}
+
 static void program_text(void)
 {
     const char *wanted = "refused 21\n";
@@ -217,6 +265,57 @@ static void companions(void)
     expect("what is left", rows == 2 && !sheet[2] && !sheet[64 + 2] && starts[2] == 10, 1);
 }
 
+/* Two reads of two samples, combined. */
+static void data(void)
+{
+    uint64_t left[ND_META_LEN], right[ND_META_LEN];
+    expect("a read of the first of two", nd_meta_new(0, 2, left), ND_ACCEPTED);
+    expect("a read of the second", nd_meta_new(1, 2, right), ND_ACCEPTED);
+    left[ND_META_ID] = 31;
+    left[ND_META_PS] = 5 + 1;
+    right[ND_META_PS] = 6 + 1;
+    right[ND_META_PS + 1] = 7 + 1;
+    expect("combined", nd_meta_combine(left, right), ND_ACCEPTED);
+    expect("its id and count", left[ND_META_ID] == 31 && left[ND_META_SAMPLES] == 2, 1);
+    expect("its flags", left[ND_META_FLAGS] == 3, 1);
+    expect("its coverage", left[ND_META_COVERAGE] == 1 && left[ND_META_COVERAGE + 1] == 1, 1);
+    expect("its phase sets", left[ND_META_PS] == 6 && left[ND_META_PS + 1] == 8, 1);
+    left[ND_META_COVERAGE] = UINT64_MAX;
+    right[ND_META_COVERAGE] = 1;
+    expect("a sum past 64 bits", nd_meta_combine(left, right), ND_REFUSED_COVERAGE_OVERFLOW);
+    expect("the left then", left[ND_META_COVERAGE] == UINT64_MAX && left[ND_META_PS + 1] == 8, 1);
+    expect("three samples", nd_meta_blank(3, right), ND_ACCEPTED);
+    expect("with two", nd_meta_combine(left, right), ND_REFUSED_UNEQUAL_SAMPLES);
+    expect("nine samples", nd_meta_blank(9, right), ND_REFUSED_BAD_SAMPLES);
+    expect("a blank of one then", right[ND_META_SAMPLES] == 1 && right[ND_META_FLAGS] == 0 && right[ND_META_ZERO] == 0, 1);
+    expect("the fourth of three", nd_meta_new(3, 3, right), ND_REFUSED_NO_SUCH_SAMPLE);
+}
+
+/* Two versions in a book of three places, the first saved again, and a byte behind the last. */
+static void book(void)
+{
+    uint8_t book[3 * ND_BOOK_RECORD_LEN] = {0}, read[ND_BOOK_SETTINGS_LEN] = {0};
+    uint8_t settings[ND_BOOK_SETTINGS_LEN] = {4, 0, 0, 1}; /* k 4, full, all numbers 0 */
+    uint32_t version = MARK;
+    expect("settings saved", nd_book_save(book, sizeof book, settings, &version), ND_ACCEPTED);
+    expect("their version", version, 1);
+    settings[0] = 5;
+    expect("other settings", nd_book_save(book, sizeof book, settings, &version), ND_ACCEPTED);
+    expect("their version", version, 2);
+    settings[0] = 7;
+    expect("k 7", nd_book_save(book, sizeof book, settings, &version), ND_REFUSED_BAD_K);
+    expect("its version", version, 0);
+    settings[40] = 2;
+    expect("letters 2", nd_book_save(book, sizeof book, settings, &version), ND_REFUSED_BAD_FLAG);
+    expect("version 1", nd_book_read(book, sizeof book, 1, read), ND_ACCEPTED);
+    expect("its k", read[0], 4);
+    expect("version 3", nd_book_read(book, sizeof book, 3, read), ND_REFUSED_MISSING_VERSION);
+    expect("version 1 again", nd_book_restore(book, sizeof book, 1, &version), ND_ACCEPTED);
+    expect("its new version", version, 3);
+    expect("a full book", nd_book_restore(book, sizeof book, 1, &version), ND_REFUSED_LITTLE_BOOK_ROOM);
+    expect("a book cut short", nd_book_read(book, sizeof book - 1, 1, read), ND_REFUSED_BROKEN_BOOK);
+}
+
 static void similarities(void)
 {
     float value = 2;
@@ -228,13 +327,14 @@ static void similarities(void)
     expect("a size of 8,388,609", nd_sizesim(0, 8388609, &value), ND_REFUSED_BAD_SIZE);
     expect("its value", value == 0, 1);
     expect("unequal lengths", nd_seqsim(one, 1, two, 2, 1, &value), ND_REFUSED_BAD_LENGTHS);
-    expect("k 7", nd_seq_to_kmer((const uint8_t *)"A", 1, 7, false, one, 1), ND_REFUSED_BAD_K);
+    expect("k 7", nd_seq_to_kmer((const uint8_t *)"A", 1, 7, false, 0, one, 1), ND_REFUSED_BAD_K);
     expect("the row after a refusal", (uint32_t)one[0], 1);
 }
 
 int main(void)
 {
     worked_example();
+    unread_letters();
     refused_records("a repeated record number", 31, 31, V, ND_REFUSED_REPEATED_NUMBER);
     refused_records("room for one record", 31, 32, V - 1, ND_REFUSED_ANSWER_ROOM);
     refused_records("both", 31, 31, V - 1, ND_REFUSED_REPEATED_NUMBER);
@@ -243,6 +343,9 @@ int main(void)
     program_text();
     bed();
     companions();
+    data();
+    check_path();
+    book();
     similarities();
     puts(failed ? "the " LANGUAGE " binding differs" : "the " LANGUAGE " binding agrees");
     return failed;

@@ -4,8 +4,9 @@
  * and that what is written overlaps nothing else that is lent. An empty slice still needs a pointer
  * that is not null.
  * Each but nd_answer, which returns a length, returns 0 or the number of a refusal. On a refusal
- * every lent buffer is as it was, but for *place, *count, *yes, the report of one search, the counts
- * and *written, which are then 0.
+ * every lent buffer is as it was, but for *place, *count, *yes, *version, *added, the report of one
+ * search, the counts and *written, which are then 0, and for data that was to be made, which is then a
+ * blank of one sample.
  *
  * What a call promises is proved of the Rattle source; tools/prototypes holds this header to it.
  */
@@ -22,7 +23,8 @@ extern "C" {
 
 /* The refusals, each with the table's words. 1 to 14, 16 and 27 are returned, and some of them stand in
  * nd_answer's text too; 20 to 26 stand there alone; 30 is the Rattle reader's and writer's; 40 to
- * 44 are BED's; 44 and 49 the companions sheet's.
+ * 44 are BED's; 44 and 49 the companions sheet's; 45 to 48 the book's, which gives 24 and 1 to 3 too;
+ * 50 to 53 those of a haplotype's data.
  * Made from docs/refusals.tsv by tools/refusals --write. */
 enum nd_refusal {
     ND_ACCEPTED = 0,
@@ -55,7 +57,16 @@ enum nd_refusal {
     ND_REFUSED_TOO_MANY_LINES = 42, /* a sixty-fifth line of BED */
     ND_REFUSED_LITTLE_TEXT_ROOM = 43, /* too little room for BED text */
     ND_REFUSED_MISSING_ROW = 44, /* a row that isn't there */
+    ND_REFUSED_MISSING_VERSION = 45, /* a version that isn't there */
+    ND_REFUSED_VERSIONS_USED = 46, /* all 255 versions are used */
+    ND_REFUSED_LITTLE_BOOK_ROOM = 47, /* fewer than 43 bytes left in the book */
+    ND_REFUSED_BROKEN_BOOK = 48, /* a book that breaks its rules or holds settings we would refuse */
     ND_REFUSED_NOT_ITS_SHEET = 49, /* a sheet that isn't its table's, or a table that breaks 5 to 8 */
+    ND_REFUSED_BAD_SAMPLES = 50, /* a sample count not 1 to 8 */
+    ND_REFUSED_NO_SUCH_SAMPLE = 51, /* a sample index at or above the sample count */
+    ND_REFUSED_UNEQUAL_SAMPLES = 52, /* unequal sample counts */
+    ND_REFUSED_COVERAGE_OVERFLOW = 53, /* a coverage sum passes 64 bits */
+    ND_REFUSED_LONG_PROPOSAL = 54, /* a proposal over 64 rows or over 64 positions */
 };
 
 /* The table's words for a refusal's number, for a message. */
@@ -92,15 +103,26 @@ static inline const char *nd_refusal_text(uint32_t number)
     case ND_REFUSED_TOO_MANY_LINES: return "a sixty-fifth line of BED";
     case ND_REFUSED_LITTLE_TEXT_ROOM: return "too little room for BED text";
     case ND_REFUSED_MISSING_ROW: return "a row that isn't there";
+    case ND_REFUSED_MISSING_VERSION: return "a version that isn't there";
+    case ND_REFUSED_VERSIONS_USED: return "all 255 versions are used";
+    case ND_REFUSED_LITTLE_BOOK_ROOM: return "fewer than 43 bytes left in the book";
+    case ND_REFUSED_BROKEN_BOOK: return "a book that breaks its rules or holds settings we would refuse";
     case ND_REFUSED_NOT_ITS_SHEET: return "a sheet that isn't its table's, or a table that breaks 5 to 8";
+    case ND_REFUSED_BAD_SAMPLES: return "a sample count not 1 to 8";
+    case ND_REFUSED_NO_SUCH_SAMPLE: return "a sample index at or above the sample count";
+    case ND_REFUSED_UNEQUAL_SAMPLES: return "unequal sample counts";
+    case ND_REFUSED_COVERAGE_OVERFLOW: return "a coverage sum passes 64 bits";
+    case ND_REFUSED_LONG_PROPOSAL: return "a proposal over 64 rows or over 64 positions";
     default: return "not in the table of refusals";
     }
 }
 
 /* Counts the windows of k letters in a row of 4^k entries, each +1, or -1 for a negative sequence.
- * Refuses by 1, 6 (row_len not 4^k), 13 (over 131,072 letters), in this order. */
-uint32_t nd_seq_to_kmer(const uint8_t *letters, size_t letters_len, uint8_t k, bool negative,
-                        int32_t *row, size_t row_len);
+ * With letters 0 a byte other than A, C, G and T in either case counts as A; with letters 1 each
+ * window that holds one is left out, and the entries sum to plus or minus the windows kept.
+ * Refuses by 1, 3 (letters not 0 or 1), 6 (row_len not 4^k), 13 (over 131,072 letters), in this order. */
+uint32_t nd_seq_to_kmer(const uint8_t *text, size_t text_len, uint8_t k, bool negative,
+                        uint8_t letters, int32_t *row, size_t row_len);
 
 /* The similarity of two feature rows in *place: over entries with |x| + |y| at least minkfreq,
  * 1 - (sum of |x - y|) / (sum of |x| + |y|). Refuses by 3 (minkfreq over 16,777,216), 6 (unequal
@@ -141,6 +163,7 @@ struct nd_settings {
     uint32_t fnmax; /* How many parts a part list may leave out. */
     uint32_t pileupmax; /* From this many parts on only the whole haplotype is tried; at most 12. */
     uint32_t minkfreq; /* K-mers seen fewer times in both rows together are passed over. */
+    uint32_t letters; /* How bytes other than A, C, G and T in either case are read: 0 counts each as A, 1 leaves out each window that holds one. */
     float sizesim; /* The least similarity of sizes, 0 to 1. */
     float seqsim; /* The least similarity of sequences, 0 to 1. */
     float fpenalty; /* Taken off the score for each part left out, 0 to 1,000. */
@@ -149,7 +172,7 @@ struct nd_settings {
 
 /* kanpig's defaults where they lie in the limits here:
  * struct nd_settings settings = ND_SETTINGS_DEFAULT; settings.k = 5; */
-#define ND_SETTINGS_DEFAULT {4, 0, 0, 1, 4095, 5000, 3, 12, 2, 0.9f, 0.9f, 0.1f, 0.02f}
+#define ND_SETTINGS_DEFAULT {4, 0, 0, 1, 4095, 5000, 3, 12, 2, 0, 0.9f, 0.9f, 0.1f, 0.02f}
 
 /* The path of a table that best explains a haplotype. Rows are row numbers of the table handed
  * over, from 0, ascending, at the front of rows. Of equally good paths the later one wins.
@@ -158,7 +181,8 @@ struct nd_settings {
  * change nothing else of an answer. What lies in rows and records behind that stays as it was.
  * V is starts_len, m is part_sizes_len; feature rows of 4^k entries lie one behind the other. links
  * and keys, the queue, hold at least 1 + (maxpaths + 1) * V entries each in a search; their content
- * afterwards is open. Refuses by 1 to 12, by 14 (a repeated record number), which comes after 8 and
+ * afterwards is open. Features come counted: count all of them by the settings' k and letters, of
+ * which the latter is only checked here. Refuses by 1 to 12, by 14 (a repeated record number), which comes after 8 and
  * before 9, and by 16 (a variant's feature row is all zero; a part's may be), after 10 and before 11;
  * 6 is also for other than V record numbers, and 12 for fewer than V entries in rows or in records.
  * The report is then all zeros. */
@@ -200,6 +224,22 @@ uint32_t nd_apply_haplotypes(const struct nd_settings *settings, const uint64_t 
                              uint64_t *keys, size_t keys_len, uint32_t *rows, size_t rows_len,
                              uint32_t *records, size_t records_len, uint32_t *reports,
                              size_t reports_len);
+
+/* Is a path that someone else found a good one? It is rows of the table, positions among the parts,
+ * from 0, and a score. *yes is 1 exactly where the rows ascend and no two overlap (with full 0: there
+ * are none), the positions are one of the lists of parts that a search tries, and that list scored
+ * against those rows passes every test and gives that score, greater than 0, bit for bit; else 0. An
+ * answer of nd_apply_haplotype in search mode with a score above 0 gets a yes with the list that won.
+ * one_to_one, maxnodes and maxpaths play no part. One list is scored, however many there are.
+ * Refuses by 1 to 10 and 16 as nd_apply_haplotype does, then by 54 (over 64 rows or over 64
+ * positions), with *yes 0; a row or a position that isn't there is a no. */
+uint32_t nd_check_path(const struct nd_settings *settings, const uint64_t *starts,
+                       size_t starts_len, const uint64_t *ends, size_t ends_len,
+                       const int32_t *sizes, size_t sizes_len, const int32_t *features,
+                       size_t features_len, const int32_t *part_sizes, size_t part_sizes_len,
+                       const int32_t *part_features, size_t part_features_len,
+                       const uint32_t *rows, size_t rows_len, const uint32_t *positions,
+                       size_t positions_len, float score, uint32_t *yes);
 
 /* How long a text the program may print. */
 enum { ND_TEXT_LEN = 8192 };
@@ -258,6 +298,62 @@ uint32_t nd_companions_count(const uint64_t starts[ND_COMPANION_ROWS],
                              const uint64_t ends[ND_COMPANION_ROWS],
                              const bool sheet[ND_COMPANION_FLAGS], uint32_t rows, uint32_t row,
                              uint32_t *count);
+
+/* Whose reads a haplotype came from: the data of 1 to 8 samples in ND_META_LEN words. Entry i of the
+ * eights is sample i's; those at and behind the count are nobody's. A search has no use for the data: a
+ * caller keeps it beside the haplotype, and it goes with the answer, a refused one too. */
+enum nd_meta {
+    ND_META_ID,
+    ND_META_SAMPLES,       /* how many there are, 1 to 8 */
+    ND_META_FLAGS,         /* bit i where sample i has a read */
+    ND_META_COVERAGE,      /* eight: how many reads each has */
+    ND_META_PS = 11,       /* eight phase sets: 0 absent, else the value + 1 */
+    ND_META_HP = 19,       /* eight haplotype tags: 0 absent, else the value + 1 */
+    ND_META_ZERO = 27,     /* written as 0, and not looked at */
+    ND_META_LEN
+};
+
+/* One read of sample index of so many. Refuses by 50 (samples not 1 to 8), 51 (index at or above
+ * them); meta is then a blank of one sample. */
+uint32_t nd_meta_new(uint64_t index, uint64_t samples, uint64_t meta[ND_META_LEN]);
+
+/* No read of any of so many samples. Refuses by 50; meta is then a blank of one sample. */
+uint32_t nd_meta_blank(uint64_t samples, uint64_t meta[ND_META_LEN]);
+
+/* The two combined, on the left: the samples' coverages added, the right's phase sets and tags where
+ * the left has none, the flags joined; the id, and the entries at and behind the count, stay the
+ * left's. Refuses by 50 (either's count not 1 to 8), 52 (unequal counts), 53 (a sum passes 64 bits);
+ * left is then as it was. */
+uint32_t nd_meta_combine(uint64_t left[ND_META_LEN], const uint64_t right[ND_META_LEN]);
+
+/* Settings with versions: a book in a lent buffer, one record of ND_BOOK_RECORD_LEN bytes for each
+ * version, 1, 2, 3 and on to ND_BOOK_VERSIONS, and zeros behind the last. A buffer of zeros is a book
+ * of no versions; ND_BOOK_LEN bytes hold all that a book may have. Settings are lent as their
+ * ND_BOOK_SETTINGS_LEN bytes: k, squish, one_to_one and full, a byte each, the flags 0 or 1; maxpaths,
+ * maxnodes, fnmax, pileupmax, minkfreq and then the bits of sizesim, seqsim, fpenalty and gpenalty,
+ * four bytes each, the lowest first; and letters, a byte of 0 or 1. They are kept as they are lent.
+ * Each call refuses first by 48 (a book that breaks these rules or holds settings we would refuse);
+ * nothing is changed on a refusal, but *version and *added are then 0. */
+enum {
+    ND_BOOK_SETTINGS_LEN = 41,
+    ND_BOOK_RECORD_LEN = 43,
+    ND_BOOK_VERSIONS = 255,
+    ND_BOOK_LEN = 10965
+};
+
+/* Saves the settings under the next version, which *version tells. Refuses by 48, 24 (a flag or
+ * letters not 0 or 1), 1 to 3, 46 (all 255 versions are used), 47 (fewer than 43 bytes left). */
+uint32_t nd_book_save(uint8_t *book, size_t book_len, const uint8_t settings[ND_BOOK_SETTINGS_LEN],
+                      uint32_t *version);
+
+/* Reads the settings saved under a version, whatever was saved later. Refuses by 48, 45 (a version
+ * that isn't there, 0 among them). */
+uint32_t nd_book_read(const uint8_t *book, size_t book_len, uint32_t version,
+                      uint8_t settings[ND_BOOK_SETTINGS_LEN]);
+
+/* Saves the settings of a version again, under the next, which *added tells. Refuses by 48, 45, 46,
+ * 47. */
+uint32_t nd_book_restore(uint8_t *book, size_t book_len, uint32_t version, uint32_t *added);
 
 #ifdef __cplusplus
 }

@@ -1,5 +1,6 @@
 //! What each command makes of one file.
 use crate::answer;
+use crate::book::Version;
 use crate::check::Checked;
 use crate::commands::Form;
 use crate::deeper;
@@ -7,6 +8,7 @@ use crate::draw;
 use crate::fault::Failure;
 use crate::job;
 use crate::model::{counted, Sheet, Variant};
+use crate::proposal::{self, Written};
 use crate::refusals::{self, Refusal};
 use crate::search::{self, Own};
 use crate::sheet;
@@ -17,15 +19,31 @@ use indicatif::ProgressBar;
 use ndigomarr::{Answer, Bed, Target};
 use std::time::Duration;
 
+/// How a sheet is read: its rows sorted by start, and a version's settings in place of its own.
+#[derive(Clone, Copy, Default)]
+pub struct How<'a> {
+    pub sort: bool,
+    pub version: Option<&'a Version>,
+}
+
+impl From<bool> for How<'_> {
+    fn from(sort: bool) -> Self {
+        Self { sort, version: None }
+    }
+}
+
 /// The sheet and what was noted while it was read; all its faults where it has any.
-pub fn read(data: &[u8], sort: bool) -> Result<(Sheet, Vec<String>), Failure> {
-    let read = sorted(sheet::read(data), sort);
+pub fn read<'a>(data: &[u8], how: impl Into<How<'a>>) -> Result<(Sheet, Vec<String>), Failure> {
+    let read = taken(sheet::read(data), how.into());
     if read.faults.is_empty() { Ok((read.sheet, read.notes)) } else { Err(Failure::Sheet { faults: read.faults, notes: read.notes }) }
 }
 
-fn sorted(mut read: sheet::Read, sort: bool) -> sheet::Read {
-    if sort {
+fn taken(mut read: sheet::Read, how: How<'_>) -> sheet::Read {
+    if how.sort {
         read.notes.push(sort_rows(&mut read.sheet));
+    }
+    if let Some(version) = how.version {
+        read.notes.extend(version.hand_to(&mut read.sheet));
     }
     read
 }
@@ -51,8 +69,8 @@ fn remarks(notes: &[String], warnings: &[warnings::Warning]) -> Vec<String> {
     notes.chain(warnings.iter().map(|warning| format!("warning: {warning}"))).collect()
 }
 
-pub fn answer(file: &str, data: &[u8], sort: bool, form: Form) -> Result<Told, Failure> {
-    let (sheet, notes) = read(data, sort)?;
+pub fn answer(file: &str, data: &[u8], how: How<'_>, form: Form) -> Result<Told, Failure> {
+    let (sheet, notes) = read(data, how)?;
     let answers = search::answers(&sheet);
     let status = status_of(&answers);
     if !form.tsv && !form.json {
@@ -78,8 +96,8 @@ pub fn answer(file: &str, data: &[u8], sort: bool, form: Form) -> Result<Told, F
 }
 
 /// The proved answer and, below it, what a longer look came to.
-pub fn deeper(file: &str, data: &[u8], sort: bool, time: Duration, bar: &ProgressBar) -> Result<Told, Failure> {
-    let (sheet, notes) = read(data, sort)?;
+pub fn deeper(file: &str, data: &[u8], how: How<'_>, time: Duration, bar: &ProgressBar) -> Result<Told, Failure> {
+    let (sheet, notes) = read(data, how)?;
     let answers = search::answers(&sheet);
     let look = |own: &Sheet, answer: &Answer| {
         let of = own.haplotype().map_or(String::new(), |name| format!(", haplotype {name}"));
@@ -108,8 +126,8 @@ fn own_remarks(own: &Sheet, answer: &Own) -> Vec<String> {
     }
 }
 
-pub fn check(file: &str, data: &[u8], sort: bool, form: Form) -> Result<Told, Failure> {
-    let read = sorted(sheet::read(data), sort);
+pub fn check(file: &str, data: &[u8], how: How<'_>, form: Form) -> Result<Told, Failure> {
+    let read = taken(sheet::read(data), how);
     let checked = Checked::of(&read);
     let file = shown_name(file);
     if form.json {
@@ -125,9 +143,19 @@ pub fn check(file: &str, data: &[u8], sort: bool, form: Form) -> Result<Told, Fa
     Ok(Told::text(checked.status(), checked.text()))
 }
 
-/// The job form takes sheets that the rules refuse, but not a sequence over its limit.
-pub fn job(data: &[u8], sort: bool) -> Result<Told, Failure> {
-    let (sheet, notes) = read(data, sort)?;
+/// Somebody else's path; notes and warnings go to standard error.
+pub fn check_path(data: &[u8], how: How<'_>, written: &Written) -> Result<Told, Failure> {
+    let (sheet, notes) = read(data, how)?;
+    let told = proposal::told(&sheet, written)?;
+    Ok(Told { remarks: remarks(&notes, &[]), ..told })
+}
+
+/// The job form takes sheets that the rules refuse, but not a sequence over its limit, nor letters other than 0.
+pub fn job(data: &[u8], how: How<'_>) -> Result<Told, Failure> {
+    let (sheet, notes) = read(data, how)?;
+    if let Some(words) = job::objection(&sheet) {
+        return Err(Failure::Input(words));
+    }
     let long = refusals::long_sequences(&sheet);
     if !long.is_empty() {
         let reasons = long.iter().map(|refusal| refusal.to_string()).collect();
@@ -147,8 +175,8 @@ pub fn show(data: &[u8]) -> Result<Told, Failure> {
 }
 
 /// The rows of the answer as BED; a sheet that the rules refuse has none.
-pub fn bed(data: &[u8], sort: bool, name: &str) -> Result<Told, Failure> {
-    let (sheet, notes) = read(data, sort)?;
+pub fn bed(data: &[u8], how: How<'_>, name: &str) -> Result<Told, Failure> {
+    let (sheet, notes) = read(data, how)?;
     if sheet.part_lists().len() > 1 {
         return Err(Failure::Input("the sheet names several haplotypes, and BED has no column that could tell them apart; leave the parts of one".into()));
     }
@@ -180,8 +208,8 @@ pub fn from_bed(data: &[u8]) -> Result<Told, Failure> {
 }
 
 /// A refused sheet is drawn too, and the status says that it was refused.
-pub fn draw(file: &str, data: &[u8], sort: bool, rows: Option<&str>) -> Result<Told, Failure> {
-    let (sheet, notes) = read(data, sort)?;
+pub fn draw(file: &str, data: &[u8], how: How<'_>, rows: Option<&str>) -> Result<Told, Failure> {
+    let (sheet, notes) = read(data, how)?;
     let title = std::path::Path::new(shown_name(file)).file_name().map_or(file.into(), |name| name.to_string_lossy().into_owned());
     if let Some(rows) = rows {
         let rows = draw::given_rows(rows, sheet.variants.len()).map_err(Failure::Input)?;

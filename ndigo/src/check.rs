@@ -39,13 +39,20 @@ impl<'a> Checked<'a> {
         lines.join("\n") + "\n"
     }
 
+    /// None where the sheet is not whole, or where the form cannot say it.
+    fn job_bytes(&self) -> Option<usize> {
+        let sheet = &self.read.sheet;
+        (self.read.faults.is_empty() && job::objection(sheet).is_none()).then(|| job::length(sheet))
+    }
+
     fn last_line(&self) -> String {
         let sheet = &self.read.sheet;
         match self.refusals.first() {
             None => {
                 let named = if sheet.haplotypes.is_empty() { String::new() } else { format!("{}, ", counted(sheet.haplotypes.len(), "haplotype")) };
                 let (variants, parts) = (counted(sheet.variants.len(), "variant"), counted(sheet.parts.len(), "part"));
-                format!("nothing to refuse: {variants}, {named}{parts}, a job of {} bytes", job::length(sheet))
+                let job = self.job_bytes().map_or("and no job, which has no place for letters 1".into(), |bytes| format!("a job of {bytes} bytes"));
+                format!("nothing to refuse: {variants}, {named}{parts}, {job}")
             }
             Some(first) if first.haplotype.is_some() => format!("{} to refuse some of the haplotypes; the library gives each its first", counted(self.refusals.len(), "reason")),
             Some(first) => format!("{} to refuse; the library gives the first: refused {}", counted(self.refusals.len(), "reason"), first.number),
@@ -74,7 +81,7 @@ impl<'a> Checked<'a> {
             variants: sheet.variants.len(),
             parts: sheet.parts.len(),
             haplotypes: sheet.haplotypes.iter().map(|haplotype| haplotype.name.as_str()).collect(),
-            job_bytes: self.read.faults.is_empty().then(|| job::length(sheet)),
+            job_bytes: self.job_bytes(),
             faults: self.read.faults.iter().map(FaultFields::of).collect(),
             refusals: self.refusals.iter().map(RefusalFields::of).collect(),
             warnings: &self.warnings,

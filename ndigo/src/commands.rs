@@ -30,6 +30,23 @@ pub enum Command {
         #[command(flatten)]
         form: Form,
     },
+    /// Whether a path that someone else found is a good one: yes, or no and why
+    CheckPath {
+        #[command(flatten)]
+        sheets: Sheets,
+        /// The path's rows by their names, such as A,C, or by their numbers from 0; none for the empty path
+        #[arg(long, value_name = "ROWS", allow_hyphen_values = true)]
+        rows: String,
+        /// The parts it matches by their names, or by their numbers from 0; all for the whole haplotype
+        #[arg(long, value_name = "PARTS", allow_hyphen_values = true)]
+        parts: String,
+        /// Its score as a decimal, or as its 32 bits: bits:3f800000
+        #[arg(long, value_name = "SCORE", allow_hyphen_values = true)]
+        score: String,
+        /// Which haplotype, where the sheet names several
+        #[arg(long, value_name = "NAME")]
+        haplotype: Option<String>,
+    },
     /// The table and the parts as a picture (SVG), with the chosen path marked
     Draw {
         #[command(flatten)]
@@ -104,8 +121,27 @@ pub enum Command {
         #[command(flatten)]
         into: Into,
     },
+    /// Settings with versions in a file: which map used which
+    Book {
+        #[command(subcommand)]
+        asked: BookCommand,
+    },
     /// What a shell needs to complete these commands
     Completions { shell: Shell },
+}
+
+#[derive(Debug, Subcommand)]
+pub enum BookCommand {
+    /// Saves the sheet's settings under the next version; a book that is not there is begun
+    Save {
+        book: PathBuf,
+        /// A sheet; - is standard input
+        sheet: String,
+    },
+    /// Every version, with what changed from the one before
+    List { book: PathBuf },
+    /// Saves the settings of a version again, under the next
+    Restore { book: PathBuf, version: String },
 }
 
 #[derive(Debug, Args)]
@@ -116,6 +152,9 @@ pub struct Sheets {
     /// Sort the variants by start first, and say so
     #[arg(long)]
     pub sort: bool,
+    /// The settings of a version of a book, such as sea.book:3, in place of the sheet's own; the answer says which
+    #[arg(long, value_name = "BOOK:VERSION")]
+    pub settings: Option<String>,
 }
 
 #[derive(Clone, Copy, Debug, Args)]
@@ -166,7 +205,7 @@ one without parts. Every section may have a column 'remark'; other
 columns are passed over with a note. A line whose one filled cell begins with # is a remark too. Letters are A to
 Z in either case; other bytes are written hex:4e2e. A float is written in decimal, or as its 32 bits: bits:7fc00000.
 
-Status: 0 done, 1 refused by the rules, 2 cannot be read, 3 cannot be written.
+Status: 0 done, 1 refused by the rules (of check-path also a no), 2 cannot be read, 3 cannot be written.
 
 The settings, each with the default it has when left out:
 ";

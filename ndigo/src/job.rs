@@ -1,5 +1,5 @@
 //! The job form of document 01, byte for byte: written from a sheet and read back. Its limits are the form's, not the program's.
-use crate::model::{Haplotype, Sequence, Settings, Sheet, Variant};
+use crate::model::{self, Haplotype, Sequence, Settings, Sheet, Variant};
 
 /// The kind that ends a job, and the kind that begins one.
 pub const END: u8 = 0;
@@ -40,12 +40,21 @@ fn put_sequence(job: &mut Vec<u8>, sequence: &Sequence) {
     }
 }
 
-/// The job's bytes. A sequence over its letter limit has none: whoever asks has looked for it.
+/// Why the form cannot say this sheet's settings: they have no place for `letters`, and a job reads as 0 (document 02, P6).
+pub fn objection(sheet: &Sheet) -> Option<String> {
+    let letters = sheet.settings.words[model::LETTERS];
+    let line = sheet.settings.lines[model::LETTERS].map_or(String::new(), |line| format!("line {line}: "));
+    let instead = "ask `ndigo answer` about this sheet, or set letters to 0, so that each letter other than A, G, C and T counts as A";
+    (letters != 0).then(|| format!("{line}letters is {letters}, and a job has no place for it: it would be read as letters 0; {instead}"))
+}
+
+/// The job's bytes. A sequence over its letter limit has none, nor have letters other than 0: whoever asks has looked for them.
 pub fn written(sheet: &Sheet) -> Vec<u8> {
     let words = &sheet.settings.words;
     let mut job = vec![SETTINGS];
     job.extend(words[..4].iter().map(|&word| word as u8));
-    job.extend(words[4..].iter().flat_map(|word| word.to_le_bytes()));
+    let rest = words[4..model::LETTERS].iter().chain(&words[model::LETTERS + 1..]);
+    job.extend(rest.flat_map(|word| word.to_le_bytes()));
     for variant in &sheet.variants {
         job.push(VARIANT);
         job.extend(variant.start.to_le_bytes());
@@ -106,12 +115,14 @@ impl<'a> Reader<'a> {
 
     fn settings(&mut self) -> Result<Settings, FormFault> {
         let (_, body) = self.take(&[SETTINGS])?;
-        let mut words = [0; 13];
+        // old jobs read as letters 0
+        let mut words = [0; 14];
         for (word, &byte) in words.iter_mut().zip(&body[..4]) {
             *word = byte.into();
         }
-        for (word, bytes) in words[4..].iter_mut().zip(body[4..].chunks_exact(4)) {
-            *word = u32::from_le_bytes([bytes[0], bytes[1], bytes[2], bytes[3]]);
+        let places = (4..model::LETTERS).chain(model::LETTERS + 1..words.len());
+        for (place, bytes) in places.zip(body[4..].chunks_exact(4)) {
+            words[place] = u32::from_le_bytes([bytes[0], bytes[1], bytes[2], bytes[3]]);
         }
         for &byte in &body[1..4] {
             self.flag(byte)?;

@@ -2,6 +2,7 @@
 pub mod answer;
 pub mod asked;
 pub mod batch;
+pub mod book;
 pub mod check;
 pub mod commands;
 pub mod deeper;
@@ -10,6 +11,7 @@ pub mod fault;
 pub mod float;
 pub mod job;
 pub mod model;
+pub mod proposal;
 pub mod refusals;
 pub mod search;
 pub mod sheet;

@@ -21,8 +21,8 @@ const fn setting(name: &'static str, kind: Kind, default: &'static str, meaning:
     Setting { name, kind, default, meaning }
 }
 
-/// All settings, in the order of the job form. The defaults are kanpig's where the library takes them.
-pub const SETTINGS: [Setting; 13] = [
+/// All settings, in the order of the library's words. The defaults are kanpig's where the library takes them.
+pub const SETTINGS: [Setting; 14] = [
     setting("k", Kind::Byte, "4", "letters in a window, 1 to 6"),
     setting("squish", Kind::Flag, "no", "yes: prefer paths of few rows"),
     setting("one-to-one", Kind::Flag, "no", "yes: try each row alone"),
@@ -32,6 +32,7 @@ pub const SETTINGS: [Setting; 13] = [
     setting("fnmax", Kind::Count, "3", "how many parts may be left out"),
     setting("pileupmax", Kind::Count, "12", "with this many parts or more, none may be left out"),
     setting("minkfreq", Kind::Count, "2", "windows counted less often than this are not compared"),
+    setting("letters", Kind::Byte, "0", "1: windows with a letter that is not A, G, C or T are left out; 0: it counts as A"),
     setting("sizesim", Kind::Float, "0.9", "least similarity of sizes, 0 to 1"),
     setting("seqsim", Kind::Float, "0.9", "least similarity of letters, 0 to 1"),
     setting("fpenalty", Kind::Float, "0.1", "taken off for each part left out, 0 to 1000"),
@@ -40,20 +41,23 @@ pub const SETTINGS: [Setting; 13] = [
 
 pub const K: usize = 0;
 pub const MAXPATHS: usize = 4;
-pub const SIZESIM: usize = 9;
-pub const SEQSIM: usize = 10;
+pub const LETTERS: usize = 9;
+pub const SIZESIM: usize = 10;
+pub const SEQSIM: usize = 11;
 
 /// The place of the setting of this name.
 pub fn place_of(name: &str) -> Option<usize> {
     SETTINGS.iter().position(|setting| setting.name == name)
 }
 
-/// The values as the job form holds them, flags as 0 and 1 and floats by their bits, so that a NaN comes back as it was.
+/// The values as words, flags as 0 and 1 and floats by their bits, so that a NaN comes back as it was.
 #[derive(Clone, Debug, PartialEq, Eq)]
 pub struct Settings {
-    pub words: [u32; 13],
+    pub words: [u32; 14],
     /// The line that named each; none for a default.
-    pub lines: [Option<usize>; 13],
+    pub lines: [Option<usize>; 14],
+    /// Which version of which book they are, where they are not the sheet's own.
+    pub version: Option<String>,
 }
 
 impl Default for Settings {
@@ -63,16 +67,16 @@ impl Default for Settings {
 }
 
 impl Settings {
-    pub fn of_words(words: [u32; 13]) -> Self {
-        Self { words, lines: [None; 13] }
+    pub fn of_words(words: [u32; 14]) -> Self {
+        Self { words, lines: [None; 14], version: None }
     }
 
     pub fn of_library(s: &ndigomarr::Settings) -> Self {
-        let counts = [s.maxpaths, s.maxnodes, s.fnmax, s.pileupmax, s.minkfreq];
+        let counts = [s.maxpaths, s.maxnodes, s.fnmax, s.pileupmax, s.minkfreq, s.letters.into()];
         let floats = [s.sizesim, s.seqsim, s.fpenalty, s.gpenalty].map(f32::to_bits);
-        let mut words = [u32::from(s.k), s.squish.into(), s.one_to_one.into(), s.full.into(), 0, 0, 0, 0, 0, 0, 0, 0, 0];
-        words[4..9].copy_from_slice(&counts);
-        words[9..].copy_from_slice(&floats);
+        let mut words = [u32::from(s.k), s.squish.into(), s.one_to_one.into(), s.full.into(), 0, 0, 0, 0, 0, 0, 0, 0, 0, 0];
+        words[4..10].copy_from_slice(&counts);
+        words[10..].copy_from_slice(&floats);
         Self::of_words(words)
     }
 
@@ -88,10 +92,11 @@ impl Settings {
             fnmax: w[6],
             pileupmax: w[7],
             minkfreq: w[8],
-            sizesim: f32::from_bits(w[9]),
-            seqsim: f32::from_bits(w[10]),
-            fpenalty: f32::from_bits(w[11]),
-            gpenalty: f32::from_bits(w[12]),
+            letters: u8::try_from(w[9]).unwrap_or(u8::MAX),
+            sizesim: f32::from_bits(w[10]),
+            seqsim: f32::from_bits(w[11]),
+            fpenalty: f32::from_bits(w[12]),
+            gpenalty: f32::from_bits(w[13]),
         }
     }
 
@@ -116,6 +121,29 @@ pub struct Sequence {
     pub letters: Vec<u8>,
     /// Its line on the sheet, from 1; 0 where there is no sheet.
     pub line: usize,
+}
+
+/// Whether a letter was read: A, G, C or T in either case. No other has a code.
+pub fn is_read(letter: u8) -> bool {
+    matches!(letter.to_ascii_uppercase(), b'A' | b'G' | b'C' | b'T')
+}
+
+impl Sequence {
+    /// The lengths of the stretches of letters whose windows are counted: all letters are one with `letters` 0, and with 1 each stretch
+    /// between letters that were not read.
+    pub fn stretches(&self, letters: u32) -> Vec<usize> {
+        if letters == 1 { self.letters.split(|&letter| !is_read(letter)).map(<[u8]>::len).collect() } else { vec![self.letters.len()] }
+    }
+
+    /// How many letters were not read.
+    pub fn unread(&self) -> usize {
+        self.letters.iter().filter(|&&letter| !is_read(letter)).count()
+    }
+
+    /// How many windows of k letters are counted.
+    pub fn windows(&self, k: u32, letters: u32) -> usize {
+        self.stretches(letters).into_iter().map(|length| (length + 1).saturating_sub(k as usize)).sum()
+    }
 }
 
 #[derive(Clone, Debug, PartialEq, Eq)]
@@ -232,7 +260,7 @@ mod tests {
 
     #[test]
     fn settings_go_to_the_library_and_back() {
-        let words = [3, 1, 0, 1, 9, 8, 7, 6, 5, 0x3f00_0000, 0x3f80_0000, 0, 0x7f7f_ffff];
+        let words = [3, 1, 0, 1, 9, 8, 7, 6, 5, 1, 0x3f00_0000, 0x3f80_0000, 0, 0x7f7f_ffff];
         assert_eq!(Settings::of_library(&Settings::of_words(words).to_library()).words, words);
     }
 }

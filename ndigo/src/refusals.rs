@@ -1,6 +1,6 @@
 //! Refusals that can be told before running, each with its line. The library decides; this says why in the sheet's own words.
 use crate::job::{HAPLOTYPES_LIMIT, LETTERS_LIMIT};
-use crate::model::{counted, place_of, Sequence, Sheet, Variant, K, SETTINGS};
+use crate::model::{counted, place_of, Sequence, Sheet, Variant, K, LETTERS, SETTINGS};
 
 /// Document 01's table: number, name and words of each refusal, parted by tabs.
 const TABLE: &str = include_str!("../../docs/refusals.tsv");
@@ -67,7 +67,8 @@ pub fn long_sequences(sheet: &Sheet) -> Vec<Refusal> {
     long.map(|s| at(13, s.line, format!("\"{}\" has {} letters, the limit is {LETTERS_LIMIT}", s.name, s.letters.len()))).collect()
 }
 
-fn of_setting(sheet: &Sheet, number: u32, place: usize, limit: &str) -> Refusal {
+/// A setting that is refused, with its line where the sheet names it.
+pub fn of_setting(sheet: &Sheet, number: u32, place: usize, limit: &str) -> Refusal {
     let reason = format!("{} is {}, {limit}", SETTINGS[place].name, sheet.settings.text(place));
     Refusal { number, reason, line: sheet.settings.lines[place], haplotype: None }
 }
@@ -75,6 +76,24 @@ fn of_setting(sheet: &Sheet, number: u32, place: usize, limit: &str) -> Refusal 
 fn bad_k(sheet: &Sheet) -> Vec<Refusal> {
     let good = (1..=6).contains(&sheet.settings.words[K]);
     if good { vec![] } else { vec![of_setting(sheet, 1, K, "it must be 1 to 6")] }
+}
+
+/// A reading of letters that there is not.
+fn bad_letters(sheet: &Sheet) -> Vec<Refusal> {
+    let good = sheet.settings.words[LETTERS] <= 1;
+    if good { vec![] } else { vec![of_setting(sheet, 3, LETTERS, "it must be 0 or 1")] }
+}
+
+/// What is asked before the table, in the library's order. Letters are counted before a search begins, and the counter looks at k, at the
+/// reading and at how many they are; where there is nothing to count, the search itself looks at the reading, last of the settings.
+fn before_the_table(sheet: &Sheet) -> Vec<Refusal> {
+    let (first, last) = if sheet.sequences().next().is_some() { (bad_letters(sheet), vec![]) } else { (vec![], bad_letters(sheet)) };
+    [bad_k(sheet), first, long_sequences(sheet), bad_settings(sheet), last].concat()
+}
+
+/// What the settings alone are refused by.
+pub fn of_settings(sheet: &Sheet) -> Vec<Refusal> {
+    [bad_k(sheet), bad_settings(sheet), bad_letters(sheet)].concat()
 }
 
 fn bad_settings(sheet: &Sheet) -> Vec<Refusal> {
@@ -122,23 +141,39 @@ fn bad_table(sheet: &Sheet) -> Vec<Refusal> {
         found.push(at(8, v.line(), reason));
     }
     found.extend(large_sizes(sheet.sequences()));
-    found.extend(sheet.variants.iter().filter_map(|variant| no_window(variant, sheet.settings.words[K])));
+    let (k, letters) = (sheet.settings.words[K], sheet.settings.words[LETTERS]);
+    found.extend(sheet.variants.iter().filter_map(|variant| no_window(variant, k, letters)));
     found
 }
 
-/// A variant's row is all zero exactly where it has fewer letters than k: each window is counted with one sign. Of a k that is refused nothing is said.
-fn no_window(variant: &Variant, k: u32) -> Option<Refusal> {
-    let count = variant.sequence.letters.len();
-    if !(1..=6).contains(&k) || count >= k as usize {
+/// What k may be where the longest stretch of letters that are counted has this length.
+fn smaller_k(longest: usize) -> String {
+    match longest {
+        0 => String::new(),
+        1 => " set k to 1,".into(),
+        _ => format!(" set k to {longest} or less,"),
+    }
+}
+
+/// A variant's row is all zero exactly where no window is counted: each is with one sign. That is where it has fewer letters than k, and with
+/// letters 1 where every window holds one that was not read. Of a k or a reading that is refused nothing is said.
+fn no_window(variant: &Variant, k: u32, letters: u32) -> Option<Refusal> {
+    let sequence = &variant.sequence;
+    if !(1..=6).contains(&k) || letters > 1 || sequence.windows(k, letters) > 0 {
         return None;
     }
-    let (has, instead) = match count {
-        0 => ("no letters".to_string(), String::new()),
-        1 => (counted(count, "letter"), " set k to 1,".to_string()),
-        _ => (counted(count, "letter"), format!(" set k to {count} or less,")),
+    let (count, unread) = (sequence.letters.len(), sequence.unread());
+    let has = if count == 0 { "no letters".into() } else { counted(count, "letter") };
+    let window = counted(k as usize, "letter");
+    let k_instead = smaller_k(sequence.stretches(letters).into_iter().max().unwrap_or(0));
+    let words = if letters == 0 || unread == 0 {
+        format!("\"{}\" has {has} and k is {k}: it has no window of {window}, so nothing can match it; write all its letters,{k_instead}", variant.name())
+    } else {
+        let counts = if count >= k as usize { " set letters to 0, so that each counts as A," } else { "" };
+        let nothing = format!("with letters 1 it has no window of {window}, so nothing can match it");
+        format!("\"{}\" has {has}, {unread} of them not A, G, C or T, and k is {k}: {nothing}; write the letters that were read,{k_instead}{counts}", variant.name())
     };
-    let reason = format!("\"{}\" has {has} and k is {k}: it has no window of {}, so nothing can match it", variant.name(), counted(k as usize, "letter"));
-    Some(at(16, variant.line(), format!("{reason}; write all its letters,{instead} or leave the row out")))
+    Some(at(16, variant.line(), format!("{words} or leave the row out")))
 }
 
 fn over_parts(parts: &[Sequence]) -> Option<Refusal> {
@@ -150,17 +185,16 @@ fn large_sizes<'a>(sequences: impl Iterator<Item = &'a Sequence>) -> Vec<Refusal
     large.map(|s| at(9, s.line, format!("\"{}\" has size {}, the limit is {SIZE_LIMIT}", s.name, s.size))).collect()
 }
 
-/// All that a sheet can bring on itself, in the order in which the library asks: letters are counted before a search begins, and
-/// the counter looks at k. Not here: 6, 11 and 12 (fitting room is lent), 10 (letters within 13 give rows within 10), 14 (a
+/// All that a sheet can bring on itself, in the order in which the library asks. Not here: 6, 11 and 12 (fitting room is lent), 10 (letters within 13 give rows within 10), 14 (a
 /// repeated record number is a fault of the sheet).
 pub fn of(sheet: &Sheet) -> Vec<Refusal> {
-    [bad_k(sheet), long_sequences(sheet), bad_settings(sheet), bad_table(sheet)].concat()
+    [before_the_table(sheet), bad_table(sheet)].concat()
 }
 
 /// With several haplotypes: what refuses the whole sheet. The haplotypes' own sizes and numbers of parts are not asked.
 pub fn of_whole(sheet: &Sheet) -> Vec<Refusal> {
     let table = Sheet { haplotypes: sheet.haplotypes.clone(), ..sheet.without_parts() };
-    [bad_k(sheet), long_sequences(sheet), bad_settings(sheet), bad_table(&table)].concat()
+    [before_the_table(sheet), bad_table(&table)].concat()
 }
 
 /// What refuses one of several haplotypes alone.

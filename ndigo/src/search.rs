@@ -2,7 +2,7 @@
 use crate::job::LETTERS_LIMIT;
 use crate::model::{Sequence, Sheet, MAXPATHS, SEQSIM, SIZESIM};
 use crate::refusals::{self, Refusal};
-use ndigomarr::{Answer, Haplotype, Room, Table, Target};
+use ndigomarr::{Answer, Haplotype, Room, Settings, Table, Target};
 use std::cell::RefCell;
 
 /// Of a table or a haplotype that is too long anyway, one more than the limit is enough to be refused.
@@ -13,8 +13,8 @@ fn seen(row: usize, sequence: &Sequence) -> bool {
     row < ENOUGH || sequence.letters.len() > LETTERS_LIMIT
 }
 
-fn table(sheet: &Sheet, k: u8) -> Result<Table, ndigomarr::Refusal> {
-    let mut table = Table::new(k);
+pub fn table(sheet: &Sheet, settings: &Settings) -> Result<Table, ndigomarr::Refusal> {
+    let mut table = settings.table();
     for (_, variant) in sheet.variants.iter().enumerate().filter(|(row, variant)| seen(*row, &variant.sequence)) {
         let sequence = &variant.sequence;
         table.add(variant.start, variant.end, sequence.size, &sequence.letters, sequence.negative)?;
@@ -23,8 +23,8 @@ fn table(sheet: &Sheet, k: u8) -> Result<Table, ndigomarr::Refusal> {
     Ok(table.with_record_numbers(&numbers))
 }
 
-fn haplotype(parts: &[Sequence], k: u8) -> Result<Haplotype, ndigomarr::Refusal> {
-    let mut haplotype = Haplotype::new(k);
+pub fn haplotype(parts: &[Sequence], settings: &Settings) -> Result<Haplotype, ndigomarr::Refusal> {
+    let mut haplotype = settings.haplotype();
     for (_, part) in parts.iter().enumerate().filter(|(row, part)| seen(*row, part)) {
         haplotype.add(part.size, &part.letters, part.negative)?;
     }
@@ -39,8 +39,8 @@ thread_local! {
 /// The answer of each haplotype, by one call of the library.
 fn asked(sheet: &Sheet) -> Result<Vec<Result<Answer, ndigomarr::Refusal>>, ndigomarr::Refusal> {
     let settings = sheet.settings.to_library();
-    let table = table(sheet, settings.k)?;
-    let haplotypes: Result<Vec<Haplotype>, _> = sheet.part_lists().into_iter().map(|parts| haplotype(parts, settings.k)).collect();
+    let table = table(sheet, &settings)?;
+    let haplotypes: Result<Vec<Haplotype>, _> = sheet.part_lists().into_iter().map(|parts| haplotype(parts, &settings)).collect();
     let haplotypes = haplotypes?;
     ROOM.with(|room| ndigomarr::apply_haplotypes_in(&settings, &table, &haplotypes, &mut room.borrow_mut()))
 }
@@ -66,6 +66,14 @@ pub fn answers(sheet: &Sheet) -> Result<Vec<Own>, Vec<Refusal>> {
         answer.map_err(|refusal| with_first(refusal, refusals::of_parts(own)).into_iter().map(|reason| reason.of_haplotype(own)).collect())
     };
     Ok(own.into_iter().zip(&each).map(alone).collect())
+}
+
+/// Whether a path that someone else proposes for a haplotype, in a sheet of its own, is a good one; or every reason why that is refused.
+/// Record numbers play no part in it.
+pub fn check_path(own: &Sheet, rows: &[usize], positions: &[usize], score: f32) -> Result<bool, Vec<Refusal>> {
+    let settings = own.settings.to_library();
+    let asked = table(own, &settings).and_then(|table| ndigomarr::check_path(&settings, &table, &haplotype(&own.parts, &settings)?, rows, positions, score));
+    asked.map_err(|refusal| with_first(refusal, refusals::of(own).into_iter().filter(|reason| reason.number != 14).collect()))
 }
 
 /// Every reason why the library refuses, as `answers` gives them; the search itself is left at its first path, since it refuses nothing.
@@ -119,8 +127,8 @@ pub fn foretold(sheet: &Sheet) -> Foretold {
 }
 
 /// Size and features, by the library's own counter.
-pub fn counted(sequence: &Sequence, k: u8) -> Option<(i64, Vec<i32>)> {
-    Some((i64::from(sequence.size), ndigomarr::seq_to_kmer(&sequence.letters, k, sequence.negative).ok()?))
+pub fn counted(sequence: &Sequence, settings: &Settings) -> Option<(i64, Vec<i32>)> {
+    Some((i64::from(sequence.size), ndigomarr::seq_to_kmer(&sequence.letters, settings.k, sequence.negative, settings.letters).ok()?))
 }
 
 fn summed<'a>(counted: impl Iterator<Item = &'a (i64, Vec<i32>)>, k: u8) -> (i64, Vec<i32>) {
@@ -143,6 +151,27 @@ fn lists(length: usize, count: usize) -> Vec<Vec<usize>> {
     all
 }
 
+/// How alike some rows and some parts are.
+pub struct Alike {
+    /// Whether the sizes have one sign.
+    pub signs: bool,
+    pub sizesim: f32,
+    pub seqsim: f32,
+}
+
+/// By the library's own similarities; none where a sequence or a sum is over its limit.
+pub fn alike(sheet: &Sheet, rows: &[usize], parts: &[usize]) -> Option<Alike> {
+    let settings = sheet.settings.to_library();
+    let rows: Option<Vec<_>> = rows.iter().map(|&row| counted(&sheet.variants[row].sequence, &settings)).collect();
+    let parts: Option<Vec<_>> = parts.iter().map(|&part| counted(&sheet.parts[part], &settings)).collect();
+    let ((size, features), (part_size, part_features)) = (summed(rows?.iter(), settings.k), summed(parts?.iter(), settings.k));
+    Some(Alike {
+        signs: size.signum() == part_size.signum(),
+        sizesim: ndigomarr::sizesim(size.unsigned_abs(), part_size.unsigned_abs()).ok()?,
+        seqsim: ndigomarr::seqsim(&features, &part_features, settings.minkfreq).ok()?,
+    })
+}
+
 /// Which parts the answer's list holds; none where nothing was matched. The library says how many were left out; the list is the
 /// first of that length, in the rules' order, that has the sign and both similarities of the answer, bit for bit: a later one that
 /// scores the same replaces nothing.
@@ -154,8 +183,8 @@ pub fn used_parts(sheet: &Sheet, answer: &Answer) -> Option<Vec<usize>> {
         Target::Partial(left_out) => left_out as usize,
     };
     let settings = sheet.settings.to_library();
-    let rows: Option<Vec<_>> = answer.rows.iter().map(|&row| counted(&sheet.variants[row].sequence, settings.k)).collect();
-    let parts: Option<Vec<_>> = sheet.parts.iter().map(|part| counted(part, settings.k)).collect();
+    let rows: Option<Vec<_>> = answer.rows.iter().map(|&row| counted(&sheet.variants[row].sequence, &settings)).collect();
+    let parts: Option<Vec<_>> = sheet.parts.iter().map(|part| counted(part, &settings)).collect();
     let (rows, parts) = (rows?, parts?);
     let (size, features) = summed(rows.iter(), settings.k);
     lists(all, all.checked_sub(left_out)?).into_iter().find(|list| {

@@ -1,5 +1,5 @@
 //! What is allowed and yet hardly meant: said in `check` and above every answer.
-use crate::model::{counted, Sequence, Sheet, Variant, K, MAXPATHS};
+use crate::model::{counted, is_read, Sequence, Sheet, Variant, K, LETTERS, MAXPATHS};
 use crate::search::{foretold, Foretold};
 use serde::Serialize;
 
@@ -27,25 +27,38 @@ fn on_sheet(words: impl Into<String>) -> Warning {
     Warning { line: None, words: words.into() }
 }
 
-fn strange_letters(s: &Sequence) -> Option<Warning> {
-    let strange = |letter: &u8| !matches!(letter.to_ascii_uppercase(), b'A' | b'G' | b'C' | b'T');
-    let count = s.letters.iter().filter(|letter| strange(letter)).count();
-    let place = s.letters.iter().position(|letter| strange(letter))?;
+/// What becomes of letters that were not read; of a reading that is refused nothing is said.
+fn read_as(s: &Sequence, k: u32, letters: u32) -> String {
+    let windows = s.windows(k, 0);
+    match letters {
+        0 => "; each counts as A, and with letters 1 the windows that hold one are left out".into(),
+        1 if (1..=6).contains(&k) && windows > 0 => format!("; with letters 1 the windows that hold one are left out: {} of {windows} are counted", s.windows(k, 1)),
+        1 => "; with letters 1 the windows that hold one are left out".into(),
+        _ => String::new(),
+    }
+}
+
+fn strange_letters(s: &Sequence, k: u32, letters: u32) -> Option<Warning> {
+    let count = s.unread();
+    let place = s.letters.iter().position(|&letter| !is_read(letter))?;
     let first = char::from(s.letters[place]).escape_debug();
     let all = counted(s.letters.len(), "letter");
     let verb = if count == 1 { "is" } else { "are" };
-    Some(on_line(s.line, format!("\"{}\": {count} of {all} {verb} not A, G, C or T, the first is {first} at letter {}; each counts as A", s.name, place + 1)))
+    let words = format!("\"{}\": {count} of {all} {verb} not A, G, C or T, the first is {first} at letter {}", s.name, place + 1);
+    Some(on_line(s.line, words + &read_as(s, k, letters)))
 }
 
 /// Of a part: a variant without windows is refused.
 const NO_WINDOWS: &str = "it has no windows and adds nothing to seqsim, which is 0 where no windows are compared";
 
-fn few_letters(s: &Sequence, k: u32) -> Option<Warning> {
+fn few_letters(s: &Sequence, k: u32, letters: u32) -> Option<Warning> {
     let count = s.letters.len();
     let words = if count == 0 {
         format!("\"{}\" has no letters: {NO_WINDOWS}", s.name)
     } else if (1..=6).contains(&k) && count < k as usize {
         format!("\"{}\" has {}, fewer than k {k}: {NO_WINDOWS}", s.name, counted(count, "letter"))
+    } else if (1..=6).contains(&k) && s.windows(k, letters) == 0 {
+        format!("\"{}\" has {} and no window of {k} that letters 1 keeps: {NO_WINDOWS}", s.name, counted(count, "letter"))
     } else {
         return None;
     };
@@ -85,13 +98,13 @@ fn counted_from_one(variants: &[Variant]) -> Vec<Warning> {
 
 /// What rows and parts say.
 pub fn of_rows(sheet: &Sheet) -> Vec<Warning> {
-    let k = sheet.settings.words[K];
+    let (k, letters) = (sheet.settings.words[K], sheet.settings.words[LETTERS]);
     let mut found: Vec<Warning> = Vec::new();
     for sequence in sheet.sequences() {
-        found.extend(strange_letters(sequence));
+        found.extend(strange_letters(sequence, k, letters));
         found.extend(other_size(sequence));
     }
-    found.extend(sheet.parts.iter().filter_map(|part| few_letters(part, k)));
+    found.extend(sheet.parts.iter().filter_map(|part| few_letters(part, k, letters)));
     found.extend(sheet.variants.iter().filter_map(span_of_a_deletion));
     found.extend(counted_from_one(&sheet.variants));
     if sheet.parts.is_empty() {

@@ -44,7 +44,7 @@ pub fn shown_name(file: &str) -> &str {
     if file == "-" { "standard input" } else { file }
 }
 
-fn read(file: &str) -> Result<Vec<u8>, Failure> {
+pub fn read(file: &str) -> Result<Vec<u8>, Failure> {
     if file != "-" {
         return std::fs::read(file).map_err(Failure::Unreadable);
     }

@@ -15,13 +15,15 @@ numbers of the :class:`Table` handed over, from 0; its records are those rows' r
 >>> answer.rows, answer.score, answer.scored, answer.complete
 ([0], 1.0, 4, True)
 """
+from ._book import Book
 from ._library import Bed, Companions, Refused, answer, count_chains, read_bed, seq_to_kmer, seqsim, sizesim, write_bed
-from ._search import Answer, apply_haplotype, apply_haplotypes
+from ._meta import HaplotypeMeta
+from ._search import Answer, apply_haplotype, apply_haplotypes, check_path
 from ._settings import Settings
 from ._table import Haplotype, Table
 
 __all__ = [
-    "Answer", "Bed", "Companions", "Haplotype", "Refused", "Settings", "Table", "answer", "apply_haplotype", "apply_haplotypes",
-    "count_chains", "read_bed", "seq_to_kmer", "seqsim", "sizesim", "write_bed",
+    "Answer", "Bed", "Book", "Companions", "Haplotype", "HaplotypeMeta", "Refused", "Settings", "Table", "answer", "apply_haplotype", "apply_haplotypes",
+    "check_path", "count_chains", "read_bed", "seq_to_kmer", "seqsim", "sizesim", "write_bed",
 ]
 __version__ = "0.1.0"

@@ -12,6 +12,7 @@ def declare(library: ctypes.CDLL) -> None:
         ctypes.c_size_t,
         ctypes.c_uint8,
         ctypes.c_bool,
+        ctypes.c_uint8,
         ctypes.POINTER(ctypes.c_int32),
         ctypes.c_size_t,
     ]
@@ -162,6 +163,65 @@ def declare(library: ctypes.CDLL) -> None:
         ctypes.POINTER(ctypes.c_uint64),
         ctypes.POINTER(ctypes.c_bool),
         ctypes.c_uint32,
+        ctypes.c_uint32,
+        ctypes.POINTER(ctypes.c_uint32),
+    ]
+    library.nd_meta_new.restype = ctypes.c_uint32
+    library.nd_meta_new.argtypes = [
+        ctypes.c_uint64,
+        ctypes.c_uint64,
+        ctypes.POINTER(ctypes.c_uint64),
+    ]
+    library.nd_meta_blank.restype = ctypes.c_uint32
+    library.nd_meta_blank.argtypes = [
+        ctypes.c_uint64,
+        ctypes.POINTER(ctypes.c_uint64),
+    ]
+    library.nd_meta_combine.restype = ctypes.c_uint32
+    library.nd_meta_combine.argtypes = [
+        ctypes.POINTER(ctypes.c_uint64),
+        ctypes.POINTER(ctypes.c_uint64),
+    ]
+    library.nd_check_path.restype = ctypes.c_uint32
+    library.nd_check_path.argtypes = [
+        ctypes.POINTER(Words),
+        ctypes.POINTER(ctypes.c_uint64),
+        ctypes.c_size_t,
+        ctypes.POINTER(ctypes.c_uint64),
+        ctypes.c_size_t,
+        ctypes.POINTER(ctypes.c_int32),
+        ctypes.c_size_t,
+        ctypes.POINTER(ctypes.c_int32),
+        ctypes.c_size_t,
+        ctypes.POINTER(ctypes.c_int32),
+        ctypes.c_size_t,
+        ctypes.POINTER(ctypes.c_int32),
+        ctypes.c_size_t,
+        ctypes.POINTER(ctypes.c_uint32),
+        ctypes.c_size_t,
+        ctypes.POINTER(ctypes.c_uint32),
+        ctypes.c_size_t,
+        ctypes.c_float,
+        ctypes.POINTER(ctypes.c_uint32),
+    ]
+    library.nd_book_save.restype = ctypes.c_uint32
+    library.nd_book_save.argtypes = [
+        ctypes.POINTER(ctypes.c_uint8),
+        ctypes.c_size_t,
+        ctypes.POINTER(ctypes.c_uint8),
+        ctypes.POINTER(ctypes.c_uint32),
+    ]
+    library.nd_book_read.restype = ctypes.c_uint32
+    library.nd_book_read.argtypes = [
+        ctypes.POINTER(ctypes.c_uint8),
+        ctypes.c_size_t,
+        ctypes.c_uint32,
+        ctypes.POINTER(ctypes.c_uint8),
+    ]
+    library.nd_book_restore.restype = ctypes.c_uint32
+    library.nd_book_restore.argtypes = [
+        ctypes.POINTER(ctypes.c_uint8),
+        ctypes.c_size_t,
         ctypes.c_uint32,
         ctypes.POINTER(ctypes.c_uint32),
     ]

@@ -42,7 +42,13 @@ def word(given: int) -> int:
     return given
 
 
-def letters(given: Union[str, bytes, bytearray]) -> Any:
+def octet(given: int) -> int:
+    """A number as a byte; one that no byte holds becomes the largest, which is refused as any other wrong one."""
+    given = operator.index(given)
+    return given if 0 <= given < 256 else 255
+
+
+def text_of(given: Union[str, bytes, bytearray]) -> Any:
     """An array of letters; one outside ASCII is told, since it would count as several."""
     text = given.encode("ascii") if isinstance(given, str) else bytes(given)
     return (ctypes.c_uint8 * len(text)).from_buffer_copy(text)

@@ -3,10 +3,10 @@ import ctypes
 import os
 import pathlib
 from dataclasses import dataclass
-from typing import Iterable, List, Tuple, Union
+from typing import Any, Iterable, List, Tuple, Union
 
 from ._exports import declare
-from ._lent import Numbers, array, letters, word
+from ._lent import Numbers, array, octet, text_of, word
 from ._refusals import TABLE
 
 _HERE = pathlib.Path(__file__).resolve().parent
@@ -37,20 +37,21 @@ LIBRARY = _load()
 
 
 class Refused(ValueError):
-    """A call that the rules refuse. `number` stands in the table of refusals with its `name` and its `words`."""
+    """A call that the rules refuse. `number` stands in the table of refusals with its `name` and its `words`; `meta` is the data that the
+    haplotype of a refused search carried."""
 
-    def __init__(self, number: int) -> None:
-        self.number = number
+    def __init__(self, number: int, meta: Any = None) -> None:
+        self.number, self.meta = number, meta
         self.name, self.words = TABLE.get(number, ("OTHER", "not in the table of refusals"))
         super().__init__(f"refused {number}: {self.words}")
 
     def __reduce__(self):  # type: ignore[no-untyped-def]
-        return Refused, (self.number,)
+        return Refused, (self.number, self.meta)
 
 
-def accepted(number: int) -> None:
+def accepted(number: int, meta: Any = None) -> None:
     if number:
-        raise Refused(number)
+        raise Refused(number, meta)
 
 
 def entries(k: int) -> int:
@@ -58,15 +59,19 @@ def entries(k: int) -> int:
     return 1 << 2 * k if 1 <= k <= 6 else 0
 
 
-def seq_to_kmer(sequence: Union[str, bytes], k: int, negative: bool = False) -> "ctypes.Array[ctypes.c_int32]":
+def seq_to_kmer(sequence: Union[str, bytes], k: int, negative: bool = False, letters: int = 0) -> "ctypes.Array[ctypes.c_int32]":
     """The k-mer counts of a sequence, a row of 4^k entries; negative ones for a `negative` sequence.
+
+    A byte other than A, C, G and T in either case counts as A with `letters` 0; with 1 each window that holds one is left out.
 
     >>> list(seq_to_kmer("AAG", 1))
     [2, 1, 0, 0]
+    >>> list(seq_to_kmer("NAG", 1)), list(seq_to_kmer("NAG", 1, letters=1))
+    ([2, 1, 0, 0], [1, 1, 0, 0])
     """
-    text = letters(sequence)
+    text = text_of(sequence)
     row = (ctypes.c_int32 * entries(k))()
-    accepted(LIBRARY.nd_seq_to_kmer(text, len(text), k if 0 <= k < 256 else 255, negative, row, len(row)))
+    accepted(LIBRARY.nd_seq_to_kmer(text, len(text), octet(k), negative, octet(letters), row, len(row)))
     return row
 
 
@@ -120,7 +125,7 @@ def read_bed(text: bytes) -> Bed:
     """
     starts, ends = (ctypes.c_uint64 * 64)(), (ctypes.c_uint64 * 64)()
     name, counts = (ctypes.c_uint8 * 32)(), (ctypes.c_uint32 * 2)()
-    given = letters(text)
+    given = text_of(text)
     accepted(LIBRARY.nd_read_bed(given, len(given), starts, len(starts), ends, len(ends), name, counts))
     rows, width = counts
     return Bed(bytes(name[:width]), list(starts[:rows]), list(ends[:rows]))
@@ -134,7 +139,7 @@ def write_bed(bed: Bed, rows: Numbers) -> bytes:
     """
     starts, ends, chosen = array(bed.starts, ctypes.c_uint64), array(bed.ends, ctypes.c_uint64), array(rows, ctypes.c_uint32)
     text, written = (ctypes.c_uint8 * (75 * len(chosen)))(), ctypes.c_uint64()
-    named = letters(bed.name)
+    named = text_of(bed.name)
     given = named, len(named), starts, len(starts), ends, len(ends), chosen, len(chosen)
     accepted(LIBRARY.nd_write_bed(*given, text, len(text), ctypes.byref(written)))
     return bytes(text[:written.value])
@@ -191,6 +196,6 @@ def answer(job: bytes) -> str:
     'refused 21\\n'
     """
     text = (ctypes.c_uint8 * 8192)()
-    given = letters(job)
+    given = text_of(job)
     length = LIBRARY.nd_answer(given, len(given), text)
     return bytes(text[:length]).decode("ascii")

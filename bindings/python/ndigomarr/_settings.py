@@ -25,6 +25,8 @@ class Settings:
     """From this many parts on only the whole haplotype is tried; at most 12."""
     minkfreq: int = 2
     """K-mers seen fewer times in both rows together are passed over."""
+    letters: int = 0
+    """How bytes other than A, C, G and T in either case are read: 0 counts each as A, 1 leaves out each window that holds one."""
     sizesim: float = 0.9
     """The least similarity of sizes, 0 to 1."""
     seqsim: float = 0.9
@@ -48,6 +50,7 @@ class Words(ctypes.Structure):
         ("fnmax", ctypes.c_uint32),
         ("pileupmax", ctypes.c_uint32),
         ("minkfreq", ctypes.c_uint32),
+        ("letters", ctypes.c_uint32),
         ("sizesim", ctypes.c_float),
         ("seqsim", ctypes.c_float),
         ("fpenalty", ctypes.c_float),

@@ -5,16 +5,20 @@ from typing import Optional, Union
 
 from ._lent import Numbers, array
 from ._library import seq_to_kmer
+from ._meta import HaplotypeMeta
 
 Letters = Union[str, bytes]
 
 
 
 class Haplotype:
-    """A haplotype: its parts in order."""
+    """A haplotype: its parts in order, and whose reads it came from where the caller says: `meta`, which no search looks at and every answer,
+    a refused one too, hands back. Its k and its reading of letters are those of the settings that it is searched with, else a 6."""
 
-    def __init__(self, k: int) -> None:
+    def __init__(self, k: int, letters: int = 0, meta: Optional[HaplotypeMeta] = None) -> None:
         self.k = k
+        self.letters = letters
+        self.meta = meta
         self.sizes = flat.array("i")
         self.features = flat.array("i")
 
@@ -31,20 +35,23 @@ class Haplotype:
 
     def add(self, size: int, letters: Letters, negative: bool = False) -> None:
         """Adds a part; its letters are counted, downwards for a `negative` sequence."""
-        self.add_counted(size, seq_to_kmer(letters, self.k, negative))
+        self.add_counted(size, seq_to_kmer(letters, self.k, negative, self.letters))
 
     def add_counted(self, size: int, features: Numbers) -> None:
-        """Adds a part whose features were counted already."""
+        """Adds a part whose features were counted already, by the haplotype's k and reading."""
         row = array(features, ctypes.c_int32)
         self.sizes.append(size)
         self.features.extend(row)
 
 
 class Table:
-    """Variants in the order of their starts. A variant's row number is how many were added before it."""
+    """Variants in the order of their starts. A variant's row number is how many were added before it.
 
-    def __init__(self, k: int) -> None:
+    Its k and its reading of letters are those of the settings that it is searched with, else a 6."""
+
+    def __init__(self, k: int, letters: int = 0) -> None:
         self.k = k
+        self.letters = letters
         self.starts = flat.array("Q")
         self.ends = flat.array("Q")
         self.sizes = flat.array("i")
@@ -65,11 +72,12 @@ class Table:
     def add(self, start: int, end: int, size: int, letters: Letters, negative: bool = False, record: Optional[int] = None) -> None:
         """Adds a variant; its letters are counted, downwards for a `negative` sequence. Its record number is its row number where none is given.
 
-        With fewer letters than k it has no window, and a search refuses the table by 16; a part may have as few."""
-        self.add_counted(start, end, size, seq_to_kmer(letters, self.k, negative), record)
+        With fewer letters than k it has no window, and a search refuses the table by 16; so it does where letters 1 leaves out every window.
+        A part may have as few."""
+        self.add_counted(start, end, size, seq_to_kmer(letters, self.k, negative, self.letters), record)
 
     def add_counted(self, start: int, end: int, size: int, features: Numbers, record: Optional[int] = None) -> None:
-        """Adds a variant whose features were counted already."""
+        """Adds a variant whose features were counted already, by the table's k and reading."""
         row = array(features, ctypes.c_int32)
         bounds = array([start, end], ctypes.c_uint64)
         numbers = array([len(self) if record is None else record], ctypes.c_uint32)

@@ -8,7 +8,7 @@ from fractions import Fraction
 import pytest
 
 import ndigomarr
-from ndigomarr import Haplotype, Refused, Settings, Table, _library, _refusals
+from ndigomarr import Haplotype, Refused, Settings, Table, _library, _meta, _refusals
 
 ROOT = pathlib.Path(__file__).resolve().parents[3]
 SETTINGS = Settings(k=1, minkfreq=1)
@@ -82,6 +82,11 @@ def test_every_refusal_has_the_tables_words():
     (1, lambda: ndigomarr.seq_to_kmer("A", 257)),
     (2, lambda: ndigomarr.apply_haplotype(Settings(k=1, sizesim=float("nan")), *worked())),
     (3, lambda: ndigomarr.apply_haplotype(Settings(k=1, maxpaths=4096), *worked())),
+    (3, lambda: ndigomarr.apply_haplotype(Settings(k=1, letters=2), *worked())),
+    (3, lambda: ndigomarr.apply_haplotype(Settings(k=1, letters=256), *worked())),
+    (3, lambda: ndigomarr.seq_to_kmer("A", 1, letters=2)),
+    (3, lambda: ndigomarr.seq_to_kmer("A", 1, letters=256)),
+    (3, lambda: Table(1, letters=2).insertion(1, "A")),
     (4, lambda: ndigomarr.apply_haplotype(SETTINGS, Table(1), Haplotype(1))),
     (6, lambda: ndigomarr.seqsim([1], [1, 2], 1)),
     (6, lambda: ndigomarr.apply_haplotype(Settings(k=2), *worked())),
@@ -95,6 +100,62 @@ def test_refusals(number, call):
     with pytest.raises(Refused) as told:
         call()
     assert told.value.number == number
+
+
+def test_what_n_does_in_each_reading():
+    assert list(ndigomarr.seq_to_kmer("ANCgn-", 1)) == [4, 1, 1, 0]
+    assert list(ndigomarr.seq_to_kmer("ANCgn-", 1, True, 1)) == [-1, -1, -1, 0]
+    found = []
+    for letters in (0, 1):
+        settings = Settings(k=2, minkfreq=1, sizesim=0.5, seqsim=0.5, letters=letters)
+        table, haplotype = Table(settings.k, settings.letters), Haplotype(settings.k, settings.letters)
+        table.insertion(10, "CCAACC")
+        haplotype.insertion("CCNNCC")
+        found.append(ndigomarr.apply_haplotype(settings, table, haplotype).seqsim)
+    # CC CA AA AC CC in both, and then CC CC of the read against these five: n is 3, d 7
+    assert found == [1.0, pytest.approx(1 - 3 / 7)]
+
+
+def test_every_window_left_out_is_a_16():
+    for letters, number in ((0, None), (1, 16)):
+        settings = Settings(k=2, letters=letters)
+        table, haplotype = Table(2, letters), Haplotype(2, letters)
+        table.insertion(10, "ACGT")
+        haplotype.insertion("ANCNG")
+        ndigomarr.apply_haplotype(settings, table, haplotype)
+        table.insertion(20, "ANCNG")
+        if number:
+            assert refused(ndigomarr.apply_haplotype, settings, table, haplotype) == number
+        else:
+            ndigomarr.apply_haplotype(settings, table, haplotype)
+
+
+def test_one_reading_for_table_haplotype_and_settings():
+    def made(letters):
+        table, haplotype = Table(1, letters), Haplotype(1, letters)
+        table.insertion(10, "AG")
+        haplotype.insertion("AG")
+        return Settings(k=1, minkfreq=1, letters=letters), table, haplotype
+    for one, other in ((made(0), made(1)), (made(1), made(0))):
+        settings, table, haplotype = one
+        assert ndigomarr.apply_haplotype(*one).rows == [0]
+        for given in ((other[0], table, haplotype), (settings, other[1], haplotype), (settings, table, other[2])):
+            assert refused(ndigomarr.apply_haplotype, *given) == 6
+        answers = ndigomarr.apply_haplotypes(settings, table, [haplotype, other[2]])
+        assert answers[0].rows == [0] and answers[1].number == 6
+
+
+def test_somebody_elses_path():
+    table, haplotype = worked()
+    answer = ndigomarr.apply_haplotype(SETTINGS, table, haplotype)
+    asked = lambda rows, positions, score: ndigomarr.check_path(SETTINGS, table, haplotype, rows, positions, score)
+    assert asked(answer.rows, [0], answer.score)
+    for rows, positions, score in [([1], [0], 1.0), ([0, 1], [0], 1.0), ([1, 0], [0], 1.0), ([2], [0], 1.0), ([0], [], 1.0), ([0], [1], 1.0), ([0], [0], 0.99999994), ([0], [0], float("nan"))]:
+        assert not asked(rows, positions, score)
+    for rows, positions in [([0] * 65, [0]), ([0], [0] * 65)]:
+        with pytest.raises(Refused) as told:
+            asked(rows, positions, 1.0)
+        assert (told.value.number, told.value.name) == (54, "LONG_PROPOSAL")
 
 
 def test_a_repeated_record_number():
@@ -234,13 +295,49 @@ def test_companions():
     assert refused(ndigomarr.Companions().remove) == 44
 
 
+def test_whose_reads_these_were():
+    left, right = ndigomarr.HaplotypeMeta.new(0, 2), ndigomarr.HaplotypeMeta.new(1, 2)
+    left.id, left.hp[0], right.hp = 9, 255, [0, 1]
+    left.combine(right)
+    assert left == ndigomarr.HaplotypeMeta(9, 3, [1, 1], [None, None], [255, 1])
+    three, full = ndigomarr.HaplotypeMeta.new_blank(3), ndigomarr.HaplotypeMeta(0, 0, [2**64 - 1, 0], [None, 2**32 - 1], [None, None])
+    assert (refused(left.combine, three), refused(left.combine, full), refused(three.combine, ndigomarr.HaplotypeMeta())) == (52, 53, 50)
+    nine = ndigomarr.HaplotypeMeta(0, 0, [0] * 9, [None] * 9, [None] * 9)
+    assert (refused(nine.combine, nine), refused(ndigomarr.HaplotypeMeta.new, 2, 2), refused(ndigomarr.HaplotypeMeta.new_blank, 0)) == (50, 51, 50)
+    assert left.coverage == [1, 1]
+    for wrong in [ndigomarr.HaplotypeMeta(0, 0, [1], [], [None]), ndigomarr.HaplotypeMeta(0, 0, [1], [None, None], [None])]:
+        with pytest.raises(ValueError):
+            left.combine(wrong)
+    with pytest.raises(OverflowError):
+        left.combine(ndigomarr.HaplotypeMeta(0, 0, [1, 1], [None, 2**32], [None, None]))
+
+
+def test_every_answer_carries_the_haplotypes_data():
+    table, haplotype = worked()
+    plain = ndigomarr.apply_haplotype(SETTINGS, table, haplotype)
+    assert plain.meta is None
+    haplotype.meta = ndigomarr.HaplotypeMeta.new(0, 1)
+    told = ndigomarr.apply_haplotype(SETTINGS, table, haplotype)
+    assert told.meta is haplotype.meta and (told.rows, told.score) == (plain.rows, plain.score)
+    with pytest.raises(Refused) as refusal:
+        ndigomarr.apply_haplotype(Settings(k=0), table, haplotype)
+    assert refusal.value.meta is haplotype.meta and pickle.loads(pickle.dumps(refusal.value)).meta == haplotype.meta
+    large = Haplotype(1, ndigomarr.HaplotypeMeta.new(1, 2))
+    large.add(131073, "AG")
+    answers = ndigomarr.apply_haplotypes(SETTINGS, table, [haplotype, large])
+    assert answers[0].meta is haplotype.meta and answers[1].number == 9 and answers[1].meta is large.meta
+    with pytest.raises(Refused) as refusal:
+        ndigomarr.apply_haplotypes(Settings(k=0), table, [haplotype, large])
+    assert refusal.value.meta == [haplotype.meta, large.meta]
+
+
 def test_letters_outside_ascii_are_told():
     with pytest.raises(UnicodeEncodeError):
         ndigomarr.seq_to_kmer("AÄ", 1)
 
 
 def test_what_the_pages_show():
-    for module in (ndigomarr, _library):
+    for module in (ndigomarr, _library, _meta):
         result = doctest.testmod(module)
         assert result.attempted and not result.failed
     told = doctest.testfile(str(ROOT / "docs/FIRST-WEEK.md"), module_relative=False, encoding="utf-8")
@@ -250,3 +347,22 @@ def test_what_the_pages_show():
     place = {}
     exec(shown.replace("print(", "said = ("), place)  # the page's own example
     assert place["said"] == ([0], [40713], 1.0, True)
+
+
+def test_a_book_of_settings():
+    book = ndigomarr.Book()
+    assert (len(book), bytes(book)) == (0, b"")
+    each = [Settings(k=k, full=bool(k % 2), letters=k % 2) for k in (1, 2, 3)]
+    assert [book.save(settings) for settings in each] == [1, 2, 3]
+    assert (book.restore(1), [book.read(version).k for version in (1, 2, 3, 4)]) == (4, [1, 2, 3, 1])
+    assert (book.read(2).full, book.read(3).letters) == (False, 1)
+    again = ndigomarr.Book(bytes(book))
+    assert (len(again), bytes(again), len(bytes(book))) == (4, bytes(book), 172)
+    assert [refused(book.save, Settings(k=7)), refused(book.save, Settings(letters=2)), refused(book.save, Settings(letters=256)),
+            refused(book.save, Settings(seqsim=2.0)), refused(book.save, Settings(maxpaths=4096))] == [1, 24, 24, 2, 3]
+    assert [refused(book.read, 0), refused(book.read, 5), refused(book.restore, 256)] == [45, 45, 45]
+    for wrong in (bytes(book)[:-1], bytes(book)[43:], b"!", b"\0\1"):
+        assert refused(ndigomarr.Book, wrong) == 48
+    while len(book) < 255:
+        book.restore(2)
+    assert (refused(book.restore, 1), refused(book.save, each[0]), len(book)) == (46, 46, 255)

@@ -33,7 +33,9 @@
 struct Readme;
 
 mod bed;
+mod book;
 mod companions;
+mod meta;
 mod raw;
 mod refusal;
 mod refusals;
@@ -41,30 +43,32 @@ mod settings;
 mod table;
 
 pub use bed::Bed;
+pub use book::Book;
 pub use companions::Companions;
+pub use meta::{apply_haplotypes_with_meta, apply_with_meta, HaplotypeMeta, Told};
 pub use refusals::Refusal;
 pub use settings::Settings;
 pub use table::{Haplotype, Table};
 
 impl Settings {
-    /// A table of no rows for these settings: its letters will be counted by windows of `k`.
+    /// A table of no rows for these settings: its letters will be counted by windows of `k`, as `letters` reads them.
     ///
     /// ```
     /// let settings = ndigomarr::Settings { k: 2, ..Default::default() };
     /// assert_eq!(settings.table(), ndigomarr::Table::new(2));
     /// ```
     pub fn table(&self) -> Table {
-        Table::new(self.k)
+        Table::read_by(self.k, self.letters)
     }
 
-    /// A haplotype of no parts for these settings: its letters will be counted by windows of `k`.
+    /// A haplotype of no parts for these settings: its letters will be counted by windows of `k`, as `letters` reads them.
     ///
     /// ```
     /// let settings = ndigomarr::Settings { k: 2, ..Default::default() };
     /// assert_eq!(settings.haplotype(), ndigomarr::Haplotype::new(2));
     /// ```
     pub fn haplotype(&self) -> Haplotype {
-        Haplotype::new(self.k)
+        Haplotype::read_by(self.k, self.letters)
     }
 }
 
@@ -142,16 +146,19 @@ fn checked<T>(number: u32, value: T) -> Result<T, Refusal> {
     }
 }
 
-/// The k-mer counts of a sequence, a row of 4^k entries; negative ones for a `negative` sequence.
+/// The k-mer counts of a sequence, a row of 4^k entries; negative ones for a `negative` sequence. A byte other than A, C, G and T in
+/// either case counts as A with `letters` 0; with 1 each window that holds one is left out.
 ///
 /// ```
-/// assert_eq!(ndigomarr::seq_to_kmer(b"AAG", 1, false)?, [2, 1, 0, 0]); // A, G, C, T
-/// assert_eq!(ndigomarr::seq_to_kmer(b"AAG", 1, true)?, [-2, -1, 0, 0]);
+/// assert_eq!(ndigomarr::seq_to_kmer(b"AAG", 1, false, 0)?, [2, 1, 0, 0]); // A, G, C, T
+/// assert_eq!(ndigomarr::seq_to_kmer(b"AAG", 1, true, 0)?, [-2, -1, 0, 0]);
+/// assert_eq!(ndigomarr::seq_to_kmer(b"NAG", 1, false, 0)?, [2, 1, 0, 0]);
+/// assert_eq!(ndigomarr::seq_to_kmer(b"NAG", 1, false, 1)?, [1, 1, 0, 0]);
 /// # Ok::<(), ndigomarr::Refusal>(())
 /// ```
-pub fn seq_to_kmer(sequence: &[u8], k: u8, negative: bool) -> Result<Vec<i32>, Refusal> {
+pub fn seq_to_kmer(sequence: &[u8], k: u8, negative: bool, letters: u8) -> Result<Vec<i32>, Refusal> {
     let mut row = vec![0; raw::entries(k)];
-    seq_to_kmer_into(sequence, k, negative, &mut row)?;
+    seq_to_kmer_into(sequence, k, negative, letters, &mut row)?;
     Ok(row)
 }
 
@@ -159,12 +166,12 @@ pub fn seq_to_kmer(sequence: &[u8], k: u8, negative: bool) -> Result<Vec<i32>, R
 ///
 /// ```
 /// let mut row = [7; 4];
-/// ndigomarr::seq_to_kmer_into(b"CT", 1, false, &mut row)?;
+/// ndigomarr::seq_to_kmer_into(b"CT", 1, false, 0, &mut row)?;
 /// assert_eq!(row, [0, 0, 1, 1]);
 /// # Ok::<(), ndigomarr::Refusal>(())
 /// ```
-pub fn seq_to_kmer_into(sequence: &[u8], k: u8, negative: bool, row: &mut [i32]) -> Result<(), Refusal> {
-    checked(raw::seq_to_kmer(sequence, k, negative, row), ())
+pub fn seq_to_kmer_into(sequence: &[u8], k: u8, negative: bool, letters: u8, row: &mut [i32]) -> Result<(), Refusal> {
+    checked(raw::seq_to_kmer(sequence, k, negative, letters, row), ())
 }
 
 /// The similarity of two feature rows.
@@ -207,7 +214,8 @@ pub fn count_chains(table: &Table, full: bool, cap: u32) -> Result<u32, Refusal>
     checked(number, count)
 }
 
-/// The path of the table that best explains the haplotype.
+/// The path of the table that best explains the haplotype. A table or a haplotype of another k than the settings', or counted by another
+/// reading of letters, is a 6.
 ///
 /// ```
 /// use ndigomarr::{apply_haplotype, Settings};
@@ -282,6 +290,38 @@ pub fn apply_haplotypes(settings: &Settings, table: &Table, haplotypes: &[Haplot
 /// ```
 pub fn apply_haplotypes_in(settings: &Settings, table: &Table, haplotypes: &[Haplotype], room: &mut Room) -> Result<Vec<Result<Answer, Refusal>>, Refusal> {
     raw::apply_haplotypes(settings, table, haplotypes, room)
+}
+
+/// Whether a path that someone else found is a good one: rows of the table, positions among the haplotype's parts, from 0, and a score.
+/// Yes exactly where the rows ascend and no two overlap, the positions are one of the lists of parts that a search tries, and that list scored
+/// against those rows passes every test and gives that score, greater than 0, bit for bit. An answer in search mode with a score above 0 gets a
+/// yes with the list that won. A row or a position that isn't there is a no; over 64 of either is refused by 54.
+///
+/// ```
+/// use ndigomarr::{apply_haplotype, check_path, Settings};
+///
+/// let settings = Settings { k: 1, minkfreq: 1, ..Settings::default() };
+/// let mut table = settings.table();
+/// table.insertion(10, b"AG")?;
+/// table.insertion(20, b"CT")?;
+/// let mut haplotype = settings.haplotype();
+/// haplotype.insertion(b"AG")?;
+///
+/// let answer = apply_haplotype(&settings, &table, &haplotype)?;
+/// assert!(check_path(&settings, &table, &haplotype, &answer.rows, &[0], answer.score)?);
+/// assert!(!check_path(&settings, &table, &haplotype, &[1], &[0], answer.score)?);
+/// assert!(!check_path(&settings, &table, &haplotype, &answer.rows, &[0], 0.9)?);
+/// # Ok::<(), ndigomarr::Refusal>(())
+/// ```
+pub fn check_path(settings: &Settings, table: &Table, haplotype: &Haplotype, rows: &[usize], positions: &[usize], score: f32) -> Result<bool, Refusal> {
+    let mut yes = 0;
+    let number = raw::check_path(settings, table, haplotype, &lent(rows), &lent(positions), score, &mut yes);
+    checked(number, yes == 1)
+}
+
+/// Numbers as they are lent. One that no u32 holds is beyond every table, and so is the largest u32.
+fn lent(numbers: &[usize]) -> Vec<u32> {
+    numbers.iter().map(|&number| u32::try_from(number).unwrap_or(u32::MAX)).collect()
 }
 
 /// The program's answer to a job's bytes: its lines of text. A job that the program refuses is answered by a line that says so.

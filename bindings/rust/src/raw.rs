@@ -7,7 +7,7 @@ use crate::{checked, Answer, Haplotype, Refusal, Room, Settings, Table, Target};
 
 mod archive {
     extern "C" {
-        pub fn nd_seq_to_kmer(letters: *const u8, letters_len: usize, k: u8, negative: bool, row: *mut i32, row_len: usize) -> u32;
+        pub fn nd_seq_to_kmer(text: *const u8, text_len: usize, k: u8, negative: bool, letters: u8, row: *mut i32, row_len: usize) -> u32;
         pub fn nd_seqsim(a: *const i32, a_len: usize, b: *const i32, b_len: usize, minkfreq: u32, place: *mut f32) -> u32;
         pub fn nd_sizesim(a: u64, b: u64, place: *mut f32) -> u32;
         pub fn nd_count_chains(starts: *const u64, starts_len: usize, ends: *const u64, ends_len: usize, full: bool, cap: u32, count: *mut u32) -> u32;
@@ -61,8 +61,35 @@ mod archive {
             row: u32,
             count: *mut u32,
         ) -> u32;
+        pub fn nd_meta_new(index: u64, samples: u64, meta: *mut [u64; 28]) -> u32;
+        pub fn nd_meta_blank(samples: u64, meta: *mut [u64; 28]) -> u32;
+        pub fn nd_meta_combine(left: *mut [u64; 28], right: *const [u64; 28]) -> u32;
+        pub fn nd_check_path(
+            settings: *const [u32; 14],
+            starts: *const u64,
+            starts_len: usize,
+            ends: *const u64,
+            ends_len: usize,
+            sizes: *const i32,
+            sizes_len: usize,
+            features: *const i32,
+            features_len: usize,
+            part_sizes: *const i32,
+            part_sizes_len: usize,
+            part_features: *const i32,
+            part_features_len: usize,
+            rows: *const u32,
+            rows_len: usize,
+            positions: *const u32,
+            positions_len: usize,
+            score: f32,
+            yes: *mut u32,
+        ) -> u32;
+        pub fn nd_book_save(book: *mut u8, book_len: usize, settings: *const [u8; 41], version: *mut u32) -> u32;
+        pub fn nd_book_read(book: *const u8, book_len: usize, version: u32, settings: *mut [u8; 41]) -> u32;
+        pub fn nd_book_restore(book: *mut u8, book_len: usize, version: u32, added: *mut u32) -> u32;
         pub fn nd_apply_haplotype(
-            settings: *const [u32; 13],
+            settings: *const [u32; 14],
             starts: *const u64,
             starts_len: usize,
             ends: *const u64,
@@ -88,7 +115,7 @@ mod archive {
             report: *mut [u32; 7],
         ) -> u32;
         pub fn nd_apply_haplotypes(
-            settings: *const [u32; 13],
+            settings: *const [u32; 14],
             starts: *const u64,
             starts_len: usize,
             ends: *const u64,
@@ -129,8 +156,8 @@ pub fn entries(k: u8) -> usize {
     }
 }
 
-pub fn seq_to_kmer(letters: &[u8], k: u8, negative: bool, row: &mut [i32]) -> u32 {
-    unsafe { archive::nd_seq_to_kmer(letters.as_ptr(), letters.len(), k, negative, row.as_mut_ptr(), row.len()) }
+pub fn seq_to_kmer(text: &[u8], k: u8, negative: bool, letters: u8, row: &mut [i32]) -> u32 {
+    unsafe { archive::nd_seq_to_kmer(text.as_ptr(), text.len(), k, negative, letters, row.as_mut_ptr(), row.len()) }
 }
 
 pub fn seqsim(a: &[i32], b: &[i32], minkfreq: u32, value: &mut f32) -> u32 {
@@ -172,6 +199,30 @@ pub fn write_bed(name: &[u8], starts: &[u64], ends: &[u64], rows: &[u32], text: 
             written,
         )
     }
+}
+
+pub fn meta_new(index: u64, samples: u64, meta: &mut [u64; 28]) -> u32 {
+    unsafe { archive::nd_meta_new(index, samples, meta) }
+}
+
+pub fn meta_blank(samples: u64, meta: &mut [u64; 28]) -> u32 {
+    unsafe { archive::nd_meta_blank(samples, meta) }
+}
+
+pub fn meta_combine(left: &mut [u64; 28], right: &[u64; 28]) -> u32 {
+    unsafe { archive::nd_meta_combine(left, right) }
+}
+
+pub fn book_save(book: &mut [u8], settings: &[u8; 41], version: &mut u32) -> u32 {
+    unsafe { archive::nd_book_save(book.as_mut_ptr(), book.len(), settings, version) }
+}
+
+pub fn book_read(book: &[u8], version: u32, settings: &mut [u8; 41]) -> u32 {
+    unsafe { archive::nd_book_read(book.as_ptr(), book.len(), version, settings) }
+}
+
+pub fn book_restore(book: &mut [u8], version: u32, added: &mut u32) -> u32 {
+    unsafe { archive::nd_book_restore(book.as_mut_ptr(), book.len(), version, added) }
 }
 
 /// A table of up to 64 rows and its companions sheet, as they are lent.
@@ -230,7 +281,7 @@ const WORDS: usize = 8;
 pub fn apply_haplotypes(settings: &Settings, table: &Table, haplotypes: &[Haplotype], room: &mut Room) -> Result<Vec<Result<Answer, Refusal>>, Refusal> {
     room.grow(settings, table.len());
     let mut left = Left::new(table.len(), haplotypes.len(), 0);
-    let number = search_all(settings, table, &Stretches::of(haplotypes), room, &mut left);
+    let number = search_all(settings, table, &Stretches::of(haplotypes, settings.letters), room, &mut left);
     checked(number, ())?;
     Ok((0..haplotypes.len()).map(|at| left.answer(table.len(), at)).collect())
 }
@@ -245,11 +296,11 @@ struct Stretches {
 }
 
 impl Stretches {
-    fn of(haplotypes: &[Haplotype]) -> Self {
+    fn of(haplotypes: &[Haplotype], letters: u8) -> Self {
         let mut all = Self::default();
         for haplotype in haplotypes {
             all.sizes.extend_from_slice(haplotype.sizes());
-            all.features.extend_from_slice(haplotype.features());
+            all.features.extend_from_slice(haplotype.features(letters));
             all.part_ends.push(all.sizes.len() as u64);
             all.feature_ends.push(all.features.len() as u64);
         }
@@ -304,7 +355,7 @@ fn target_of(number: u32) -> Target {
 }
 
 /// The settings as the archive takes them: flags as 0 and 1, floats by their bits.
-fn words(s: &Settings) -> [u32; 13] {
+fn words(s: &Settings) -> [u32; 14] {
     [
         s.k.into(),
         s.squish.into(),
@@ -315,6 +366,7 @@ fn words(s: &Settings) -> [u32; 13] {
         s.fnmax,
         s.pileupmax,
         s.minkfreq,
+        s.letters.into(),
         s.sizesim.to_bits(),
         s.seqsim.to_bits(),
         s.fpenalty.to_bits(),
@@ -340,14 +392,14 @@ fn search(
             table.ends().len(),
             table.sizes().as_ptr(),
             table.sizes().len(),
-            table.features().as_ptr(),
-            table.features().len(),
+            table.features(settings.letters).as_ptr(),
+            table.features(settings.letters).len(),
             table.record_numbers().as_ptr(),
             table.record_numbers().len(),
             haplotype.sizes().as_ptr(),
             haplotype.sizes().len(),
-            haplotype.features().as_ptr(),
-            haplotype.features().len(),
+            haplotype.features(settings.letters).as_ptr(),
+            haplotype.features(settings.letters).len(),
             room.links.as_mut_ptr(),
             room.links.len(),
             room.keys.as_mut_ptr(),
@@ -371,8 +423,8 @@ fn search_all(settings: &Settings, table: &Table, parts: &Stretches, room: &mut 
             table.ends().len(),
             table.sizes().as_ptr(),
             table.sizes().len(),
-            table.features().as_ptr(),
-            table.features().len(),
+            table.features(settings.letters).as_ptr(),
+            table.features(settings.letters).len(),
             table.record_numbers().as_ptr(),
             table.record_numbers().len(),
             parts.part_ends.as_ptr(),
@@ -393,6 +445,32 @@ fn search_all(settings: &Settings, table: &Table, parts: &Stretches, room: &mut 
             left.records.len(),
             left.reports.as_mut_ptr(),
             left.reports.len(),
+        )
+    }
+}
+
+pub fn check_path(settings: &Settings, table: &Table, haplotype: &Haplotype, rows: &[u32], positions: &[u32], score: f32, yes: &mut u32) -> u32 {
+    unsafe {
+        archive::nd_check_path(
+            &words(settings),
+            table.starts().as_ptr(),
+            table.starts().len(),
+            table.ends().as_ptr(),
+            table.ends().len(),
+            table.sizes().as_ptr(),
+            table.sizes().len(),
+            table.features(settings.letters).as_ptr(),
+            table.features(settings.letters).len(),
+            haplotype.sizes().as_ptr(),
+            haplotype.sizes().len(),
+            haplotype.features(settings.letters).as_ptr(),
+            haplotype.features(settings.letters).len(),
+            rows.as_ptr(),
+            rows.len(),
+            positions.as_ptr(),
+            positions.len(),
+            score,
+            yes,
         )
     }
 }
@@ -462,7 +540,7 @@ mod tests {
         let mut room = Room::new();
         room.grow(&settings, table.len());
         let mut left = Left { rows: vec![MARK; rows], records: vec![MARK; records], reports: vec![MARK; reports] };
-        let number = search_all(&settings, &table, &Stretches::of(&haplotypes), &mut room, &mut left);
+        let number = search_all(&settings, &table, &Stretches::of(&haplotypes, settings.letters), &mut room, &mut left);
         (number, left)
     }
 
@@ -485,7 +563,7 @@ mod tests {
         // with one haplotype its own refusals too
         let settings = Settings { k: 0, ..Settings::default() };
         let mut left = Left { rows: vec![MARK; 2], records: vec![MARK; 2], reports: vec![MARK; 8] };
-        let number = search_all(&settings, &Table::new(1), &Stretches::of(&[Haplotype::new(1)]), &mut Room::new(), &mut left);
+        let number = search_all(&settings, &Table::new(1), &Stretches::of(&[Haplotype::new(1)], 0), &mut Room::new(), &mut left);
         assert_eq!((number, left.rows, left.records, left.reports), (1, vec![MARK; 2], vec![MARK; 2], vec![MARK; 8]));
     }
 

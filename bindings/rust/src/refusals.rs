@@ -62,14 +62,32 @@ pub enum Refusal {
     LittleTextRoom,
     /// 44: a row that isn't there
     MissingRow,
+    /// 45: a version that isn't there
+    MissingVersion,
+    /// 46: all 255 versions are used
+    VersionsUsed,
+    /// 47: fewer than 43 bytes left in the book
+    LittleBookRoom,
+    /// 48: a book that breaks its rules or holds settings we would refuse
+    BrokenBook,
     /// 49: a sheet that isn't its table's, or a table that breaks 5 to 8
     NotItsSheet,
+    /// 50: a sample count not 1 to 8
+    BadSamples,
+    /// 51: a sample index at or above the sample count
+    NoSuchSample,
+    /// 52: unequal sample counts
+    UnequalSamples,
+    /// 53: a coverage sum passes 64 bits
+    CoverageOverflow,
+    /// 54: a proposal over 64 rows or over 64 positions
+    LongProposal,
     /// A number that this table has not: the library that is linked is of another edition than this crate.
     Other(u32),
 }
 
 /// Number, case and words of each.
-pub(crate) const TABLE: [(u32, Refusal, &str); 30] = [
+pub(crate) const TABLE: [(u32, Refusal, &str); 39] = [
     (1, Refusal::BadK, "k not 1 to 6"),
     (2, Refusal::BadFloat, "a float setting is NaN or outside its range"),
     (3, Refusal::BadNumber, "a whole-number setting over its limit"),
@@ -99,5 +117,14 @@ pub(crate) const TABLE: [(u32, Refusal, &str); 30] = [
     (42, Refusal::TooManyLines, "a sixty-fifth line of BED"),
     (43, Refusal::LittleTextRoom, "too little room for BED text"),
     (44, Refusal::MissingRow, "a row that isn't there"),
+    (45, Refusal::MissingVersion, "a version that isn't there"),
+    (46, Refusal::VersionsUsed, "all 255 versions are used"),
+    (47, Refusal::LittleBookRoom, "fewer than 43 bytes left in the book"),
+    (48, Refusal::BrokenBook, "a book that breaks its rules or holds settings we would refuse"),
     (49, Refusal::NotItsSheet, "a sheet that isn't its table's, or a table that breaks 5 to 8"),
+    (50, Refusal::BadSamples, "a sample count not 1 to 8"),
+    (51, Refusal::NoSuchSample, "a sample index at or above the sample count"),
+    (52, Refusal::UnequalSamples, "unequal sample counts"),
+    (53, Refusal::CoverageOverflow, "a coverage sum passes 64 bits"),
+    (54, Refusal::LongProposal, "a proposal over 64 rows or over 64 positions"),
 ];

@@ -22,6 +22,8 @@ pub struct Settings {
     pub pileupmax: u32,
     /// K-mers seen fewer times in both rows together are passed over.
     pub minkfreq: u32,
+    /// How bytes other than A, C, G and T in either case are read: 0 counts each as A, 1 leaves out each window that holds one.
+    pub letters: u8,
     /// The least similarity of sizes, 0 to 1.
     pub sizesim: f32,
     /// The least similarity of sequences, 0 to 1.
@@ -44,6 +46,7 @@ impl Default for Settings {
             fnmax: 3,
             pileupmax: 12,
             minkfreq: 2,
+            letters: 0,
             sizesim: 0.9,
             seqsim: 0.9,
             fpenalty: 0.1,

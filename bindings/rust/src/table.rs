@@ -1,9 +1,19 @@
 //! What a search is given: the variant table and the haplotype's parts, as flat rows.
-use crate::{seq_to_kmer, Refusal};
+use crate::{seq_to_kmer, HaplotypeMeta, Refusal};
 
 /// The number of some letters as a size. More than any size can be is refused by 13 before the size is looked at.
 fn signed(letters: &[u8]) -> i32 {
     i32::try_from(letters.len()).unwrap_or(i32::MAX)
+}
+
+/// The features where the settings' reading is the one that they were counted by. The library cannot see how a row was counted: rows of
+/// another reading are no rows of these settings, so none are lent, and its own 6 tells it, as it does of another k.
+fn read_alike(features: &[i32], counted_by: u8, letters: u8) -> &[i32] {
+    if counted_by == letters {
+        features
+    } else {
+        &[]
+    }
 }
 
 /// Variants in the order of their starts. A variant's row number is how many were added before it; its record number names it in
@@ -11,6 +21,7 @@ fn signed(letters: &[u8]) -> i32 {
 #[derive(Clone, Debug, Default, PartialEq)]
 pub struct Table {
     k: u8,
+    letters: u8,
     starts: Vec<u64>,
     ends: Vec<u64>,
     sizes: Vec<i32>,
@@ -19,14 +30,19 @@ pub struct Table {
 }
 
 impl Table {
-    /// A table of no rows, whose letters will be counted by windows of `k`. Each variant that is added gets its row number as its
+    /// A table of no rows, whose letters will be counted by windows of `k`, every byte of them: that is the reading of `letters` 0, and
+    /// [`Settings::table`](crate::Settings::table) gives the settings' own. Each variant that is added gets its row number as its
     /// record number.
     ///
     /// ```
     /// assert!(ndigomarr::Table::new(4).is_empty());
     /// ```
     pub fn new(k: u8) -> Self {
-        Self { k, ..Self::default() }
+        Self::read_by(k, 0)
+    }
+
+    pub(crate) fn read_by(k: u8, letters: u8) -> Self {
+        Self { k, letters, ..Self::default() }
     }
 
     /// The same rows with the caller's own record numbers, one for each row, in the rows' order; a variant added later gets its row
@@ -82,7 +98,7 @@ impl Table {
     }
 
     /// Adds a variant; its letters are counted, downwards for a `negative` sequence. With fewer letters than k it has no window, and a search
-    /// refuses the table by 16; a part may have as few.
+    /// refuses the table by 16; so it does where `letters` 1 leaves out every window. A part may have as few.
     ///
     /// ```
     /// let mut table = ndigomarr::Table::new(1);
@@ -91,16 +107,16 @@ impl Table {
     /// # Ok::<(), ndigomarr::Refusal>(())
     /// ```
     pub fn add(&mut self, start: u64, end: u64, size: i32, letters: &[u8], negative: bool) -> Result<(), Refusal> {
-        let row = seq_to_kmer(letters, self.k, negative)?;
+        let row = seq_to_kmer(letters, self.k, negative, self.letters)?;
         self.add_counted(start, end, size, &row);
         Ok(())
     }
 
-    /// Adds a variant whose features were counted already.
+    /// Adds a variant whose features were counted already, by the table's k and reading.
     ///
     /// ```
     /// let mut table = ndigomarr::Table::new(1);
-    /// table.add_counted(10, 10, 2, &ndigomarr::seq_to_kmer(b"AG", 1, false)?);
+    /// table.add_counted(10, 10, 2, &ndigomarr::seq_to_kmer(b"AG", 1, false, 0)?);
     /// assert_eq!(table.len(), 1);
     /// # Ok::<(), ndigomarr::Refusal>(())
     /// ```
@@ -142,8 +158,8 @@ impl Table {
         &self.sizes
     }
 
-    pub(crate) fn features(&self) -> &[i32] {
-        &self.features
+    pub(crate) fn features(&self, letters: u8) -> &[i32] {
+        read_alike(&self.features, self.letters, letters)
     }
 
     pub(crate) fn record_numbers(&self) -> &[u32] {
@@ -151,22 +167,49 @@ impl Table {
     }
 }
 
-/// A haplotype: its parts in order.
+/// A haplotype: its parts in order, and whose reads it came from where the caller says.
 #[derive(Clone, Debug, Default, PartialEq)]
 pub struct Haplotype {
     k: u8,
+    letters: u8,
     sizes: Vec<i32>,
     features: Vec<i32>,
+    meta: Option<HaplotypeMeta>,
 }
 
 impl Haplotype {
-    /// A haplotype of no parts, whose letters will be counted by windows of `k`.
+    /// A haplotype of no parts, whose letters will be counted by windows of `k`, every byte of them: that is the reading of `letters` 0,
+    /// and [`Settings::haplotype`](crate::Settings::haplotype) gives the settings' own.
     ///
     /// ```
     /// assert!(ndigomarr::Haplotype::new(4).is_empty());
     /// ```
     pub fn new(k: u8) -> Self {
-        Self { k, ..Self::default() }
+        Self::read_by(k, 0)
+    }
+
+    pub(crate) fn read_by(k: u8, letters: u8) -> Self {
+        Self { k, letters, ..Self::default() }
+    }
+
+    /// The same haplotype with this data, which no search looks at and [`apply_with_meta`](crate::apply_with_meta) hands back.
+    ///
+    /// ```
+    /// let meta = ndigomarr::HaplotypeMeta::new_blank(2)?;
+    /// assert_eq!(ndigomarr::Haplotype::new(4).with_meta(meta).meta(), Some(meta));
+    /// # Ok::<(), ndigomarr::Refusal>(())
+    /// ```
+    pub fn with_meta(self, meta: HaplotypeMeta) -> Self {
+        Self { meta: Some(meta), ..self }
+    }
+
+    /// The data that it carries, if any.
+    ///
+    /// ```
+    /// assert_eq!(ndigomarr::Haplotype::new(4).meta(), None);
+    /// ```
+    pub fn meta(&self) -> Option<HaplotypeMeta> {
+        self.meta
     }
 
     /// Adds a part in which these letters are inserted.
@@ -206,12 +249,12 @@ impl Haplotype {
     /// # Ok::<(), ndigomarr::Refusal>(())
     /// ```
     pub fn add(&mut self, size: i32, letters: &[u8], negative: bool) -> Result<(), Refusal> {
-        let row = seq_to_kmer(letters, self.k, negative)?;
+        let row = seq_to_kmer(letters, self.k, negative, self.letters)?;
         self.add_counted(size, &row);
         Ok(())
     }
 
-    /// Adds a part whose features were counted already.
+    /// Adds a part whose features were counted already, by the haplotype's k and reading.
     ///
     /// ```
     /// let mut haplotype = ndigomarr::Haplotype::new(1);
@@ -245,7 +288,7 @@ impl Haplotype {
         &self.sizes
     }
 
-    pub(crate) fn features(&self) -> &[i32] {
-        &self.features
+    pub(crate) fn features(&self, letters: u8) -> &[i32] {
+        read_alike(&self.features, self.letters, letters)
     }
 }

@@ -61,6 +61,9 @@ fn settings_outside_their_limits() {
     assert_eq!(with(&|s| s.fnmax = 65_536), 3);
     assert_eq!(with(&|s| s.pileupmax = 13), 3);
     assert_eq!(with(&|s| s.minkfreq = 16_777_217), 3);
+    for letters in [2, 3, 255] {
+        assert_eq!(with(&|s| s.letters = letters), 3);
+    }
 }
 
 #[test]

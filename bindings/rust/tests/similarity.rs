@@ -9,20 +9,43 @@ fn number<T: std::fmt::Debug>(said: Result<T, Refusal>) -> u32 {
 fn counts_windows_of_k_letters() {
     let mut wanted = vec![0; 16];
     (wanted[2], wanted[9], wanted[7]) = (1, 1, 1);
-    assert_eq!(seq_to_kmer(b"ACGT", 2, false), Ok(wanted.clone()));
-    assert_eq!(seq_to_kmer(b"acgt", 2, true), Ok(wanted.iter().map(|x| -x).collect()));
-    assert_eq!(seq_to_kmer(b"AC", 3, false), Ok(vec![0; 64]));
-    assert_eq!(seq_to_kmer(b"", 1, false), Ok(vec![0; 4]));
-    assert_eq!(seq_to_kmer(&vec![b'N'; 131_072], 6, false).map(|row| row[0]), Ok(131_067));
+    assert_eq!(seq_to_kmer(b"ACGT", 2, false, 0), Ok(wanted.clone()));
+    assert_eq!(seq_to_kmer(b"acgt", 2, true, 0), Ok(wanted.iter().map(|x| -x).collect()));
+    assert_eq!(seq_to_kmer(b"AC", 3, false, 0), Ok(vec![0; 64]));
+    assert_eq!(seq_to_kmer(b"", 1, false, 0), Ok(vec![0; 4]));
+    assert_eq!(seq_to_kmer(&vec![b'N'; 131_072], 6, false, 0).map(|row| row[0]), Ok(131_067));
+}
+
+#[test]
+fn what_unread_letters_do_in_each_reading() {
+    // N, R, - and 0xff are no letters that were read; n is as N, and a c g t are as A C G T
+    assert_eq!(seq_to_kmer(b"aNcR-\xffnT", 1, false, 0), Ok(vec![6, 0, 1, 1]));
+    assert_eq!(seq_to_kmer(b"aNcR-\xffnT", 1, false, 1), Ok(vec![1, 0, 1, 1]));
+    // AC and GT are windows of two, CN, NG are not
+    let mut wanted = vec![0; 16];
+    (wanted[2], wanted[7]) = (-1, -1);
+    assert_eq!(seq_to_kmer(b"ACNGT", 2, true, 1), Ok(wanted));
+    assert_eq!(seq_to_kmer(b"ACNGT", 3, false, 1), Ok(vec![0; 64]));
+    assert_eq!(seq_to_kmer(b"ACNGTAGC", 3, false, 1), seq_to_kmer(b"GTAGC", 3, false, 0));
+    assert_eq!(seq_to_kmer(&vec![b'N'; 131_072], 6, false, 1), Ok(vec![0; 4_096]));
+    for letters in [&b"acGGttCATG"[..], b"", b"AC"] {
+        assert_eq!(seq_to_kmer(letters, 3, true, 1), seq_to_kmer(letters, 3, true, 0));
+    }
 }
 
 #[test]
 fn the_counter_refuses() {
-    assert_eq!(number(seq_to_kmer(b"ACGT", 0, false)), 1);
-    assert_eq!(number(seq_to_kmer(b"ACGT", 7, false)), 1);
-    assert_eq!(number(seq_to_kmer(&vec![b'A'; 131_073], 6, false)), 13);
+    assert_eq!(number(seq_to_kmer(b"ACGT", 0, false, 0)), 1);
+    assert_eq!(number(seq_to_kmer(b"ACGT", 7, false, 0)), 1);
+    assert_eq!(number(seq_to_kmer(&vec![b'A'; 131_073], 6, false, 0)), 13);
+    // a reading other than 0 or 1 comes after k, and before room and letters
+    for letters in [2, 3, 255] {
+        assert_eq!(number(seq_to_kmer(b"ACGT", 2, false, letters)), 3);
+        assert_eq!(number(seq_to_kmer(b"ACGT", 7, false, letters)), 1);
+        assert_eq!(number(seq_to_kmer_into(&vec![b'A'; 131_073], 2, false, letters, &mut [5; 15])), 3);
+    }
     let mut row = [5; 15];
-    assert_eq!(number(seq_to_kmer_into(b"ACGT", 2, false, &mut row)), 6);
+    assert_eq!(number(seq_to_kmer_into(b"ACGT", 2, false, 0, &mut row)), 6);
     assert_eq!(row, [5; 15]);
 }
 

@@ -1,17 +1,17 @@
 -- Only the row of 16 has that number, and its test is found exactly where every entry of a variant's row is 0. The entries of a counted row sum to plus or minus
--- the number of its windows, so that no row of 0 has a window; and without windows each entry counts none. Assumes nothing.
+-- the number of the windows kept, so that no row of 0 has one; and without windows each entry counts none. That is so of whatever is read. Assumes nothing.
 use Prim.Native.Nat.{ℕ, zero, suc, _+_, _-_, _*_, _^_, _≤_, _<_}
 use native.Mathlib.Omega.{arith}
 use mathlib.Core.Path.{_≡_, refl, sym, ap, _∙_}
 use mathlib.Core.Bool.{Bool, true, false}
 use mathlib.Core.List.{List, [], _∷_, _++_}
-use borrow.Author.Tests.{eqb-true, ltb-true, ltb-false}
-use lib.Dec.{ltb}
+use borrow.Author.Tests.{eqb-true, eq-eqb, ne-eqb, ltb-true, ltb-false}
+use lib.Dec.{ltb, eqb}
 use lib.IntN.{ℤ, pos, negsuc, natAbs}
 use lib.ListN.{length, getD, drop, length-take}
 use lib.Seq.{getD-take, getD-drop}
 use Rattle.paths.proofs.BooleanLaws.{clash, and-both}
-use Rattle.metrics.specs.Letters.{everyByte, windowsReading, timesIn, signed, tableFrom, countsReading, countsOf, entriesOf, EntriesSum, EntriesSumToLength}
+use Rattle.metrics.specs.Letters.{everyByte, readBy, windowsReading, timesIn, signed, tableFrom, countsReading, countsOf, countsBy, entriesOf, EntriesSum, EntriesSumToLength}
 use Rattle.metrics.proofs.Windows.{signed-size}
 use Rattle.metrics.proofs.Totals.{entries-sum, entries-sum-to-length}
 use Rattle.params.specs.Numbers.{Call, Rule, rule, firstOf, rowAt, isZero, allZero, emptyRow, roomRules, callRules, firstFault}
@@ -107,36 +107,52 @@ no-length : {A : Type 0} (l : List A) → length l ≡ 0 → l ≡ []
 no-length [] h = refl
 no-length (x ∷ l) h = absurd (omega arith)
 
-module _ (k : ℕ) (negative : Bool) (letters : List ℕ) where
+-- whatever is read
+module _ (reads : ℕ → Bool) (k : ℕ) (negative : Bool) (letters : List ℕ) where
   abbrev row : List ℤ
-  row = countsOf k negative letters
+  row = countsReading reads k negative letters
 
   abbrev windows : ℕ
-  windows = length (windowsReading everyByte k letters)
-
-  windows-are : 1 ≤ k → windows ≡ length letters + 1 - k
-  unfolding countsOf EntriesSum EntriesSumToLength
-  windows-are h =
-      sym (signed-size negative windows) ∙ (ap natAbs (sym (entries-sum everyByte k negative letters) ∙ entries-sum-to-length k negative letters h) ∙ signed-size negative (length letters + 1 - k))
+  windows = length (windowsReading reads k letters)
 
   zero-windows : allZero row ≡ true → windows ≡ 0
-  unfolding countsOf EntriesSum
-  zero-windows h = sym (signed-size negative windows) ∙ ap natAbs (sym (entries-sum everyByte k negative letters) ∙ zeros-sum row h)
+  unfolding EntriesSum
+  zero-windows h = sym (signed-size negative windows) ∙ ap natAbs (sym (entries-sum reads k negative letters) ∙ zeros-sum row h)
 
   windows-zero : windows ≡ 0 → allZero row ≡ true
-  unfolding countsOf countsReading
-  windows-zero h = rw (no-length (windowsReading everyByte k letters) h) (no-windows negative 0 (4 ^ k))
+  unfolding countsReading
+  windows-zero h = rw (no-length (windowsReading reads k letters) h) (no-windows negative 0 (4 ^ k))
 
-  fewer-than-k : 1 ≤ k → allZero row ≡ ltb (length letters) k
-  fewer-than-k h = go (allZero row) refl (ltb (length letters) k) refl
+  zero-without : allZero row ≡ eqb windows 0
+  zero-without = go (allZero row) refl
     where
-      go : (a : Bool) → allZero row ≡ a → (b : Bool) → ltb (length letters) k ≡ b → a ≡ b
-      go true p true q = refl
-      go false p false q = refl
-      go true p false q = absurd (omega (arith, windows-are h, zero-windows p, ltb-false (length letters) k q))
-      go false p true q =
-          let none : windows ≡ 0 = omega (arith, windows-are h, ltb-true (length letters) k q) in
-          absurd (clash (allZero row) p (windows-zero none))
+      go : (t : Bool) → allZero row ≡ t → t ≡ eqb windows 0
+      go true p = sym (eq-eqb windows 0 (zero-windows p))
+      go false p = sym (ne-eqb windows 0 (λ none. clash (allZero row) p (windows-zero none)))
+
+-- document 01's reading
+none-left : (n k : ℕ) → eqb (n + 1 - k) 0 ≡ ltb n k
+none-left n k = go (ltb n k) refl
+  where
+    go : (t : Bool) → ltb n k ≡ t → eqb (n + 1 - k) 0 ≡ t
+    go true p = eq-eqb (n + 1 - k) 0 (omega (arith, ltb-true n k p))
+    go false p = ne-eqb (n + 1 - k) 0 (λ none. omega (arith, ltb-false n k p))
+
+module _ (k : ℕ) (negative : Bool) (letters : List ℕ) (h : 1 ≤ k) where
+  windows-are : windows everyByte k negative letters ≡ length letters + 1 - k
+  unfolding countsOf EntriesSum EntriesSumToLength
+  windows-are =
+      sym (signed-size negative (windows everyByte k negative letters))
+      ∙ (ap natAbs (sym (entries-sum everyByte k negative letters) ∙ entries-sum-to-length k negative letters h) ∙ signed-size negative (length letters + 1 - k))
+
+  fewer-than-k : allZero (countsOf k negative letters) ≡ ltb (length letters) k
+  unfolding countsOf
+  fewer-than-k = zero-without everyByte k negative letters ∙ (ap (λ (n : ℕ). eqb n 0) windows-are ∙ none-left (length letters) k)
+
+-- by a reading
+no-window-kept : (reading k : ℕ) (negative : Bool) (letters : List ℕ) → allZero (countsBy reading k negative letters) ≡ eqb (length (windowsReading (readBy reading) k letters)) 0
+unfolding countsBy
+no-window-kept reading k negative letters = zero-without (readBy reading) k negative letters
 
 pub empty-rows : EmptyRows
 empty-rows = record {
@@ -144,4 +160,5 @@ empty-rows = record {
   empty-sixteen = always-empty;
   none-empty = λ c f r l h. clash (sixteen c) (passed-sixteen c f) (empty-found c r l h);
   short = fewer-than-k;
+  none-kept = no-window-kept;
 }

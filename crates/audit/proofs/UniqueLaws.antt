@@ -3,7 +3,7 @@ use mathlib.Core.Path.{_≡_, sym, ap, _∙_}
 use mathlib.Core.Bool.{Bool, false}
 use mathlib.Core.List.{List}
 use Prim.Native.Nat.{ℕ}
-use Rattle.metrics.specs.Letters.{countsOf, rowAfter}
+use Rattle.metrics.specs.Letters.{countsBy, rowAfter}
 use Rattle.form.specs.Job.{jobBytes}
 use Rattle.writer.specs.Writing.{jobFrom, outAfter}
 use Rattle.text.specs.Written.{Written}
@@ -76,12 +76,13 @@ unique = record {
   seqsim = λ a b minkfreq. one;
   bits-of = λ x. one;
   overlaps = λ s1 e1 s2 e2. one;
-  seq-to-kmer = λ seq k negative out. through (λ r. rowAfter r (countsOf k negative seq) out);
+  seq-to-kmer = λ seq k negative reading out. through (λ r. rowAfter r (countsBy reading k negative seq) out);
   clear-row = λ row. one;
   entries = λ k. one;
   magnitude = λ x. one;
   row-over = λ a limit. one;
   search-mode = λ s v. one;
+  settings-fault = λ s. one;
   queue-room = λ links keys. one;
   call-fault = λ s starts ends sizes features partSizes partFeatures queueRoom answerRoom. one;
   parts-fault = λ k partSizes partFeatures. one;
@@ -90,12 +91,23 @@ unique = record {
   count-fault = λ starts ends cap. one;
   count-chains = λ starts ends full cap. one;
   apply-haplotype = λ s starts ends sizes features partSizes partFeatures links keys rows. agree;
+  check-path = λ s starts ends sizes features partSizes partFeatures rows positions score. one;
   put-report = λ answer report. one;
   apply-haplotypes = λ s starts ends sizes features partEnds featureEnds partSizes partFeatures links keys rows reports x y p q.
       agree x y (recorded (x .says) p) (recorded (y .says) q);
   numbered-fault = λ s starts ends sizes features numbers partSizes partFeatures queueRoom answerRoom recordRoom. one;
   apply-numbered = λ s starts ends sizes features numbers partSizes partFeatures links keys rows records x y p q. agree x y (recorded (x .says) p) (recorded (y .says) q);
   apply-numbered-haplotypes = λ s starts ends sizes features numbers partEnds featureEnds partSizes partFeatures links keys rows records reports x y p q.
+      agree x y (recorded-both (x .says) p) (recorded-both (y .says) q);
+  new = λ index samples. one;
+  new-blank = λ samples. one;
+  combine = λ left right. one;
+  meta-of-words = λ words. one;
+  words-of-meta = λ meta. one;
+  combine-all = λ metas. one;
+  apply-with-meta = λ s starts ends sizes features numbers partSizes partFeatures meta links keys rows records x y p q.
+      agree x y (recorded (x .says) p) (recorded (y .says) q);
+  apply-haplotypes-with-meta = λ s starts ends sizes features numbers partEnds featureEnds partSizes partFeatures metas links keys rows records reports x y p q.
       agree x y (recorded-both (x .says) p) (recorded-both (y .says) q);
   u8-at = λ s at. one;
   u32-at = λ s at. one;
@@ -110,6 +122,8 @@ unique = record {
   body-len = λ kind. one;
   record-at = λ s at. one;
   read-settings = λ b. one;
+  read-settings41 = λ b. one;
+  settings41-fault = λ b. one;
   write-settings = λ out at s. one;
   scan = λ bytes. one;
   read-job = λ bytes t. two;
@@ -125,8 +139,11 @@ unique = record {
   remove = λ starts ends sheet rows. removed;
   together = λ starts ends sheet rows a b. one;
   count = λ starts ends sheet rows row. one;
+  save = λ book settings. two;
+  read = λ book version settings. two;
+  restore = λ book version. two;
   answer = λ input out. two;
-  nd-seq-to-kmer = λ letters k negative row. two;
+  nd-seq-to-kmer = λ text k negative reading row. two;
   nd-seqsim = λ a b minkfreq place. two;
   nd-sizesim = λ a b place. two;
   nd-count-chains = λ starts ends full cap count. two;
@@ -141,4 +158,11 @@ unique = record {
   nd-companions-remove = λ starts ends sheet rows. removed;
   nd-companions-together = λ starts ends sheet rows a b word. two;
   nd-companions-count = λ starts ends sheet rows row count. two;
+  nd-meta-new = λ index samples meta. two;
+  nd-meta-blank = λ samples meta. two;
+  nd-meta-combine = λ left right. two;
+  nd-check-path = λ settings starts ends sizes features partSizes partFeatures rows positions score word. two;
+  nd-book-save = λ book settings version x y u v p q. two x y u v (both u p) (both v q);
+  nd-book-read = λ book version settings. two;
+  nd-book-restore = λ book version added x y u v p q. two x y u v (both u p) (both v q);
 }

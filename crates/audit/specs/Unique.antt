@@ -12,15 +12,23 @@ use Rattle.metrics.specs.declared.kmer.Counted.{Counted}
 use Rattle.metrics.specs.Promises.{SizesimPromise, SimilarityPromise, SeqsimPromise, OverlapsPromise, BitsOfPromise}
 use Rattle.metrics.specs.Promises.{SeqToKmerPromise, ClearRowPromise, EntriesPromise, MagnitudePromise, RowOverPromise}
 use Rattle.params.specs.declared.Settings.{Settings}
-use Rattle.params.specs.Promises.{SearchModePromise, QueueRoomPromise, CallFaultPromise, PartsFaultPromise, CountFaultPromise, SeveralFaultPromise, EarlierPromise}
+use Rattle.params.specs.Promises.{SearchModePromise, SettingsFaultPromise, QueueRoomPromise, CallFaultPromise, PartsFaultPromise, CountFaultPromise, SeveralFaultPromise, EarlierPromise}
 use Rattle.kplib.specs.Answer.{searches}
 use Rattle.kplib.specs.declared.vargraph.ChainCount.{ChainCount}
 use Rattle.kplib.specs.declared.traverse.Answer.{Answer}
+use Rattle.kplib.specs.declared.checkpath.PathCheck.{PathCheck}
 use Rattle.kplib.specs.Haplotypes.{severalSearches}
-use Rattle.kplib.specs.Promises.{callLent, severalLent, CountChainsPromise, ApplyHaplotypePromise, PutReportPromise, ApplyHaplotypesPromise}
+use Rattle.kplib.specs.Promises.{callLent, severalLent, CountChainsPromise, ApplyHaplotypePromise, PutReportPromise, ApplyHaplotypesPromise, CheckPathPromise}
 use Rattle.dive.specs.Numbered.{numberedSearches}
 use Rattle.dive.specs.NumberedSeveral.{numberedSeveralSearches}
 use Rattle.dive.specs.Promises.{numberedLent, numberedSeveralLent, NumberedFaultPromise, ApplyNumberedPromise, ApplyNumberedHaplotypesPromise}
+use Rattle.dive.specs.Promises.{ApplyWithMetaPromise, ApplyHaplotypesWithMetaPromise}
+use Rattle.dive.specs.declared.told.Told.{Told}
+use Rattle.dive.specs.declared.told.ToldSeveral.{ToldSeveral}
+use Rattle.meta.specs.declared.HaplotypeMeta.{HaplotypeMeta}
+use Rattle.meta.specs.declared.Made.{Made}
+use Rattle.meta.specs.declared.Combined.{Combined}
+use Rattle.meta.specs.Promises.{NewPromise, NewBlankPromise, CombinePromise, MetaOfWordsPromise, WordsOfMetaPromise, CombineAllPromise}
 use Rattle.form.specs.declared.records.Kind.{Kind}
 use Rattle.form.specs.declared.records.Record.{Record}
 use Rattle.form.specs.declared.records.Scan.{Scan}
@@ -28,7 +36,7 @@ use Rattle.reader.specs.declared.Reading.{Reading}
 use Rattle.writer.specs.declared.Writing.{Writing}
 use Rattle.form.specs.Lent.{Lent}
 use Rattle.fields.specs.Promises.{U8AtPromise, U32AtPromise, U64AtPromise, I32OfPromise, U32OfPromise, FloatOfPromise, PutU8Promise, PutU32Promise, PutU64Promise}
-use Rattle.form.specs.Promises.{ScanPromise, KindOfPromise, BodyLenPromise, RecordAtPromise, ReadSettingsPromise, WriteSettingsPromise}
+use Rattle.form.specs.Promises.{ScanPromise, KindOfPromise, BodyLenPromise, RecordAtPromise, ReadSettingsPromise, ReadSettings41Promise, Settings41FaultPromise, WriteSettingsPromise}
 use Rattle.reader.specs.Promises.{ReadJobPromise}
 use Rattle.writer.specs.Promises.{WriteJobPromise}
 use Rattle.text.specs.Promises.{PutBytesPromise, PutDigitsPromise, PutRefusedPromise, PutHapPromise, PutAnswerPromise}
@@ -39,11 +47,15 @@ use Rattle.companions.specs.Companions.{Companions}
 use Rattle.companions.specs.declared.Paired.{Paired}
 use Rattle.companions.specs.declared.Later.{Later}
 use Rattle.companions.specs.Promises.{AddPromise, RemovePromise, TogetherPromise, CountPromise}
+use Rattle.book.specs.declared.Saved.{Saved}
+use Rattle.book.specs.Promises.{SavePromise, ReadPromise, RestorePromise}
 use Rattle.desk.specs.Promises.{AnswerPromise}
 use Rattle.capi.specs.Words.{settingsOfWords}
 use Rattle.capi.specs.Promises.{NdSeqToKmerPromise, NdSeqsimPromise, NdSizesimPromise, NdCountChainsPromise, NdAnswerPromise, NdApplyHaplotypePromise, NdApplyHaplotypesPromise}
-use Rattle.capi.specs.Promises.{NdReadBedPromise, NdWriteBedPromise}
+use Rattle.capi.specs.Promises.{NdReadBedPromise, NdWriteBedPromise, NdCheckPathPromise}
 use Rattle.capi.specs.Promises.{NdCompanionsAddPromise, NdCompanionsRemovePromise, NdCompanionsTogetherPromise, NdCompanionsCountPromise}
+use Rattle.capi.specs.Promises.{NdMetaNewPromise, NdMetaBlankPromise, NdMetaCombinePromise}
+use Rattle.capi.specs.Promises.{NdBookSavePromise, NdBookReadPromise, NdBookRestorePromise}
 
 -- at most one result meets a promise of a value, and at most one pair a promise of what a slice holds at exit and a value
 abbrev pub One : (A : Type 0) → (A → Type 0) → Type 0
@@ -83,12 +95,13 @@ pub record Unique : Type 0 where
   pub seqsim : (a b : List ℤ) (minkfreq : ℕ) → One Sim (SeqsimPromise a b minkfreq)
   pub bits-of : (x : Float) → One ℕ (BitsOfPromise x)
   pub overlaps : (s1 e1 s2 e2 : ℕ) → One Bool (OverlapsPromise s1 e1 s2 e2)
-  pub seq-to-kmer : (seq : List ℕ) (k : ℕ) (negative : Bool) (out : List ℤ) → Two (List ℤ) Counted (SeqToKmerPromise seq k negative out)
+  pub seq-to-kmer : (seq : List ℕ) (k : ℕ) (negative : Bool) (reading : ℕ) (out : List ℤ) → Two (List ℤ) Counted (SeqToKmerPromise seq k negative reading out)
   pub clear-row : (row : List ℤ) → One (List ℤ) (ClearRowPromise row)
   pub entries : (k : ℕ) → One ℕ (EntriesPromise k)
   pub magnitude : (x : ℤ) → One ℕ (MagnitudePromise x)
   pub row-over : (a : List ℤ) (limit : ℕ) → One Bool (RowOverPromise a limit)
   pub search-mode : (s : Settings) (v : ℕ) → One Bool (SearchModePromise s v)
+  pub settings-fault : (s : Settings) → One ℕ (SettingsFaultPromise s)
   pub queue-room : (links keys : ℕ) → One ℕ (QueueRoomPromise links keys)
   pub call-fault : (s : Settings) (starts ends : List ℕ) (sizes features partSizes partFeatures : List ℤ) (queueRoom answerRoom : ℕ)
       → One ℕ (CallFaultPromise s starts ends sizes features partSizes partFeatures queueRoom answerRoom)
@@ -101,6 +114,8 @@ pub record Unique : Type 0 where
   pub apply-haplotype : (s : Settings) (starts ends : List ℕ) (sizes features partSizes partFeatures : List ℤ) (links keys rows : List ℕ)
       → Agree Answer (searches (callLent s starts ends sizes features partSizes partFeatures links keys rows))
       (λ x. ApplyHaplotypePromise s starts ends sizes features partSizes partFeatures links keys rows (x .links) (x .keys) (x .rows) (x .says))
+  pub check-path : (s : Settings) (starts ends : List ℕ) (sizes features partSizes partFeatures : List ℤ) (rows positions : List ℕ) (score : Float)
+      → One PathCheck (CheckPathPromise s starts ends sizes features partSizes partFeatures rows positions score)
   pub put-report : (answer : Answer) (report : List ℕ) → One (List ℕ) (PutReportPromise answer report)
   pub apply-haplotypes : (s : Settings) (starts ends : List ℕ) (sizes features : List ℤ) (partEnds featureEnds : List ℕ) (partSizes partFeatures : List ℤ) (links keys rows reports : List ℕ)
       → Agree (List ℕ × ℕ) (severalSearches (severalLent s starts ends sizes features partEnds featureEnds partSizes partFeatures links keys rows reports))
@@ -118,6 +133,23 @@ pub record Unique : Type 0 where
       (numberedSeveralLent s starts ends sizes features numbers partEnds featureEnds partSizes partFeatures links keys rows records reports))
       (λ x. ApplyNumberedHaplotypesPromise s starts ends sizes features numbers partEnds featureEnds partSizes partFeatures links keys rows records reports
       (x .links) (x .keys) (x .rows) (x .says .0) (x .says .1 .0) (x .says .1 .1))
+  pub new : (index samples : ℕ) → One Made (NewPromise index samples)
+  pub new-blank : (samples : ℕ) → One Made (NewBlankPromise samples)
+  pub combine : (left right : HaplotypeMeta) → One Combined (CombinePromise left right)
+  pub meta-of-words : (words : List ℕ) → One HaplotypeMeta (MetaOfWordsPromise words)
+  pub words-of-meta : (meta : HaplotypeMeta) → One (List ℕ) (WordsOfMetaPromise meta)
+  pub combine-all : (metas : List ℕ) → One Made (CombineAllPromise metas)
+  pub apply-with-meta : (s : Settings) (starts ends : List ℕ) (sizes features : List ℤ) (numbers : List ℕ) (partSizes partFeatures : List ℤ) (meta : HaplotypeMeta)
+      (links keys rows records : List ℕ)
+      → Agree (List ℕ × Told) (numberedSearches (numberedLent s starts ends sizes features numbers partSizes partFeatures links keys rows records))
+      (λ x. ApplyWithMetaPromise s starts ends sizes features numbers partSizes partFeatures meta links keys rows records
+      (x .links) (x .keys) (x .rows) (x .says .0) (x .says .1))
+  pub apply-haplotypes-with-meta : (s : Settings) (starts ends : List ℕ) (sizes features : List ℤ) (numbers partEnds featureEnds : List ℕ) (partSizes partFeatures : List ℤ)
+      (metas : List HaplotypeMeta) (links keys rows records reports : List ℕ)
+      → Agree (List ℕ × (List ℕ × ToldSeveral)) (numberedSeveralSearches
+      (numberedSeveralLent s starts ends sizes features numbers partEnds featureEnds partSizes partFeatures links keys rows records reports))
+      (λ x. ApplyHaplotypesWithMetaPromise s starts ends sizes features numbers partEnds featureEnds partSizes partFeatures metas links keys rows records reports
+      (x .links) (x .keys) (x .rows) (x .says .0) (x .says .1 .0) (x .says .1 .1))
   pub u8-at : (s : List ℕ) (at : ℕ) → One ℕ (U8AtPromise s at)
   pub u32-at : (s : List ℕ) (at : ℕ) → One ℕ (U32AtPromise s at)
   pub u64-at : (s : List ℕ) (at : ℕ) → One ℕ (U64AtPromise s at)
@@ -131,6 +163,8 @@ pub record Unique : Type 0 where
   pub body-len : (kind : Kind) → One ℕ (BodyLenPromise kind)
   pub record-at : (s : List ℕ) (at : ℕ) → One Record (RecordAtPromise s at)
   pub read-settings : (b : List ℕ) → One Settings (ReadSettingsPromise b)
+  pub read-settings41 : (b : List ℕ) → One Settings (ReadSettings41Promise b)
+  pub settings41-fault : (b : List ℕ) → One ℕ (Settings41FaultPromise b)
   pub write-settings : (out : List ℕ) (at : ℕ) (s : Settings) → One (List ℕ) (WriteSettingsPromise out at s)
   pub scan : (bytes : List ℕ) → One Scan (ScanPromise bytes)
   pub read-job : (bytes : List ℕ) (t : Lent) → Two Lent Reading (ReadsInto bytes t)
@@ -148,8 +182,11 @@ pub record Unique : Type 0 where
   pub remove : (starts ends : List ℕ) (sheet : List Bool) (rows : ℕ) → Two (List Bool × ℕ) ℕ (λ x. RemovePromise starts ends sheet rows (x .0) (x .1))
   pub together : (starts ends : List ℕ) (sheet : List Bool) (rows a b : ℕ) → One Paired (TogetherPromise starts ends sheet rows a b)
   pub count : (starts ends : List ℕ) (sheet : List Bool) (rows row : ℕ) → One Later (CountPromise starts ends sheet rows row)
+  pub save : (book settings : List ℕ) → Two (List ℕ) Saved (SavePromise book settings)
+  pub read : (book : List ℕ) (version : ℕ) (settings : List ℕ) → Two (List ℕ) ℕ (ReadPromise book version settings)
+  pub restore : (book : List ℕ) (version : ℕ) → Two (List ℕ) Saved (RestorePromise book version)
   pub answer : (input out : List ℕ) → Two (List ℕ) ℕ (AnswerPromise input out)
-  pub nd-seq-to-kmer : (letters : List ℕ) (k : ℕ) (negative : Bool) (row : List ℤ) → Two (List ℤ) ℕ (NdSeqToKmerPromise letters k negative row)
+  pub nd-seq-to-kmer : (text : List ℕ) (k : ℕ) (negative : Bool) (reading : ℕ) (row : List ℤ) → Two (List ℤ) ℕ (NdSeqToKmerPromise text k negative reading row)
   pub nd-seqsim : (a b : List ℤ) (minkfreq : ℕ) (place : Float) → Two Float ℕ (NdSeqsimPromise a b minkfreq place)
   pub nd-sizesim : (a b : ℕ) (place : Float) → Two Float ℕ (NdSizesimPromise a b place)
   pub nd-count-chains : (starts ends : List ℕ) (full : Bool) (cap count : ℕ) → Two ℕ ℕ (NdCountChainsPromise starts ends full cap count)
@@ -173,3 +210,11 @@ pub record Unique : Type 0 where
   pub nd-companions-remove : (starts ends : List ℕ) (sheet : List Bool) (rows : ℕ) → Two (List Bool × ℕ) ℕ (λ x. NdCompanionsRemovePromise starts ends sheet rows (x .0) (x .1))
   pub nd-companions-together : (starts ends : List ℕ) (sheet : List Bool) (rows a b word : ℕ) → Two ℕ ℕ (NdCompanionsTogetherPromise starts ends sheet rows a b word)
   pub nd-companions-count : (starts ends : List ℕ) (sheet : List Bool) (rows row count : ℕ) → Two ℕ ℕ (NdCompanionsCountPromise starts ends sheet rows row count)
+  pub nd-meta-new : (index samples : ℕ) (meta : List ℕ) → Two (List ℕ) ℕ (NdMetaNewPromise index samples meta)
+  pub nd-meta-blank : (samples : ℕ) (meta : List ℕ) → Two (List ℕ) ℕ (NdMetaBlankPromise samples meta)
+  pub nd-meta-combine : (left right : List ℕ) → Two (List ℕ) ℕ (NdMetaCombinePromise left right)
+  pub nd-check-path : (settings starts ends : List ℕ) (sizes features partSizes partFeatures : List ℤ) (rows positions : List ℕ) (score : Float) (word : ℕ)
+      → Two ℕ ℕ (NdCheckPathPromise settings starts ends sizes features partSizes partFeatures rows positions score word)
+  pub nd-book-save : (book settings : List ℕ) (version : ℕ) → Two (List ℕ) (ℕ × ℕ) (λ x u. NdBookSavePromise book settings version x (u .0) (u .1))
+  pub nd-book-read : (book : List ℕ) (version : ℕ) (settings : List ℕ) → Two (List ℕ) ℕ (NdBookReadPromise book version settings)
+  pub nd-book-restore : (book : List ℕ) (version added : ℕ) → Two (List ℕ) (ℕ × ℕ) (λ x u. NdBookRestorePromise book version added x (u .0) (u .1))

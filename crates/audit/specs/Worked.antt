@@ -32,6 +32,7 @@ settings = record {
   fnmax = 1;
   pileupmax = 5;
   minkfreq = 1;
+  letters = 0;
   sizesim = half;
   seqsim = half;
   fpenalty = whole 0;

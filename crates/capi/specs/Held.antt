@@ -1,4 +1,4 @@
--- What the code's record of settings holds of settings whose k may be any word. No public promise cites this file.
+-- What the code's record of settings holds of settings whose k and letters may be any word. No public promise cites this file.
 use Prim.Native.Nat.{ℕ}
 use mathlib.Core.Bool.{cond}
 use lib.Dec.{ltb}
@@ -18,6 +18,7 @@ settingsHeld s = record {
   fnmax = s .fnmax;
   pileupmax = s .pileupmax;
   minkfreq = s .minkfreq;
+  letters = byteHeld (s .letters);
   sizesim = s .sizesim;
   seqsim = s .seqsim;
   fpenalty = s .fpenalty;

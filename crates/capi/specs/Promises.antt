@@ -7,10 +7,12 @@ use mathlib.Core.List.{List}
 use lib.IntN.{ℤ}
 use lib.Ieee.{Float}
 use lib.ListN.{length}
-use Rattle.metrics.specs.Letters.{countsOf, counterAnswer, countedNumber, rowAfter}
+use Rattle.metrics.specs.Letters.{countsBy, counterAnswer, countedNumber, rowAfter}
 use Rattle.metrics.specs.Placed.{placed}
 use Rattle.metrics.specs.Similarity.{sizesimOf, seqsimOf, number, value}
+use Rattle.params.specs.Numbers.{tableOf, partsOf}
 use Rattle.kplib.specs.Graph.{cappedCount, countNumber, countValue}
+use Rattle.kplib.specs.Proposal.{proposalOf, checkNumber, checkWord, checkOf}
 use Rattle.kplib.specs.Report.{reportOf}
 use Rattle.dive.specs.Numbered.{numberedAnswer, numberedRows, recordsOf}
 use Rattle.dive.specs.Promises.{numberedLent, NumberedQueueKept, ApplyNumberedHaplotypesPromise}
@@ -20,11 +22,15 @@ use Rattle.bed.specs.Writing.{rowsText, writeFault, writeAnswer, writtenNumber,
 use Rattle.companions.specs.Companions.{lentOf}
 use Rattle.companions.specs.Questions.{pairOf, laterIn, pairNumber, pairYes, laterNumber, laterCount}
 use Rattle.companions.specs.Promises.{AddPromise, RemovePromise}
-use Rattle.capi.specs.Words.{settingsOfWords}
+use Rattle.meta.specs.Meta.{newMade, blankMade, combinedTwo}
+use Rattle.meta.specs.Words.{metaOfWords, wordsOfMeta}
+use Rattle.book.specs.Changes.{savedOf, afterSave, restoredOf, afterRestore, savedNumber, savedVersion}
+use Rattle.book.specs.Promises.{ReadPromise}
+use Rattle.capi.specs.Words.{settingsOfWords, wordsUnless}
 
-abbrev pub NdSeqToKmerPromise : List ℕ → ℕ → Bool → List ℤ → List ℤ → ℕ → Type 0
-NdSeqToKmerPromise letters k negative row row' r =
-    (r ≡ countedNumber (counterAnswer k letters row)) × (row' ≡ rowAfter (counterAnswer k letters row) (countsOf k negative letters) row)
+abbrev pub NdSeqToKmerPromise : List ℕ → ℕ → Bool → ℕ → List ℤ → List ℤ → ℕ → Type 0
+NdSeqToKmerPromise text k negative reading row row' r =
+    (r ≡ countedNumber (counterAnswer k reading text row)) × (row' ≡ rowAfter (counterAnswer k reading text row) (countsBy reading k negative text) row)
 
 abbrev pub NdSeqsimPromise : List ℤ → List ℤ → ℕ → Float → Float → ℕ → Type 0
 NdSeqsimPromise a b minkfreq place place' r = (r ≡ number (seqsimOf a b minkfreq)) × (place' ≡ value (seqsimOf a b minkfreq))
@@ -86,3 +92,33 @@ abbrev pub NdCompanionsCountPromise : List ℕ → List ℕ → List Bool → �
 NdCompanionsCountPromise starts ends sheet rows row count count' r =
     let told = laterIn (lentOf starts ends sheet rows) row in
     (r ≡ laterNumber told) × (count' ≡ laterCount told)
+
+abbrev pub NdMetaNewPromise : ℕ → ℕ → List ℕ → List ℕ → ℕ → Type 0
+NdMetaNewPromise index samples meta meta' r = (r ≡ newMade index samples .refusal) × (meta' ≡ wordsOfMeta (newMade index samples .meta))
+
+abbrev pub NdMetaBlankPromise : ℕ → List ℕ → List ℕ → ℕ → Type 0
+NdMetaBlankPromise samples meta meta' r = (r ≡ blankMade samples .refusal) × (meta' ≡ wordsOfMeta (blankMade samples .meta))
+
+abbrev pub NdMetaCombinePromise : List ℕ → List ℕ → List ℕ → ℕ → Type 0
+NdMetaCombinePromise left right left' r =
+    let told = combinedTwo (metaOfWords left) (metaOfWords right) in
+    (r ≡ told .refusal) × (left' ≡ wordsUnless (told .refusal) (wordsOfMeta (told .left)) left)
+
+abbrev pub NdCheckPathPromise : List ℕ → List ℕ → List ℕ → List ℤ → List ℤ → List ℤ → List ℤ → List ℕ → List ℕ → Float → ℕ → ℕ → ℕ → Type 0
+NdCheckPathPromise settings starts ends sizes features partSizes partFeatures rows positions score word word' r =
+    let told = checkOf (settingsOfWords settings) (tableOf starts ends sizes features) (partsOf partSizes partFeatures) (proposalOf rows positions score) in
+    (r ≡ checkNumber told) × (word' ≡ checkWord told)
+
+-- the word is the version that was added, 0 on a refusal
+abbrev pub NdBookSavePromise : List ℕ → List ℕ → ℕ → List ℕ → ℕ → ℕ → Type 0
+NdBookSavePromise book settings version book' version' r =
+    let told = savedOf book settings in
+    (r ≡ savedNumber told) × ((version' ≡ savedVersion told) × (book' ≡ afterSave book settings))
+
+abbrev pub NdBookReadPromise : List ℕ → ℕ → List ℕ → List ℕ → ℕ → Type 0
+NdBookReadPromise book version settings settings' r = ReadPromise book version settings settings' r
+
+abbrev pub NdBookRestorePromise : List ℕ → ℕ → ℕ → List ℕ → ℕ → ℕ → Type 0
+NdBookRestorePromise book version added book' added' r =
+    let told = restoredOf book version in
+    (r ≡ savedNumber told) × ((added' ≡ savedVersion told) × (book' ≡ afterRestore book version))

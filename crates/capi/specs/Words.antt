@@ -1,5 +1,5 @@
--- The settings of a search as C and Rust lend them: thirteen words in the order of the record's fields.
-use Prim.Native.Nat.{ℕ}
+-- The settings of a search as C and Rust lend them: fourteen words in the order of the record's fields; and words that a refusal leaves as they were.
+use Prim.Native.Nat.{ℕ, zero, suc}
 use mathlib.Core.Bool.{Bool, not}
 use mathlib.Core.List.{List}
 use lib.Dec.{eqb}
@@ -11,7 +11,7 @@ use Rattle.params.specs.declared.Settings.{Settings}
 abbrev pub flagOfWord : ℕ → Bool
 flagOfWord w = not (eqb w 0)
 
--- a whole number is its word, a k that no byte holds too, and a float's word is its bits
+-- a whole number is its word, a k or letters that no byte holds too, and a float's word is its bits
 unfoldable pub settingsOfWords : List ℕ → Settings
 settingsOfWords words = record {
   k = getD words 0 0;
@@ -23,8 +23,13 @@ settingsOfWords words = record {
   fnmax = getD words 6 0;
   pileupmax = getD words 7 0;
   minkfreq = getD words 8 0;
-  sizesim = ofBits binary32 (getD words 9 0);
-  seqsim = ofBits binary32 (getD words 10 0);
-  fpenalty = ofBits binary32 (getD words 11 0);
-  gpenalty = ofBits binary32 (getD words 12 0);
+  letters = getD words 9 0;
+  sizesim = ofBits binary32 (getD words 10 0);
+  seqsim = ofBits binary32 (getD words 11 0);
+  fpenalty = ofBits binary32 (getD words 12 0);
+  gpenalty = ofBits binary32 (getD words 13 0);
 }
+
+abbrev pub wordsUnless : ℕ → List ℕ → List ℕ → List ℕ
+wordsUnless zero new old = new
+wordsUnless (suc f) new old = old

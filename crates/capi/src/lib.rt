@@ -1,16 +1,23 @@
 // What Rust and C link: the library's calls on numbers and slices. Each gives back the refusal's number, 0 for an accepted call.
 ghost use Rattle.capi.specs.Promises.{NdSeqToKmerPromise, NdSeqsimPromise, NdSizesimPromise, NdCountChainsPromise, NdAnswerPromise};
+ghost use Rattle.capi.specs.Promises.{NdCheckPathPromise};
 ghost use Rattle.capi.specs.Promises.{NdApplyHaplotypePromise, NdApplyHaplotypesPromise, NdReadBedPromise, NdWriteBedPromise};
 ghost use Rattle.capi.specs.Promises.{NdCompanionsAddPromise, NdCompanionsRemovePromise, NdCompanionsTogetherPromise, NdCompanionsCountPromise};
+ghost use Rattle.capi.specs.Promises.{NdMetaNewPromise, NdMetaBlankPromise, NdMetaCombinePromise};
+ghost use Rattle.capi.specs.Promises.{NdBookSavePromise, NdBookReadPromise, NdBookRestorePromise};
 use crate::words::length_word;
 use crate::words::settings_of_words;
 use crate::words::word_of_flag;
 use bed::BedRead;
 use bed::BedWritten;
+use book::Saved;
 use companions::Later;
 use companions::Paired;
+use kplib::checkpath::PathCheck;
 use kplib::report::put_report;
 use kplib::vargraph::ChainCount;
+use meta::words::meta_of_words;
+use meta::words::words_of_meta;
 use metrics::Sim;
 use metrics::kmer::Counted;
 use metrics::refusals::ACCEPTED;
@@ -18,10 +25,16 @@ use metrics::refusals::ACCEPTED;
 mod words;
 
 #[no_mangle]
-pub extern "C" fn nd_seq_to_kmer(letters: &[u8], k: u8, negative: bool, row: &mut [i32]) -> u32
-    ensures { λ r. ⌜ NdSeqToKmerPromise (now (letters .entry)) k negative (now (row .entry)) (now (row .exit)) r ⌝ }
+pub extern "C" fn nd_seq_to_kmer(
+    text: &[u8],
+    k: u8,
+    negative: bool,
+    letters: u8,
+    row: &mut [i32],
+) -> u32
+    ensures { λ r. ⌜ NdSeqToKmerPromise (now (text .entry)) k negative letters (now (row .entry)) (now (row .exit)) r ⌝ }
 {
-    let counted = metrics::kmer::seq_to_kmer(letters, k, negative, row);
+    let counted = metrics::kmer::seq_to_kmer(text, k, negative, letters, row);
     match counted {
         Counted::Done => ACCEPTED,
         Counted::Refused(n) => n,
@@ -97,7 +110,7 @@ pub extern "C" fn nd_answer(job: &[u8], text: &mut [u8; 8192]) -> u32
 // The queue's content is open after a search, and only then.
 #[no_mangle]
 pub extern "C" fn nd_apply_haplotype(
-    settings: &[u32; 13],
+    settings: &[u32; 14],
     starts: &[u64],
     ends: &[u64],
     sizes: &[i32],
@@ -137,7 +150,7 @@ pub extern "C" fn nd_apply_haplotype(
 // Several haplotypes over one table; each has its refusal and its answer in its own eight words of the reports.
 #[no_mangle]
 pub extern "C" fn nd_apply_haplotypes(
-    settings: &[u32; 13],
+    settings: &[u32; 14],
     starts: &[u64],
     ends: &[u64],
     sizes: &[i32],
@@ -304,6 +317,135 @@ pub extern "C" fn nd_companions_count(
         }
         Later::Refused(n) => {
             *count = 0u32;
+            n
+        }
+    }
+}
+
+// One read of one sample, as 28 words; a blank of one sample on a refusal.
+#[no_mangle]
+pub extern "C" fn nd_meta_new(index: u64, samples: u64, meta: &mut [u64; 28]) -> u32
+    ensures { λ r. ⌜ NdMetaNewPromise index samples (now (meta .entry)) (now (meta .exit)) r ⌝ }
+{
+    let made = meta::new(index, samples);
+    let one = made.meta;
+    *meta = words_of_meta(one);
+    made.refusal
+}
+
+// No read of any sample; a blank of one sample on a refusal.
+#[no_mangle]
+pub extern "C" fn nd_meta_blank(samples: u64, meta: &mut [u64; 28]) -> u32
+    ensures { λ r. ⌜ NdMetaBlankPromise samples (now (meta .entry)) (now (meta .exit)) r ⌝ }
+{
+    let told = meta::new_blank(samples);
+    let blank = told.meta;
+    *meta = words_of_meta(blank);
+    told.refusal
+}
+
+// The two combined, on the left, which a refusal leaves as it was.
+#[no_mangle]
+pub extern "C" fn nd_meta_combine(left: &mut [u64; 28], right: &[u64; 28]) -> u32
+    ensures { λ r. ⌜ NdMetaCombinePromise (now (left .entry)) (now (right .entry)) (now (left .exit)) r ⌝ }
+{
+    let own = meta_of_words(left);
+    let its = meta_of_words(right);
+    let combined = meta::combine(own, its);
+    let refusal = combined.refusal;
+    if refusal != ACCEPTED {
+        return refusal;
+    }
+    let both = combined.left;
+    *left = words_of_meta(both);
+    ACCEPTED
+}
+
+// Whether a path that someone else proposes is one that the search could have found. Yes is 1, no is 0; 0 on a refusal.
+#[no_mangle]
+pub extern "C" fn nd_check_path(
+    settings: &[u32; 14],
+    starts: &[u64],
+    ends: &[u64],
+    sizes: &[i32],
+    features: &[i32],
+    part_sizes: &[i32],
+    part_features: &[i32],
+    rows: &[u32],
+    positions: &[u32],
+    score: f32,
+    yes: &mut u32,
+) -> u32
+    ensures { λ r. ⌜ NdCheckPathPromise (now (settings .entry)) (now (starts .entry)) (now (ends .entry)) (now (sizes .entry)) (now (features .entry))
+        (now («part_sizes» .entry)) (now («part_features» .entry)) (now (rows .entry)) (now (positions .entry)) score (now (yes .entry)) (now (yes .exit)) r ⌝ }
+{
+    let s = settings_of_words(settings);
+    let checked = kplib::checkpath::check_path(
+        s,
+        starts,
+        ends,
+        sizes,
+        features,
+        part_sizes,
+        part_features,
+        rows,
+        positions,
+        score,
+    );
+    match checked {
+        PathCheck::Yes => {
+            *yes = 1;
+            ACCEPTED
+        }
+        PathCheck::No => {
+            *yes = 0;
+            ACCEPTED
+        }
+        PathCheck::Refused(n) => {
+            *yes = 0;
+            n
+        }
+    }
+}
+
+// The settings under the next version of a book, which is told; 0 on a refusal.
+#[no_mangle]
+pub extern "C" fn nd_book_save(book: &mut [u8], settings: &[u8; 41], version: &mut u32) -> u32
+    ensures { λ r. ⌜ NdBookSavePromise (now (book .entry)) (now (settings .entry)) (now (version .entry)) (now (book .exit)) (now (version .exit)) r ⌝ }
+{
+    let saved = book::save(book, settings);
+    match saved {
+        Saved::Version(n) => {
+            *version = n;
+            ACCEPTED
+        }
+        Saved::Refused(n) => {
+            *version = 0;
+            n
+        }
+    }
+}
+
+#[no_mangle]
+pub extern "C" fn nd_book_read(book: &[u8], version: u32, settings: &mut [u8; 41]) -> u32
+    ensures { λ r. ⌜ NdBookReadPromise (now (book .entry)) version (now (settings .entry)) (now (settings .exit)) r ⌝ }
+{
+    book::read(book, version, settings)
+}
+
+// The settings of a version saved again under the next, which is told; 0 on a refusal.
+#[no_mangle]
+pub extern "C" fn nd_book_restore(book: &mut [u8], version: u32, added: &mut u32) -> u32
+    ensures { λ r. ⌜ NdBookRestorePromise (now (book .entry)) version (now (added .entry)) (now (book .exit)) (now (added .exit)) r ⌝ }
+{
+    let restored = book::restore(book, version);
+    match restored {
+        Saved::Version(n) => {
+            *added = n;
+            ACCEPTED
+        }
+        Saved::Refused(n) => {
+            *added = 0;
             n
         }
     }

@@ -1,4 +1,4 @@
-// Words for C and Rust: the settings of a search as thirteen of them, a flag as one, and the length of a text as one.
+// Words for C and Rust: the settings of a search as fourteen of them, a flag as one, and the length of a text as one.
 ghost use mathlib.Core.Path.{_≡_};
 ghost use mathlib.Core.Bool.{cond};
 ghost use Prim.Native.Nat.{_≤_};
@@ -8,7 +8,7 @@ ghost use Rattle.capi.specs.Held.{byteHeld, settingsHeld};
 use fields::float_of;
 use params::Settings;
 
-// A byte holds no larger k than 255, which is refused as any larger one is.
+// A byte holds no larger k and no larger `letters` than 255, which is refused as any larger one is.
 fn byte_of_word(word: u32) -> u8
     ensures { λ r. ⌜ r ≡ byteHeld word ⌝ }
 {
@@ -21,7 +21,7 @@ fn flag_of_word(word: u32) -> bool
     word != 0
 }
 
-pub(crate) fn settings_of_words(words: &[u32; 13]) -> Settings
+pub(crate) fn settings_of_words(words: &[u32; 14]) -> Settings
     ensures { λ r. ⌜ r ≡ settingsHeld (settingsOfWords (now (words .entry))) ⌝ }
 {
     Settings {
@@ -34,10 +34,11 @@ pub(crate) fn settings_of_words(words: &[u32; 13]) -> Settings
         fnmax: words[6],
         pileupmax: words[7],
         minkfreq: words[8],
-        sizesim: float_of(words[9]),
-        seqsim: float_of(words[10]),
-        fpenalty: float_of(words[11]),
-        gpenalty: float_of(words[12]),
+        letters: byte_of_word(words[9]),
+        sizesim: float_of(words[10]),
+        seqsim: float_of(words[11]),
+        fpenalty: float_of(words[12]),
+        gpenalty: float_of(words[13]),
     }
 }
 

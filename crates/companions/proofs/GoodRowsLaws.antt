@@ -1,5 +1,5 @@
 -- 7 and 8 row by row: a table passes them where each of its rows does, so with one row less it passes them, and with one more where that row does. Assumes nothing.
-use Prim.Native.Nat.{ℕ, zero, suc, _+_, _-_, _≤_, _<_}
+use Prim.Native.Nat.{ℕ, _+_, _-_, _≤_, _<_}
 use native.Mathlib.Omega.{arith}
 use mathlib.Core.Path.{_≡_, refl}
 use mathlib.Core.Bool.{Bool, true, false}
@@ -8,18 +8,13 @@ use borrow.Author.Tests.{ltb-true, ltb-false, le-ltb}
 use lib.Dec.{ltb}
 use lib.ListN.{length, getD, take, set}
 use lib.Seq.{length-take-le, getD-take, getD-set-same, getD-set-other}
-use Rattle.params.specs.Numbers.{firstOf, boundRules, startAfterEnd, fallingStart, anyBelow}
-use Rattle.params.proofs.CheckLaws.{none-given, any-where}
+use Rattle.params.specs.Numbers.{firstOf, boundRules, startAfterEnd, fallingStart}
+use Rattle.params.proofs.CheckLaws.{none-given, none-below, any-where}
 
 -- each of the first n rows passes 7, and each but the last 8 of the next
 pub record GoodRows (n : ℕ) (starts ends : List ℕ) : Type 0 where
   pub seven : (r : ℕ) → r < n → getD starts r 0 ≤ getD ends r 0
   pub eight : (r : ℕ) → r + 1 < n → getD starts r 0 ≤ getD starts (r + 1) 0
-
-none-below : (n : ℕ) (test : ℕ → Bool) → ((r : ℕ) → r < n → test r ≡ false) → anyBelow n test ≡ false
-unfolding anyBelow
-none-below zero test h = refl
-none-below (suc n) test h = rw (none-below n test (λ r l. h r (omega arith)), h n (omega arith))
 
 module _ (n : ℕ) (starts ends : List ℕ) (room : n ≤ length starts) where
   long : length (take n starts) ≡ n
@@ -48,8 +43,8 @@ module _ (n : ℕ) (starts ends : List ℕ) (room : n ≤ length starts) where
   pub bounds-made : GoodRows n starts ends → firstOf (boundRules (take n starts) (take n ends)) ≡ 0
   unfolding startAfterEnd fallingStart
   bounds-made p = rw (
-    none-below (length (take n starts)) (λ r. ltb (getD (take n ends) r 0) (getD (take n starts) r 0)) (λ r l. pass7 r (rw long at l)),
-    none-below (length (take n starts) - 1) (λ r. ltb (getD (take n starts) (r + 1) 0) (getD (take n starts) r 0)) (λ r l. pass8 r (rw long at l)),
+    none-below (λ r. ltb (getD (take n ends) r 0) (getD (take n starts) r 0)) (length (take n starts)) (λ r l. pass7 r (rw long at l)),
+    none-below (λ r. ltb (getD (take n starts) (r + 1) 0) (getD (take n starts) r 0)) (length (take n starts) - 1) (λ r l. pass8 r (rw long at l)),
   )
     where
       pass7 : (r : ℕ) → r < n → ltb (getD (take n ends) r 0) (getD (take n starts) r 0) ≡ false

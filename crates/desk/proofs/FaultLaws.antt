@@ -1,4 +1,4 @@
--- No fault of the form has the number 30: a reader that gives it has found the form good and its room too small. A form in good order has 1 to 16 haplotypes.
+-- No fault of the form has the number 30: a reader that gives it has found the form good and its room too small. A form in good order has 1 to 16 haplotypes, and settings whose letters are 0.
 use Prim.Native.Nat.{ℕ, zero, suc, _+_, _≤_, _<_}
 use native.Mathlib.Omega.{arith}
 use mathlib.Core.Path.{_≡_, refl, ap, subst, _∙_}
@@ -12,6 +12,7 @@ use Rattle.form.specs.declared.records.Scan.{Scan}
 use Rattle.form.specs.declared.records.Scan.the-variants.{Good, Refused}
 use Rattle.form.specs.declared.records.Kind.{Kind}
 use Rattle.form.specs.Form.{kindOf, isEnd, isNext, isUnknown, bodyLen, inPlace, flagsOk, countOf, padOk, tooMany, faultOf, after, outset, counted, judge, run}
+use Rattle.form.specs.Settings40.{settingsIn}
 use Rattle.form.specs.Job.{Job, Read, Faulty, Held, readOf, jobOf, readJob}
 use Rattle.form.specs.Lent.{breaksOf, jobCounts, scanOf}
 use Rattle.form.proofs.CountLaws.{scan-is}
@@ -103,3 +104,8 @@ module _ (input : List ℕ) (job : Job) (held : readJob input ≡ Held job) wher
   pub some-held : 1 ≤ length (job .haplotypes)
   unfolding jobOf
   some-held = subst (λ (j : Job). 1 ≤ length (j .haplotypes)) job-is (some-haplotype input 0)
+
+  -- a reading that the counter knows
+  pub known-held : job .settings .letters ≤ 1
+  unfolding jobOf settingsIn
+  known-held = subst (λ (j : Job). j .settings .letters ≤ 1) job-is (omega arith)

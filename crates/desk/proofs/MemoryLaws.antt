@@ -31,7 +31,7 @@ variant-room n width h w = let a : n * width ≤ 16 * width = mul-le-mul-right w
 part-room : (n width : ℕ) → n ≤ 128 → width ≤ 256 → n * width ≤ 32768
 part-room n width h w = let a : n * width ≤ 128 * width = mul-le-mul-right width h in omega arith
 
-module _ (k width : ℕ) (t : Lent) (fits : Fits t) (low : 1 ≤ k) (high : k ≤ 4) (is : width ≡ entryCount k) where
+module _ (reading k width : ℕ) (t : Lent) (fits : Fits reading t) (low : 1 ≤ k) (high : k ≤ 4) (is : width ≡ entryCount k) where
   pub power-is : width ≡ 4 ^ k
   power-is = is ∙ power k (omega arith)
 
@@ -44,17 +44,17 @@ module _ (k width : ℕ) (t : Lent) (fits : Fits t) (low : 1 ≤ k) (high : k �
   pub parts-end : length (t .partCounts) * width ≤ 32768
   parts-end = part-room (length (t .partCounts)) width (fits .parts) small
 
-  pub variants-fit : (table : List ℤ) → 4096 ≡ length table → RowsFit k width (t .negatives) (t .counts) (t .letters) 0 table
+  pub variants-fit : (table : List ℤ) → 4096 ≡ length table → RowsFit reading k width (t .negatives) (t .counts) (t .letters) 0 table
   variants-fit table e =
       let a = variants-end in
       let b = fits .letters-end in
-      record { k-low = low; k-high = high; width-is = power-is; alike = fits .alike; letters-end = omega arith; few = fits .few; table-end = omega arith }
+      record { known = fits .known; k-low = low; k-high = high; width-is = power-is; alike = fits .alike; letters-end = omega arith; few = fits .few; table-end = omega arith }
 
-  pub parts-fit : (table : List ℤ) → 32768 ≡ length table → (next : ℕ) → next ≡ 0 + sum (t .counts) → RowsFit k width (t .partNegatives) (t .partCounts) (t .letters) next table
+  pub parts-fit : (table : List ℤ) → 32768 ≡ length table → (next : ℕ) → next ≡ 0 + sum (t .counts) → RowsFit reading k width (t .partNegatives) (t .partCounts) (t .letters) next table
   parts-fit table e next n =
       let a = parts-end in
       let b = fits .letters-end in
-      record { k-low = low; k-high = high; width-is = power-is; alike = fits .part-alike; letters-end = omega arith; few = fits .few; table-end = omega arith }
+      record { known = fits .known; k-low = low; k-high = high; width-is = power-is; alike = fits .part-alike; letters-end = omega arith; few = fits .few; table-end = omega arith }
 
   -- what is counted of the parts fits the blocks
   pub blocks-fit : (features part-new : List ℤ) → length part-new ≡ 32768 →
@@ -123,8 +123,8 @@ module _ (s : Settings) (t : Lent) (long : Bool) (lengths : long ≡ overlong 0 
 
   -- the text of the haplotypes over the counted rows
   pub counted-text : (width next end : ℕ) (old new part-old part-new : List ℤ) → width ≡ 4 ^ s .k → fault ≡ 0 →
-      RowsCounted (s .k) width (t .negatives) (t .counts) (t .letters) 0 next old new →
-      RowsCounted (s .k) width (t .partNegatives) (t .partCounts) (t .letters) next end part-old part-new →
+      RowsCounted (s .letters) (s .k) width (t .negatives) (t .counts) (t .letters) 0 next old new →
+      RowsCounted (s .letters) (s .k) width (t .partNegatives) (t .partCounts) (t .letters) next end part-old part-new →
       haplotypesText s (tableOf (t .starts) (t .ends) (t .sizes) (take (length (t .counts) * width) new))
       (stretches width 0 (lentEnds t) (partsOf (t .partSizes) (take (length (t .partCounts) * width) part-new))) ≡ heldText s t
   unfolding heldText
@@ -147,28 +147,28 @@ heldIn job more = lent
     (lettersOf job ++ more)
 
 -- features counted from the letters of all
-variant-rows : (k : ℕ) (xs : List Variant) (more : List ℕ) →
-    rowsFrom k (map (λ (x : Variant). x .negative) xs) (map (λ (x : Variant). length (x .letters)) xs) (variantLetters xs ++ more) ≡ variantFeatures k xs
+variant-rows : (reading k : ℕ) (xs : List Variant) (more : List ℕ) →
+    rowsFrom reading k (map (λ (x : Variant). x .negative) xs) (map (λ (x : Variant). length (x .letters)) xs) (variantLetters xs ++ more) ≡ variantFeatures reading k xs
 unfolding rowsFrom variantFeatures variantLetters
-variant-rows k [] more = refl
-variant-rows k (x ∷ xs) more =
+variant-rows reading k [] more = refl
+variant-rows reading k (x ∷ xs) more =
     rw (
       append-assoc (x .letters) (variantLetters xs) more,
       take-at (x .letters) (variantLetters xs ++ more) (length (x .letters)) refl,
       drop-at (x .letters) (variantLetters xs ++ more) (length (x .letters)) refl,
-      variant-rows k xs more,
+      variant-rows reading k xs more,
     )
 
-part-rows : (k : ℕ) (xs : List Part) (more : List ℕ) →
-    rowsFrom k (map (λ (x : Part). x .negative) xs) (map (λ (x : Part). length (x .letters)) xs) (partLetters xs ++ more) ≡ partFeatures k xs
+part-rows : (reading k : ℕ) (xs : List Part) (more : List ℕ) →
+    rowsFrom reading k (map (λ (x : Part). x .negative) xs) (map (λ (x : Part). length (x .letters)) xs) (partLetters xs ++ more) ≡ partFeatures reading k xs
 unfolding rowsFrom partFeatures partLetters
-part-rows k [] more = refl
-part-rows k (x ∷ xs) more =
+part-rows reading k [] more = refl
+part-rows reading k (x ∷ xs) more =
     rw (
       append-assoc (x .letters) (partLetters xs) more,
       take-at (x .letters) (partLetters xs ++ more) (length (x .letters)) refl,
       drop-at (x .letters) (partLetters xs ++ more) (length (x .letters)) refl,
-      part-rows k xs more,
+      part-rows reading k xs more,
     )
 
 variant-sum : (xs : List Variant) → sum (map (λ (x : Variant). length (x .letters)) xs) ≡ length (variantLetters xs)
@@ -192,7 +192,7 @@ zero-text : (job : Job) → 1 ≤ length (job .haplotypes) → job .settings .k 
 unfolding jobText
 zero-text job some h =
     let e : job .settings .k ≡ 0 = omega arith in
-    zero-haplotypes (job .settings) (tableOfJob job) (map (partsOfHaplotype (job .settings .k)) (job .haplotypes)) e (simp length-map some)
+    zero-haplotypes (job .settings) (tableOfJob job) (map (partsOfHaplotype (job .settings .letters) (job .settings .k)) (job .haplotypes)) e (simp length-map some)
 
 -- the limits, as the program tests them and as its definition lists them
 by-limits : (long k-over paths-over k-zero : Bool) (found job : List ℕ) → (k-zero ≡ true → refusedText 1 ≡ job) → found ≡ job →
@@ -205,19 +205,19 @@ by-limits false false false true found job z h = z refl
 by-limits false false false false found job z h = h
 
 module _ (job : Job) (more : List ℕ) where
-  table-held : tableFrom (job .settings .k) (heldIn job more) ≡ tableOfJob job
+  table-held : tableFrom (job .settings .letters) (job .settings .k) (heldIn job more) ≡ tableOfJob job
   unfolding heldIn tableOfJob
   table-held =
-      rw (append-assoc (variantLetters (job .variants)) (partLetters (allParts job)) more, variant-rows (job .settings .k) (job .variants) (partLetters (allParts job) ++ more))
+      rw (append-assoc (variantLetters (job .variants)) (partLetters (allParts job)) more, variant-rows (job .settings .letters) (job .settings .k) (job .variants) (partLetters (allParts job) ++ more))
 
-  parts-held : partsFrom (job .settings .k) (heldIn job more) ≡ partsOf (map (λ (x : Part). x .size) (allParts job)) (partFeatures (job .settings .k) (allParts job))
+  parts-held : partsFrom (job .settings .letters) (job .settings .k) (heldIn job more) ≡ partsOf (map (λ (x : Part). x .size) (allParts job)) (partFeatures (job .settings .letters) (job .settings .k) (allParts job))
   unfolding heldIn
   parts-held =
       rw (
         append-assoc (variantLetters (job .variants)) (partLetters (allParts job)) more,
         variant-sum (job .variants),
         drop-at (variantLetters (job .variants)) (partLetters (allParts job) ++ more) (length (variantLetters (job .variants))) refl,
-        part-rows (job .settings .k) (allParts job) more,
+        part-rows (job .settings .letters) (job .settings .k) (allParts job) more,
       )
 
   ends-held : lentEnds (heldIn job more) ≡ endsOf (breaksOf (job .haplotypes)) (length (allParts job))
@@ -228,12 +228,12 @@ module _ (job : Job) (more : List ℕ) where
     long-held : overlong 0 (lentEnds (heldIn job more)) ≡ manyParts (job .haplotypes)
     long-held = rw ends-held (overlong-is (job .haplotypes) some)
 
-    stretches-held : stretches (4 ^ job .settings .k) 0 (lentEnds (heldIn job more)) (partsFrom (job .settings .k) (heldIn job more))
-        ≡ map (partsOfHaplotype (job .settings .k)) (job .haplotypes)
-    stretches-held = rw (ends-held, parts-held) (stretches-are (job .settings .k) (job .haplotypes) some)
+    stretches-held : stretches (4 ^ job .settings .k) 0 (lentEnds (heldIn job more)) (partsFrom (job .settings .letters) (job .settings .k) (heldIn job more))
+        ≡ map (partsOfHaplotype (job .settings .letters) (job .settings .k)) (job .haplotypes)
+    stretches-held = rw (ends-held, parts-held) (stretches-are (job .settings .letters) (job .settings .k) (job .haplotypes) some)
 
-    found-held : haplotypesText (job .settings) (tableFrom (job .settings .k) (heldIn job more))
-        (stretches (4 ^ job .settings .k) 0 (lentEnds (heldIn job more)) (partsFrom (job .settings .k) (heldIn job more))) ≡ jobText job
+    found-held : haplotypesText (job .settings) (tableFrom (job .settings .letters) (job .settings .k) (heldIn job more))
+        (stretches (4 ^ job .settings .k) 0 (lentEnds (heldIn job more)) (partsFrom (job .settings .letters) (job .settings .k) (heldIn job more))) ≡ jobText job
     unfolding jobText
     found-held = rw (stretches-held, table-held)
 
@@ -245,12 +245,13 @@ module _ (job : Job) (more : List ℕ) where
           rw (long-held, le-ltb 16 (length (job .variants)) v)
           (by-limits (manyParts (job .haplotypes)) (ltb 4 k) (ltb 63 (job .settings .maxpaths)) (ltb k 1) _ (jobText job) (λ h. zero-text job some (ltb-true k 1 h)) found-held)
 
-      pub fits-held : length (allParts job) ≤ 128 → length (breaksOf (job .haplotypes)) ≤ 15 → length (lettersOf job ++ more) ≤ 32768 → Fits (heldIn job more)
+      pub fits-held : length (allParts job) ≤ 128 → length (breaksOf (job .haplotypes)) ≤ 15 → length (lettersOf job ++ more) ≤ 32768 → {reading : ℕ} → reading ≤ 1 → Fits reading (heldIn job more)
       unfolding heldIn
-      fits-held p b l =
+      fits-held p b l known =
           let a = variant-sum (job .variants) in
           let d = part-sum (allParts job) in
           record {
+            known = known;
             variants = simp length-map v;
             parts = simp length-map p;
             haplotypes = b;

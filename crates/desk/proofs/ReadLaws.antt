@@ -24,7 +24,7 @@ use Rattle.text.specs.Text.{refusedText}
 use Rattle.desk.specs.Desk.{tooLarge, jobText, readText}
 use Rattle.desk.specs.Memory.{heldText, cut, toldAs, readingText, Fits, Front, Loaded}
 use Rattle.desk.proofs.AnswerLaws.{take-placed}
-use Rattle.desk.proofs.FaultLaws.{form-fault, few-breaks, some-held}
+use Rattle.desk.proofs.FaultLaws.{form-fault, few-breaks, some-held, known-held}
 use Rattle.desk.proofs.StretchLaws.{few-parts}
 use Rattle.desk.proofs.MemoryLaws.{heldIn, text-held, fits-held}
 
@@ -68,7 +68,7 @@ module _ {read : Reading} (t : Lent) where
     unfolding readingText
     given-reading = rw e
 
-    pub given-loaded : Loaded read t → Front (c .variants) (c .parts) (c .breaks) t
+    pub given-loaded : Loaded read t → Front (s .letters) (c .variants) (c .parts) (c .breaks) t
     given-loaded l = subst (λ (x : Reading). Loaded x t) e l
 
 placed-long : {A : Type 0} (old new : List A) (n : ℕ) → n ≡ length new → n ≤ length (placed old new)
@@ -202,14 +202,16 @@ module _ (input : List ℕ) (short : length input ≤ 32768) (t : Lent) (room : 
       cut-is : cut (c .variants) (c .parts) (c .breaks) u ≡ heldIn theJob rest
       cut-is = ap (cut (c .variants) (c .parts) (c .breaks)) u-is ∙ cut-with
 
-      given-front : Front (c .variants) (c .parts) (c .breaks) u
+      given-front : Front (s .letters) (c .variants) (c .parts) (c .breaks) u
       unfolding lentWith
       given-front =
           let v = variants-are in
           let p = parts-are in
           let some = some-held input theJob (holds .held) in
           let few = few-breaks input theJob (holds .held) in
-          let f : Fits (cut (c .variants) (c .parts) (c .breaks) (lentWith theJob t)) = rw cut-with (fits-held theJob rest some (few-rows .0) (few-rows .1) few letters-few) in
+          let known : s .letters ≤ 1 = rw (holds .settings-are) (known-held input theJob (holds .held)) in
+          let f : Fits (s .letters) (cut (c .variants) (c .parts) (c .breaks) (lentWith theJob t)) =
+          rw cut-with (fits-held theJob rest some (few-rows .0) (few-rows .1) few letters-few known) in
           rw u-is record {
             starts = placed-long (t .starts) (map (λ (x : Variant). x .start) (theJob .variants)) (c .variants) (simp length-map v);
             ends = placed-long (t .ends) (map (λ (x : Variant). x .end) (theJob .variants)) (c .variants) (simp length-map v);

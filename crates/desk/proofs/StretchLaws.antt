@@ -13,7 +13,7 @@ use lib.Seq.{drop-cons, getD-at, take-at, drop-at}
 use borrow.Author.Tests.{ltb-false, lt-ltb, le-ltb}
 use Rattle.params.specs.Numbers.{Parts, partsOf}
 use Rattle.params.proofs.CheckLaws.{or-no}
-use Rattle.metrics.specs.Letters.{countsOf}
+use Rattle.metrics.specs.Letters.{countsBy}
 use Rattle.form.specs.Job.{Part}
 use Rattle.form.specs.Lent.{breaksFrom, breaksOf}
 use Rattle.desk.specs.Desk.{partFeatures, partsOfHaplotype, manyParts}
@@ -129,47 +129,47 @@ few-parts (xs ∷ hs) e =
     rw length-append (omega arith)
 
 -- the rows of parts, and of parts behind others
-features-length : (k : ℕ) (xs : List Part) → length (partFeatures k xs) ≡ length xs * 4 ^ k
+features-length : (reading k : ℕ) (xs : List Part) → length (partFeatures reading k xs) ≡ length xs * 4 ^ k
 unfolding partFeatures
-features-length k [] = omega arith
-features-length k (x ∷ xs) =
-    let a = row-length k (x .negative) (x .letters) in
-    let b = features-length k xs in
+features-length reading k [] = omega arith
+features-length reading k (x ∷ xs) =
+    let a = row-length reading k (x .negative) (x .letters) in
+    let b = features-length reading k xs in
     let d = suc-mul (length xs) (4 ^ k) in
     rw length-append (omega arith)
 
-features-append : (k : ℕ) (xs ys : List Part) → partFeatures k (xs ++ ys) ≡ partFeatures k xs ++ partFeatures k ys
+features-append : (reading k : ℕ) (xs ys : List Part) → partFeatures reading k (xs ++ ys) ≡ partFeatures reading k xs ++ partFeatures reading k ys
 unfolding partFeatures
-features-append k [] ys = refl
-features-append k (x ∷ xs) ys =
-    ap (λ (l : List ℤ). countsOf k (x .negative) (x .letters) ++ l) (features-append k xs ys)
-    ∙ sym (append-assoc (countsOf k (x .negative) (x .letters)) (partFeatures k xs) (partFeatures k ys))
+features-append reading k [] ys = refl
+features-append reading k (x ∷ xs) ys =
+    ap (λ (l : List ℤ). countsBy reading k (x .negative) (x .letters) ++ l) (features-append reading k xs ys)
+    ∙ sym (append-assoc (countsBy reading k (x .negative) (x .letters)) (partFeatures reading k xs) (partFeatures reading k ys))
 
 -- the middle of three lists
 middle : {A : Type 0} (a b c : List A) (n m : ℕ) → length a ≡ n → length b ≡ m - n → take (m - n) (drop n (a ++ (b ++ c))) ≡ b
 middle a b c n m p q = rw (drop-at a (b ++ c) n p) (take-at b c (m - n) q)
 
 -- cut at the ends, the parts of all are each haplotype's
-module _ (k : ℕ) where
+module _ (reading k : ℕ) where
   abbrev allOf : List Part → Parts
-  allOf xs = partsOf (map (λ (x : Part). x .size) xs) (partFeatures k xs)
+  allOf xs = partsOf (map (λ (x : Part). x .size) xs) (partFeatures reading k xs)
 
-  stretch-is : (done xs more : List Part) → stretch (4 ^ k) (length done) (length done + length xs) (allOf (done ++ (xs ++ more))) ≡ partsOfHaplotype k xs
+  stretch-is : (done xs more : List Part) → stretch (4 ^ k) (length done) (length done + length xs) (allOf (done ++ (xs ++ more))) ≡ partsOfHaplotype reading k xs
   unfolding partsOfHaplotype
   stretch-is done xs more =
       let size : Part → ℤ = λ (x : Part). x .size in
       let a : map size (done ++ (xs ++ more)) ≡ map size done ++ (map size xs ++ map size more) =
       map-append size done (xs ++ more) ∙ ap (λ (l : List ℤ). map size done ++ l) (map-append size xs more) in
-      let b : partFeatures k (done ++ (xs ++ more)) ≡ partFeatures k done ++ (partFeatures k xs ++ partFeatures k more) =
-      features-append k done (xs ++ more) ∙ ap (λ (l : List ℤ). partFeatures k done ++ l) (features-append k xs more) in
+      let b : partFeatures reading k (done ++ (xs ++ more)) ≡ partFeatures reading k done ++ (partFeatures reading k xs ++ partFeatures reading k more) =
+      features-append reading k done (xs ++ more) ∙ ap (λ (l : List ℤ). partFeatures reading k done ++ l) (features-append reading k xs more) in
       let m = length-map xs size in
-      let n = features-length k xs in
+      let n = features-length reading k xs in
       let d = add-mul (length done) (length xs) (4 ^ k) in
       let p = middle (map size done) (map size xs) (map size more) (length done) (length done + length xs) (length-map done size) (omega arith) in
-      let q = middle (partFeatures k done) (partFeatures k xs) (partFeatures k more) (length done * 4 ^ k) ((length done + length xs) * 4 ^ k) (features-length k done) (omega arith) in
+      let q = middle (partFeatures reading k done) (partFeatures reading k xs) (partFeatures reading k more) (length done * 4 ^ k) ((length done + length xs) * 4 ^ k) (features-length reading k done) (omega arith) in
       rw (a, b, p, q)
 
-  stretches-from : (done : List Part) (hs : List (List Part)) → stretches (4 ^ k) (length done) (endsFrom (length done) hs) (allOf (done ++ flatten hs)) ≡ map (partsOfHaplotype k) hs
+  stretches-from : (done : List Part) (hs : List (List Part)) → stretches (4 ^ k) (length done) (endsFrom (length done) hs) (allOf (done ++ flatten hs)) ≡ map (partsOfHaplotype reading k) hs
   unfolding stretches endsFrom flatten
   stretches-from done [] = refl
   stretches-from done (xs ∷ hs) =
@@ -178,7 +178,7 @@ module _ (k : ℕ) where
       let long = ap (λ (n : ℕ). stretches (4 ^ k) n (endsFrom n hs) (allOf (done ++ (xs ++ flatten hs)))) (sym (length-append done xs)) in
       let same = ap (λ (l : List Part). stretches (4 ^ k) (length (done ++ xs)) (endsFrom (length (done ++ xs)) hs) (allOf l)) (sym (append-assoc done xs (flatten hs))) in
       ap (λ (p : Parts). p ∷ stretches (4 ^ k) n (endsFrom n hs) parts) (stretch-is done xs (flatten hs))
-      ∙ ap (λ (l : List Parts). partsOfHaplotype k xs ∷ l) (long ∙ same ∙ stretches-from (done ++ xs) hs)
+      ∙ ap (λ (l : List Parts). partsOfHaplotype reading k xs ∷ l) (long ∙ same ∙ stretches-from (done ++ xs) hs)
 
-  pub stretches-are : (hs : List (List Part)) → 1 ≤ length hs → stretches (4 ^ k) 0 (endsOf (breaksOf hs) (length (flatten hs))) (allOf (flatten hs)) ≡ map (partsOfHaplotype k) hs
+  pub stretches-are : (hs : List (List Part)) → 1 ≤ length hs → stretches (4 ^ k) 0 (endsOf (breaksOf hs) (length (flatten hs))) (allOf (flatten hs)) ≡ map (partsOfHaplotype reading k) hs
   stretches-are hs some = ap (λ (l : List ℕ). stretches (4 ^ k) 0 l (allOf (flatten hs))) (ends-are hs some) ∙ stretches-from [] hs

@@ -5,31 +5,31 @@ use mathlib.Core.List.{List, [], _∷_, _++_, map}
 use lib.Dec.{ltb, eqb}
 use lib.IntN.{ℤ}
 use lib.ListN.{length}
-use Rattle.metrics.specs.Letters.{countsOf}
+use Rattle.metrics.specs.Letters.{countsBy}
 use Rattle.params.specs.Numbers.{Table, Parts, Call, tableOf, partsOf, callOf}
 use Rattle.params.specs.declared.Settings.{Settings}
 use Rattle.dive.specs.Numbered.{Numbered, numberedFault, numberedAnswer, numberedRows, recordsOf}
 use Rattle.form.specs.Job.{Variant, Part, Job, Read, Faulty, Held, readJob}
 use Rattle.text.specs.Text.{refusedText, hapText, answerText}
 
--- the feature rows of the variants one behind the other, and of the parts
-unfoldable pub variantFeatures : ℕ → List Variant → List ℤ
-variantFeatures k [] = []
-variantFeatures k (x ∷ xs) = countsOf k (x .negative) (x .letters) ++ variantFeatures k xs
+-- the feature rows of the variants one behind the other, and of the parts, by a reading
+unfoldable pub variantFeatures : ℕ → ℕ → List Variant → List ℤ
+variantFeatures reading k [] = []
+variantFeatures reading k (x ∷ xs) = countsBy reading k (x .negative) (x .letters) ++ variantFeatures reading k xs
 
-unfoldable pub partFeatures : ℕ → List Part → List ℤ
-partFeatures k [] = []
-partFeatures k (x ∷ xs) = countsOf k (x .negative) (x .letters) ++ partFeatures k xs
+unfoldable pub partFeatures : ℕ → ℕ → List Part → List ℤ
+partFeatures reading k [] = []
+partFeatures reading k (x ∷ xs) = countsBy reading k (x .negative) (x .letters) ++ partFeatures reading k xs
 
 unfoldable pub tableOfJob : Job → Table
 tableOfJob job = tableOf
     (map (λ (x : Variant). x .start) (job .variants))
     (map (λ (x : Variant). x .end) (job .variants))
     (map (λ (x : Variant). x .size) (job .variants))
-    (variantFeatures (job .settings .k) (job .variants))
+    (variantFeatures (job .settings .letters) (job .settings .k) (job .variants))
 
-unfoldable pub partsOfHaplotype : ℕ → List Part → Parts
-partsOfHaplotype k parts = partsOf (map (λ (x : Part). x .size) parts) (partFeatures k parts)
+unfoldable pub partsOfHaplotype : ℕ → ℕ → List Part → Parts
+partsOfHaplotype reading k parts = partsOf (map (λ (x : Part). x .size) parts) (partFeatures reading k parts)
 
 -- some haplotype has over 8 parts
 unfoldable pub manyParts : List (List Part) → Bool
@@ -74,7 +74,7 @@ haplotypesText s t (p ∷ []) = haplotypeText s t p
 haplotypesText s t (p ∷ (q ∷ ps)) = cond (eqb (wholeFault s t) 0) (blocksText s t 0 (p ∷ (q ∷ ps))) (refusedText (wholeFault s t))
 
 unfoldable pub jobText : Job → List ℕ
-jobText job = haplotypesText (job .settings) (tableOfJob job) (map (partsOfHaplotype (job .settings .k)) (job .haplotypes))
+jobText job = haplotypesText (job .settings) (tableOfJob job) (map (partsOfHaplotype (job .settings .letters) (job .settings .k)) (job .haplotypes))
 
 unfoldable pub readText : Read → List ℕ
 readText (Faulty n) = refusedText n

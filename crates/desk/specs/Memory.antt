@@ -67,12 +67,12 @@ pub record BlocksFit (e : ℕ) (t : Table) (p : Parts) (breaks : List ℕ) : Typ
   pub rows : length (p .features) ≡ length (p .sizes) * e
   pub few : length (p .features) ≤ 32768
 
--- the table and the parts that ten slices give once their letters are counted
-abbrev pub tableFrom : ℕ → Lent → Table
-tableFrom k t = tableOf (t .starts) (t .ends) (t .sizes) (rowsFrom k (t .negatives) (t .counts) (t .letters))
+-- the table and the parts that ten slices give once their letters are counted by a reading
+abbrev pub tableFrom : ℕ → ℕ → Lent → Table
+tableFrom reading k t = tableOf (t .starts) (t .ends) (t .sizes) (rowsFrom reading k (t .negatives) (t .counts) (t .letters))
 
-abbrev pub partsFrom : ℕ → Lent → Parts
-partsFrom k t = partsOf (t .partSizes) (rowsFrom k (t .partNegatives) (t .partCounts) (drop (sum (t .counts)) (t .letters)))
+abbrev pub partsFrom : ℕ → ℕ → Lent → Parts
+partsFrom reading k t = partsOf (t .partSizes) (rowsFrom reading k (t .partNegatives) (t .partCounts) (drop (sum (t .counts)) (t .letters)))
 
 -- 26 for a haplotype of too many parts, k over 4 or maxpaths over 63, 1 for k 0, and else 0
 unfoldable pub limitFault : Bool → Settings → ℕ
@@ -87,11 +87,12 @@ heldFault s t = limitFault (overlong 0 (lentEnds t)) s
 unfoldable pub heldText : Settings → Lent → List ℕ
 heldText s t =
     cond (eqb (heldFault s t) 0)
-    (haplotypesText s (tableFrom (s .k) t) (stretches (4 ^ s .k) 0 (lentEnds t) (partsFrom (s .k) t)))
+    (haplotypesText s (tableFrom (s .letters) (s .k) t) (stretches (4 ^ s .k) 0 (lentEnds t) (partsFrom (s .letters) (s .k) t)))
     (refusedText (heldFault s t))
 
--- slices that fit the program's tables
-pub record Fits (t : Lent) : Type 0 where
+-- slices that fit the program's tables, to be counted by a reading that the counter knows
+pub record Fits (reading : ℕ) (t : Lent) : Type 0 where
+  pub known : reading ≤ 1
   pub variants : length (t .counts) ≤ 16
   pub parts : length (t .partCounts) ≤ 128
   pub haplotypes : length (t .breaks) ≤ 15
@@ -109,7 +110,7 @@ cut v m b t = lent (take v (t .starts)) (take v (t .ends)) (take v (t .sizes)) (
     (take m (t .partSizes)) (take m (t .partNegatives)) (take m (t .partCounts)) (take b (t .breaks)) (t .letters)
 
 -- that they stand there, and fit
-pub record Front (v m b : ℕ) (t : Lent) : Type 0 where
+pub record Front (reading v m b : ℕ) (t : Lent) : Type 0 where
   pub starts : v ≤ length (t .starts)
   pub ends : v ≤ length (t .ends)
   pub sizes : v ≤ length (t .sizes)
@@ -119,7 +120,7 @@ pub record Front (v m b : ℕ) (t : Lent) : Type 0 where
   pub part-negatives : m ≤ length (t .partNegatives)
   pub part-counts : m ≤ length (t .partCounts)
   pub breaks : b ≤ length (t .breaks)
-  pub fits : Fits (cut v m b t)
+  pub fits : Fits reading (cut v m b t)
 
 -- the reader's 30, too little room, is the program's 26
 unfoldable pub toldAs : ℕ → ℕ
@@ -128,7 +129,7 @@ toldAs n = cond (eqb n 30) 26 n
 -- what the reader said, and the slices that it filled
 abbrev pub Loaded : Reading → Lent → Type 0
 Loaded (Declined n) t = Unit {0}
-Loaded (Given s c) t = Front (c .variants) (c .parts) (c .breaks) t
+Loaded (Given s c) t = Front (s .letters) (c .variants) (c .parts) (c .breaks) t
 
 unfoldable pub readingText : Reading → Lent → List ℕ
 readingText (Declined n) t = refusedText (toldAs n)

@@ -3,11 +3,12 @@ use metrics::kmer::seq_to_kmer;
 ghost use mathlib.Core.Path.{_≡_};
 ghost use Prim.Native.Nat.{_-_};
 ghost use lib.ListN.{take, drop};
-ghost use Rattle.metrics.specs.Letters.{countsOf};
+ghost use Rattle.metrics.specs.Letters.{countsBy};
 ghost use Rattle.desk.specs.Rows.{RowFits, RowsFit, RowsCounted, rowStored};
 
-// One row, of the letters from `at` to `end`, into the entries from `from` to `to`.
+// One row, of the letters from `at` to `end`, into the entries from `from` to `to`. `reading` is the setting `letters`.
 fn count_row(
+    reading: u8,
     k: u8,
     negative: bool,
     letters: &[u8],
@@ -17,14 +18,21 @@ fn count_row(
     from: usize,
     to: usize,
 )
-    requires { ⌜ RowFits k at end from to (now letters) (now table) ⌝ }
-    ensures { λ _. ⌜ now (table .exit) ≡ rowStored from to (now (table .entry)) (countsOf k negative (take (end - at) (drop at (now (letters .entry))))) ⌝ }
+    requires { ⌜ RowFits reading k at end from to (now letters) (now table) ⌝ }
+    ensures { λ _. ⌜ now (table .exit) ≡ rowStored from to (now (table .entry)) (countsBy reading k negative (take (end - at) (drop at (now (letters .entry))))) ⌝ }
 {
-    seq_to_kmer(&letters[at..end], k, negative, &mut table[from..to]);
+    seq_to_kmer(
+        &letters[at..end],
+        k,
+        negative,
+        reading,
+        &mut table[from..to],
+    );
 }
 
 // A row for each count, of the letters from `first` on. Returns the position behind the last letter.
 pub(crate) fn count_rows(
+    reading: u8,
     k: u8,
     width: usize,
     negatives: &[bool],
@@ -33,8 +41,8 @@ pub(crate) fn count_rows(
     first: usize,
     table: &mut [i32],
 ) -> usize
-    requires { ⌜ RowsFit k width (now negatives) (now counts) (now letters) first (now table) ⌝ }
-    ensures { λ r. ⌜ RowsCounted k width (now (negatives .entry)) (now (counts .entry)) (now (letters .entry)) first r (now (table .entry)) (now (table .exit)) ⌝ }
+    requires { ⌜ RowsFit reading k width (now negatives) (now counts) (now letters) first (now table) ⌝ }
+    ensures { λ r. ⌜ RowsCounted reading k width (now (negatives .entry)) (now (counts .entry)) (now (letters .entry)) first r (now (table .entry)) (now (table .exit)) ⌝ }
 {
     let mut row = 0usize;
     let mut at = first;
@@ -42,6 +50,7 @@ pub(crate) fn count_rows(
     while row < counts.len() {
         let end = at + counts[row] as usize;
         count_row(
+            reading,
             k,
             negatives[row],
             letters,

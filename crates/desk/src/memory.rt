@@ -55,7 +55,7 @@ fn answer_held(
     letters: &[u8],
     out: &mut [u8],
 ) -> usize
-    requires { ⌜ Fits (lent (now starts) (now ends) (now sizes) (now negatives) (now counts) (now «part_sizes») (now «part_negatives»)
+    requires { ⌜ Fits (s .letters) (lent (now starts) (now ends) (now sizes) (now negatives) (now counts) (now «part_sizes») (now «part_negatives»)
         (now «part_counts») (now breaks) (now letters)) ⌝ }
     ensures { λ r. ⌜ Printed mostOfAll (now (out .entry)) 0 (heldText s
         (lent (now (starts .entry)) (now (ends .entry)) (now (sizes .entry)) (now (negatives .entry)) (now (counts .entry))
@@ -69,8 +69,18 @@ fn answer_held(
     let width = entries(s.k);
     let mut features = variant_table();
     let mut part_features = part_table();
-    let next = count_rows(s.k, width, negatives, counts, letters, 0, &mut features);
+    let next = count_rows(
+        s.letters,
+        s.k,
+        width,
+        negatives,
+        counts,
+        letters,
+        0,
+        &mut features,
+    );
     count_rows(
+        s.letters,
         s.k,
         width,
         part_negatives,

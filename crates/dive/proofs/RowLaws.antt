@@ -1,31 +1,30 @@
 -- The rows of an accepted call's answer are rows of its table, and no more than it has. In search mode they are those of a chain scored, or none: each chain
 -- scored is a chain of the graph, whose rows ascend below V. One-to-one answers at most one row, and source and sink are never it. Assumes nothing.
-use mathlib.Core.Path.{_≡_, refl, sym, ap, subst}
+use mathlib.Core.Path.{_≡_, sym, subst}
 use Prim.Native.Nat.{ℕ, zero, suc, _+_, _^_, _≤_, _<_}
 use native.Mathlib.Omega.{arith}
-use mathlib.Core.Bool.{Bool, true, false, cond}
-use mathlib.Core.List.{List, [], _∷_, map, reverse, reverse-cons}
+use mathlib.Core.Bool.{Bool, true}
+use mathlib.Core.List.{List, [], reverse}
 use lib.IntN.{ℤ}
 use lib.Ieee.{lt}
 use lib.ListN.{length, length-reverse}
-use Rattle.paths.specs.Sums.{bit, timesIn}
 use Rattle.paths.specs.Chains.{isChain}
-use Rattle.paths.specs.Best.{All, best}
-use Rattle.paths.proofs.SumLaws.{sameRows-refl}
-use Rattle.paths.proofs.QueueLaws.{all-append, chain-parts, chain-end, chain-length}
-use Rattle.paths.proofs.Demand.{at-most-once}
+use Rattle.paths.specs.Best.{All}
+use Rattle.paths.proofs.QueueLaws.{chain-end, chain-length}
 use Rattle.params.specs.Checked.{Checked}
 use Rattle.params.specs.Numbers.{Table, Parts, Call, firstFault}
 use Rattle.params.specs.declared.Settings.{Settings}
 use Rattle.params.proofs.CheckedLaws.{accepted}
 use Rattle.kplib.specs.Sums.{Total}
 use Rattle.kplib.specs.OneToOne.{aloneScore, nodeTotal, isCandidate, latestOf, overNodes, noLone, oneToOne, loneRowsAt}
-use Rattle.kplib.specs.Search.{Result, rowsFor, startResult, noLower, followsIn, distanceIn, scoredIn, resultOf, bestIn}
+use Rattle.kplib.specs.Search.{Result, rowsFor, followsIn, resultOf, bestIn}
 use Rattle.kplib.specs.Score.{chainScore}
 use Rattle.kplib.specs.Answer.{Found, searched, matchedAlone, inSearchMode, foundAfter, rowsOf}
 use Rattle.kplib.specs.declared.pathscore.Scored.{Scored}
 use Rattle.kplib.specs.declared.pathscore.Target.{Target}
 use Rattle.kplib.specs.declared.pathscore.Target.the-variants.{Nothing, Whole, Partial}
+use Rattle.kplib.proofs.RowChainLaws.{all-reverse, chain-below}
+use Rattle.kplib.proofs.BestKeptLaws.{either, best-kept}
 use Rattle.kplib.proofs.OneToOneLaws.{nodeStep, tables-of, rows-only}
 
 -- at most v rows, each below v
@@ -37,31 +36,6 @@ none-within : (v : ℕ) → Within v []
 none-within v = record { few = omega arith; below = tt }
 
 -- ---- a search: what holds of each chain scored holds of the best
-all-reverse : (P : ℕ → Type 0) (l : List ℕ) → All P l → All P (reverse l)
-all-reverse P [] h = tt
-all-reverse P (x ∷ l) h = rw (reverse-cons x l) (all-append P (reverse l) (x ∷ []) (all-reverse P l (h .1)) (h .0, tt))
-
-all-mapped : {A B : Type 0} (P : B → Type 0) (f : A → B) (l : List A) → All (λ a. P (f a)) l → All P (map f l)
-all-mapped P f [] h = tt
-all-mapped P f (x ∷ l) h = (h .0, all-mapped P f l (h .1))
-
-all-standing : (P : List ℕ → Type 0) (l : List (List ℕ)) → ((x : List ℕ) → 1 ≤ timesIn x l → P x) → All P l
-all-standing P [] h = tt
-all-standing P (y ∷ l) h = (h y (omega (arith, ap bit (sameRows-refl y))), all-standing P l (λ x k. h x (omega arith)))
-
-either : {A : Type 0} (P : A → Type 0) (t : Bool) (x y : A) → P x → P y → P (cond t x y)
-either P true x y px py = px
-either P false x y px py = py
-
-best-kept : {R : Type 0} (P : R → Type 0) (le : R → R → Bool) (b : R) (l : List R) → P b → All P l → P (best le b l)
-unfolding best
-best-kept P le b [] p a = p
-best-kept P le b (r ∷ l) p a = best-kept P le (cond (le b r) r b) l (either P (le b r) r b (a .0) p) (a .1)
-
-chain-below : (follows : List ℕ → ℕ → Bool) (v : ℕ) (c : List ℕ) → isChain follows v c ≡ true → All (λ r. r < v) c
-chain-below follows v [] e = tt
-chain-below follows v (s ∷ c) e = let p = chain-parts follows v s c e in (p .1, chain-below follows v c (p .0))
-
 chain-within : (follows : List ℕ → ℕ → Bool) (v : ℕ) (c : List ℕ) → isChain follows v c ≡ true → Within v (reverse c)
 chain-within follows v c e = record {
   few = omega (arith, length-reverse c, chain-length follows v c e, chain-end follows v c e);
@@ -77,19 +51,12 @@ module _ (s : Settings) (t : Table) (p : Parts) where
   abbrev Good : Result → Type 0
   Good r = Within (length (t .starts)) (r .rows)
 
-  result-within : (x : List ℕ) → 1 ≤ timesIn x (scoredIn s t p) → Good (resultOf s t p x)
+  result-within : (x : List ℕ) → isChain (followsIn s t p) (length (t .starts)) x ≡ true → Good (resultOf s t p x)
   unfolding resultOf
-  result-within x o =
-      go (isChain (followsIn s t p) (length (t .starts)) x) refl (at-most-once (followsIn s t p) (length (t .starts)) (distanceIn s t p) (s .maxpaths + 1) x)
-    where
-      go : (b : Bool) → isChain (followsIn s t p) (length (t .starts)) x ≡ b → timesIn x (scoredIn s t p) ≤ bit b → Good (resultOf s t p x)
-      go true e k = found-within (length (t .starts)) (chainScore s t p (reverse x) .target) (reverse x) (chain-within (followsIn s t p) (length (t .starts)) x e)
-      go false e k = absurd (omega arith)
+  result-within x e = found-within (length (t .starts)) (chainScore s t p (reverse x) .target) (reverse x) (chain-within (followsIn s t p) (length (t .starts)) x e)
 
   best-within : Good (bestIn s t p)
-  best-within =
-      best-kept Good noLower startResult (map (resultOf s t p) (scoredIn s t p)) (none-within (length (t .starts)))
-      (all-mapped Good (resultOf s t p) (scoredIn s t p) (all-standing (λ x. Good (resultOf s t p x)) (scoredIn s t p) result-within))
+  best-within = best-kept s t p Good (none-within (length (t .starts))) result-within
 
 -- ---- one-to-one: the best begins with row 0, and each node that is asked is a row's
 lone-within : {v r : ℕ} (t : Target) → r < v → Within v (loneRowsAt t r)

@@ -11,6 +11,10 @@ use Rattle.params.specs.Numbers.{tableOf, partsOf, callOf}
 use Rattle.metrics.specs.Placed.{placed}
 use Rattle.kplib.specs.Promises.{callLent, severalLent}
 use Rattle.kplib.specs.declared.traverse.Answer.{Answer}
+use Rattle.meta.specs.declared.HaplotypeMeta.{HaplotypeMeta}
+use Rattle.dive.specs.declared.told.Told.{Told}
+use Rattle.dive.specs.declared.told.ToldSeveral.{ToldSeveral}
+use Rattle.dive.specs.Carried.{toldOf, toldSeveralOf}
 use Rattle.dive.specs.NumberedSeveral.{NumberedSeveral, numberedSeveralFault, numberedRowsAfter, recordsAfter, numberedReportsAfter, numberedSeveralSearches}
 use Rattle.dive.specs.Numbered.{Numbered, numberedFault, numberedAnswer, numberedRows, recordsOf, numberedSearches}
 
@@ -58,6 +62,27 @@ abbrev pub ApplyNumberedHaplotypesPromise : Settings → List ℕ → List ℕ �
 ApplyNumberedHaplotypesPromise s starts ends sizes features numbers partEnds featureEnds partSizes partFeatures links keys rows records reports links' keys' rows' records' reports' r =
     let n = numberedSeveralLent s starts ends sizes features numbers partEnds featureEnds partSizes partFeatures links keys rows records reports in
     (r ≡ numberedSeveralFault n)
+    × ((rows' ≡ numberedRowsAfter n rows)
+    × ((records' ≡ recordsAfter n records)
+    × ((reports' ≡ numberedReportsAfter n reports)
+    × (NumberedSeveralQueueKept n links links'
+    × NumberedSeveralQueueKept n keys keys'))))
+
+abbrev pub ApplyWithMetaPromise : Settings → List ℕ → List ℕ → List ℤ → List ℤ → List ℕ → List ℤ → List ℤ → HaplotypeMeta → List ℕ → List ℕ → List ℕ → List ℕ
+    → List ℕ → List ℕ → List ℕ → List ℕ → Told → Type 0
+ApplyWithMetaPromise s starts ends sizes features numbers partSizes partFeatures meta links keys rows records links' keys' rows' records' r =
+    let n = numberedLent s starts ends sizes features numbers partSizes partFeatures links keys rows records in
+    (r ≡ toldOf n meta)
+    × ((rows' ≡ placed rows (numberedRows n))
+    × ((records' ≡ placed records (recordsOf n))
+    × (NumberedQueueKept n links links'
+    × NumberedQueueKept n keys keys')))
+
+abbrev pub ApplyHaplotypesWithMetaPromise : Settings → List ℕ → List ℕ → List ℤ → List ℤ → List ℕ → List ℕ → List ℕ → List ℤ → List ℤ → List HaplotypeMeta
+    → List ℕ → List ℕ → List ℕ → List ℕ → List ℕ → List ℕ → List ℕ → List ℕ → List ℕ → List ℕ → ToldSeveral → Type 0
+ApplyHaplotypesWithMetaPromise s starts ends sizes features numbers partEnds featureEnds partSizes partFeatures metas links keys rows records reports links' keys' rows' records' reports' r =
+    let n = numberedSeveralLent s starts ends sizes features numbers partEnds featureEnds partSizes partFeatures links keys rows records reports in
+    (r ≡ toldSeveralOf n metas)
     × ((rows' ≡ numberedRowsAfter n rows)
     × ((records' ≡ recordsAfter n records)
     × ((reports' ≡ numberedReportsAfter n reports)

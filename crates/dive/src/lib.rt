@@ -1,6 +1,8 @@
-// What stands above the search: the record numbers of a table's variants (document 02, P3), for one haplotype and for several (P1).
+// What stands above the search: the record numbers of a table's variants (document 02, P3), for one haplotype and for several (P1), and the data that a
+// haplotype carries (P12).
 mod numbers;
 mod records;
+pub mod told;
 
 use crate::numbers::number_fault;
 use crate::records::put_all_records;

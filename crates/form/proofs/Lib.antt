@@ -6,3 +6,4 @@ pub mod CountLaws
 pub mod OrderLaws
 pub mod LetterLaws
 pub mod SettingsLaws
+pub mod Settings41Laws

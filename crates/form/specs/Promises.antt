@@ -7,6 +7,7 @@ use lib.Seq.{sets}
 use Rattle.params.specs.declared.Settings.{Settings}
 use Rattle.form.specs.Form.{kindOf, bodyLen, recordAt}
 use Rattle.form.specs.Settings40.{settingsIn, settingsBytes}
+use Rattle.form.specs.Settings41.{settings41In, settings41Fault}
 use Rattle.form.specs.Job.{readJob}
 use Rattle.form.specs.Lent.{scanOf}
 use Rattle.form.specs.declared.records.Kind.{Kind}
@@ -30,3 +31,9 @@ ReadSettingsPromise b r = r ≡ settingsIn b
 
 abbrev pub WriteSettingsPromise : List ℕ → ℕ → Settings → List ℕ → Type 0
 WriteSettingsPromise out at s out' = out' ≡ sets out at (settingsBytes s)
+
+abbrev pub ReadSettings41Promise : List ℕ → Settings → Type 0
+ReadSettings41Promise b r = r ≡ settings41In b
+
+abbrev pub Settings41FaultPromise : List ℕ → ℕ → Type 0
+Settings41FaultPromise b r = r ≡ settings41Fault b

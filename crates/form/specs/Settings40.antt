@@ -1,5 +1,5 @@
 -- Document 01, "Job form": the 40 bytes of a settings record's body, a code of their own.
--- A float is its pattern; there is one NaN, which every NaN's pattern gives and whose own pattern is 0x7fc00000.
+-- They have no place for `letters`: such settings read as 0 (document 02, P6). A float is its pattern; there is one NaN, which every NaN's pattern gives and whose own pattern is 0x7fc00000.
 use Prim.Native.Nat.{ℕ}
 use mathlib.Core.List.{List, _∷_, _++_}
 use mathlib.Core.Bool.{Bool, true, false}
@@ -24,6 +24,7 @@ settingsIn b = record {
   fnmax = le4 b 12;
   pileupmax = le4 b 16;
   minkfreq = le4 b 20;
+  letters = 0;
   sizesim = ofBits binary32 (le4 b 24);
   seqsim = ofBits binary32 (le4 b 28);
   fpenalty = ofBits binary32 (le4 b 32);

@@ -101,6 +101,8 @@ pub const VARIANT_COUNT: usize = 21;
 pub const PART_FLAG: usize = 4;
 
 pub const PART_COUNT: usize = 5;
+// where edition 2's settings have `letters`: behind the old bytes
+pub const LETTERS_PLACE: usize = SETTINGS_BODY;
 
 // A kind's shape: how long its body is, from which byte on how many are flags, and where the letter count stands, 0 where it has none.
 pub struct Shape {
@@ -253,7 +255,8 @@ fn in_place(st: State, kind: Kind) -> bool
     }
 }
 
-fn are_flags(b: &[u8], from: usize, n: usize) -> bool
+// Whether n bytes from a place on are flags.
+pub(crate) fn are_flags(b: &[u8], from: usize, n: usize) -> bool
     requires { ⌜ from + n ≤ 64 ⌝ }
     ensures { λ r. ⌜ r ≡ areFlags (now (b .entry)) from n ⌝ }
 {

@@ -1,18 +1,22 @@
-// The body of a settings record.
+// The body of a settings record, of 40 bytes and of edition 2's 41.
+use crate::records::LETTERS_PLACE;
+use crate::records::are_flags;
 use fields::float_of;
 use fields::put_u8;
 use fields::put_u32;
 use fields::u8_at;
 use fields::u32_at;
 use metrics::floats::bits_of;
+use metrics::refusals::BAD_FLAG;
 use params::Settings;
+use params::graphparams::settings_fault;
 ghost use mathlib.Core.Path.{_≡_};
 ghost use Prim.Native.Nat.{_<_, _+_, _^_};
 ghost use lib.Seq.{sets};
 ghost use Rattle.form.specs.Settings40.{numberBytes, floatBytes, flag};
-ghost use Rattle.form.specs.Promises.{ReadSettingsPromise, WriteSettingsPromise};
+ghost use Rattle.form.specs.Promises.{ReadSettingsPromise, WriteSettingsPromise, ReadSettings41Promise, Settings41FaultPromise};
 
-// The settings that b begins with.
+// The settings that b begins with. The 40 bytes have no place for `letters`: they are 0.
 pub fn read_settings(b: &[u8]) -> Settings
     ensures { λ r. ⌜ ReadSettingsPromise (now (b .entry)) r ⌝ }
 {
@@ -26,11 +30,48 @@ pub fn read_settings(b: &[u8]) -> Settings
         fnmax: u32_at(b, 12),
         pileupmax: u32_at(b, 16),
         minkfreq: u32_at(b, 20),
+        letters: 0,
         sizesim: float_of(u32_at(b, 24)),
         seqsim: float_of(u32_at(b, 28)),
         fpenalty: float_of(u32_at(b, 32)),
         gpenalty: float_of(u32_at(b, 36)),
     }
+}
+
+// The settings of edition 2 that b begins with: the old 40 bytes and then `letters`.
+pub fn read_settings41(b: &[u8]) -> Settings
+    ensures { λ r. ⌜ ReadSettings41Promise (now (b .entry)) r ⌝ }
+{
+    let old = read_settings(b);
+    Settings {
+        k: old.k,
+        squish: old.squish,
+        one_to_one: old.one_to_one,
+        full: old.full,
+        maxpaths: old.maxpaths,
+        maxnodes: old.maxnodes,
+        fnmax: old.fnmax,
+        pileupmax: old.pileupmax,
+        minkfreq: old.minkfreq,
+        letters: u8_at(b, LETTERS_PLACE),
+        sizesim: old.sizesim,
+        seqsim: old.seqsim,
+        fpenalty: old.fpenalty,
+        gpenalty: old.gpenalty,
+    }
+}
+
+// The number of their first refusal: 24, then 1 to 3; 0 where they are accepted.
+pub fn settings41_fault(b: &[u8]) -> u32
+    ensures { λ r. ⌜ Settings41FaultPromise (now (b .entry)) r ⌝ }
+{
+    if !are_flags(b, 1, 3) {
+        return BAD_FLAG;
+    }
+    if !are_flags(b, LETTERS_PLACE, 1) {
+        return BAD_FLAG;
+    }
+    settings_fault(read_settings41(b))
 }
 
 fn flag_of(x: bool) -> u8
@@ -60,7 +101,7 @@ fn write_floats(out: &mut [u8], at: usize, s: Settings)
     put_u32(out, at + 12, bits_of(s.gpenalty));
 }
 
-// The settings from position `at` on, as far as there is room.
+// The settings from position `at` on, as far as there is room. There is no place for `letters`.
 pub fn write_settings(out: &mut [u8], at: usize, s: Settings)
     ensures { λ _. ⌜ WriteSettingsPromise (now (out .entry)) at s (now (out .exit)) ⌝ }
 {

@@ -12,6 +12,7 @@ mod BoundLaws
 mod BlockLaws
 pub mod SizeSumLaws
 pub mod PartLaws
+pub mod MemberLaws
 pub mod CodeLaws
 mod CodedLaws
 mod StandLaws
@@ -30,5 +31,9 @@ mod SearchedLaws
 pub mod PlaceLaws
 pub mod FoundLaws
 mod CountedLaws
+pub mod RowChainLaws
+pub mod ProposalLaws
+pub mod BestKeptLaws
+pub mod OwnPathLaws
 pub mod StretchLaws
 mod HaplotypesLaws

@@ -11,4 +11,6 @@ pub mod Answer
 pub mod SearchSteps
 pub mod Report
 pub mod Haplotypes
+pub mod Proposal
+pub mod OwnPaths
 pub mod Promises

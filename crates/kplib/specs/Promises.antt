@@ -5,6 +5,7 @@ use mathlib.Core.Path.{_≡_}
 use mathlib.Core.Bool.{Bool, false}
 use mathlib.Core.List.{List}
 use lib.IntN.{ℤ}
+use lib.Ieee.{Float}
 use lib.ListN.{length}
 use Rattle.params.specs.declared.Settings.{Settings}
 use Rattle.params.specs.Numbers.{Call, tableOf, partsOf, callOf}
@@ -13,9 +14,11 @@ use Rattle.kplib.specs.Graph.{cappedCount}
 use Rattle.kplib.specs.Answer.{answerOf, rowsOf, queueRoom, searches}
 use Rattle.kplib.specs.Report.{reportOf}
 use Rattle.kplib.specs.Haplotypes.{rowsAfter, reportsAfter, severalSearches}
+use Rattle.kplib.specs.Proposal.{proposalOf, checkOf}
 use Rattle.metrics.specs.Placed.{placed}
 use Rattle.kplib.specs.declared.vargraph.ChainCount.{ChainCount}
 use Rattle.kplib.specs.declared.traverse.Answer.{Answer}
+use Rattle.kplib.specs.declared.checkpath.PathCheck.{PathCheck}
 
 abbrev pub CountChainsPromise : List ℕ → List ℕ → Bool → ℕ → ChainCount → Type 0
 CountChainsPromise starts ends full cap r = r ≡ cappedCount starts ends full cap
@@ -67,3 +70,7 @@ ApplyHaplotypesPromise s starts ends sizes features partEnds featureEnds partSiz
     × ((reports' ≡ reportsAfter c reports)
     × (SeveralQueueKept c links links'
     × SeveralQueueKept c keys keys')))
+
+abbrev pub CheckPathPromise : Settings → List ℕ → List ℕ → List ℤ → List ℤ → List ℤ → List ℤ → List ℕ → List ℕ → Float → PathCheck → Type 0
+CheckPathPromise s starts ends sizes features partSizes partFeatures rows positions score r =
+    r ≡ checkOf s (tableOf starts ends sizes features) (partsOf partSizes partFeatures) (proposalOf rows positions score)

@@ -1,4 +1,5 @@
 // The search core: part lists, graph, score, search.
+pub mod checkpath;
 mod haplotype;
 pub mod haplotypes;
 mod heap;

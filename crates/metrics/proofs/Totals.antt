@@ -15,7 +15,7 @@ use borrow.Author.Tests.{leb-true, leb-false, ltb-false, eq-eqb, ne-eqb, le-leb,
 use Rattle.metrics.specs.declared.kmer.Counted.the-variants.{Done}
 use Rattle.metrics.specs.Similarity.{magnitudeSum}
 use Rattle.metrics.specs.Letters.{numberOf, everyByte, allRead, firstWindow, windowsReading, timesIn, signed, tableFrom}
-use Rattle.metrics.specs.Letters.{countsReading, countsOf, counterAnswer, countedNumber, entriesOf, EntriesSum, EntriesSumToLength, RowWithinLimit}
+use Rattle.metrics.specs.Letters.{readBy, countsReading, countsOf, countsBy, counterAnswer, countedNumber, entriesOf, EntriesSum, EntriesSumBy, ReadingZero, EntriesSumToLength, RowWithinLimit}
 use Rattle.metrics.proofs.Windows.{signed-size, number-lt, all-every, windows-fewer}
 
 -- g i + g (i + 1) + .., n terms
@@ -146,38 +146,53 @@ pub entries-sum-to-length : EntriesSumToLength
 unfolding EntriesSumToLength EntriesSum countsOf
 entries-sum-to-length k negative s h = entries-sum everyByte k negative s ∙ ap (signed negative) (every-length k h s)
 
--- for the crates above: which calls are accepted, and what is known of one that is
-pub counter-done : (k : ℕ) (s : List ℕ) (row : List ℤ) → 1 ≤ k → k ≤ 6 → length row ≡ 4 ^ k → length s ≤ 131072 → counterAnswer k s row ≡ Done
+pub entries-sum-by : EntriesSumBy
+unfolding EntriesSumBy EntriesSum countsBy
+entries-sum-by reading k negative s = entries-sum (readBy reading) k negative s
+
+-- for the crates above: reading 0 is document 01's, since it reads every byte
+pub reading-zero : ReadingZero
+unfolding ReadingZero countsBy countsOf readBy
+reading-zero k negative s = refl
+
+-- which calls are accepted, and what is known of one that is
+pub counter-done : (k reading : ℕ) (s : List ℕ) (row : List ℤ) → 1 ≤ k → k ≤ 6 → reading ≤ 1 → length row ≡ 4 ^ k → length s ≤ 131072
+    → counterAnswer k reading s row ≡ Done
 unfolding counterAnswer
-counter-done k s row h h' e l = rw (le-leb 1 k h, le-leb k 6 h', eq-eqb (length row) (4 ^ k) e, le-ltb 131072 (length s) l)
+counter-done k reading s row h h' r e l =
+    rw (le-leb 1 k h, le-leb k 6 h', le-ltb 1 reading r, eq-eqb (length row) (4 ^ k) e, le-ltb 131072 (length s) l)
 
 -- a test that fails gives a number other than 0, in whichever order the tests are tried
-passed-tests : (k : ℕ) (s : List ℕ) (row : List ℤ) (low high room long : Bool)
-    → leb 1 k ≡ low → leb k 6 ≡ high → eqb (length row) (4 ^ k) ≡ room → ltb 131072 (length s) ≡ long
-    → counterAnswer k s row ≡ Done → long ≡ false
+passed-tests : (k reading : ℕ) (s : List ℕ) (row : List ℤ) (low high other room long : Bool)
+    → leb 1 k ≡ low → leb k 6 ≡ high → ltb 1 reading ≡ other → eqb (length row) (4 ^ k) ≡ room → ltb 131072 (length s) ≡ long
+    → counterAnswer k reading s row ≡ Done → long ≡ false
 unfolding counterAnswer
-passed-tests k s row false high room long a b c d e =
-    let z = ap countedNumber (simp a at e) in
+passed-tests k reading s row low high other room false a b o c d e = refl
+passed-tests k reading s row false high other room true a b o c d e =
+    let z = ap countedNumber (simp (a, d) at e) in
     absurd (omega arith)
-passed-tests k s row true false room long a b c d e =
-    let z = ap countedNumber (simp (a, b) at e) in
+passed-tests k reading s row true false other room true a b o c d e =
+    let z = ap countedNumber (simp (a, b, d) at e) in
     absurd (omega arith)
-passed-tests k s row true true false true a b c d e =
-    let z = ap countedNumber (simp (a, b, c, d) at e) in
+passed-tests k reading s row true true true false true a b o c d e =
+    let z = ap countedNumber (simp (a, b, o, c, d) at e) in
     absurd (omega arith)
-passed-tests k s row true true false false a b c d e =
-    let z = ap countedNumber (simp (a, b, c, d) at e) in
+passed-tests k reading s row true true true true true a b o c d e =
+    let z = ap countedNumber (simp (a, b, o, c, d) at e) in
     absurd (omega arith)
-passed-tests k s row true true true true a b c d e =
-    let z = ap countedNumber (simp (a, b, c, d) at e) in
+passed-tests k reading s row true true false false true a b o c d e =
+    let z = ap countedNumber (simp (a, b, o, c, d) at e) in
     absurd (omega arith)
-passed-tests k s row true true true false a b c d e = refl
+passed-tests k reading s row true true false true true a b o c d e =
+    let z = ap countedNumber (simp (a, b, o, c, d) at e) in
+    absurd (omega arith)
 
-accepted-letters : (k : ℕ) (s : List ℕ) (row : List ℤ) → counterAnswer k s row ≡ Done → length s ≤ 131072
-accepted-letters k s row e =
-    ltb-false 131072 (length s) (passed-tests k s row (leb 1 k) (leb k 6) (eqb (length row) (4 ^ k)) (ltb 131072 (length s)) refl refl refl refl e)
+accepted-letters : (k reading : ℕ) (s : List ℕ) (row : List ℤ) → counterAnswer k reading s row ≡ Done → length s ≤ 131072
+accepted-letters k reading s row e =
+    ltb-false 131072 (length s)
+    (passed-tests k reading s row (leb 1 k) (leb k 6) (ltb 1 reading) (eqb (length row) (4 ^ k)) (ltb 131072 (length s)) refl refl refl refl refl e)
 
 pub row-within-limit : RowWithinLimit
 unfolding RowWithinLimit
-row-within-limit reads k negative s row e =
-    omega (arith, accepted-letters k s row e, magnitudes-sum reads k negative s, windows-fewer reads k s)
+row-within-limit reads k reading negative s row e =
+    omega (arith, accepted-letters k reading s row e, magnitudes-sum reads k negative s, windows-fewer reads k s)

@@ -14,21 +14,11 @@ use lib.IntN.{ℤ, pos, natAbs, sucℤ, predℤ}
 use lib.ListN.{length, getD, take, drop, set, replicate, length-append, length-drop, length-set, take-append-drop}
 use lib.Pow.{pow-add}
 use lib.Seq.{take-suc, take-all, take-append-le, length-take-le, getD-set-same, getD-set-other, ext-getD}
-use Rattle.metrics.specs.Letters.{codeOf, numberOf, everyByte, allRead, firstWindow, windowsReading, timesIn, signed, tableFrom, countsReading}
+use Rattle.metrics.proofs.Codes.{cond-le, letter-le, entry-code}
+use Rattle.metrics.specs.Letters.{codeOf, encoded, readBy, numberOf, everyByte, allRead, firstWindow, windowsReading, timesIn, signed, tableFrom, countsReading}
+use Rattle.metrics.specs.Lanes.{entryOf}
 
 -- ---- letters as digits
-cond-le : (t : Bool) (p q r : ℕ) → p ≤ r → q ≤ r → cond t p q ≤ r
-cond-le true p q r h k = h
-cond-le false p q r h k = k
-
--- a letter is a digit in base 4
-pub letter-le : (b : ℕ) → codeOf b ≤ 3
-unfolding codeOf
-letter-le b =
-    cond-le (eqb b 65) _ _ 3 (omega arith) (cond-le (eqb b 97) _ _ 3 (omega arith) (cond-le (eqb b 71) _ _ 3 (omega arith)
-    (cond-le (eqb b 103) _ _ 3 (omega arith) (cond-le (eqb b 67) _ _ 3 (omega arith) (cond-le (eqb b 99) _ _ 3 (omega arith)
-    (cond-le (eqb b 84) _ _ 3 (omega arith) (cond-le (eqb b 116) _ _ 3 (omega arith) (omega arith))))))))
-
 number-append : (xs ys : List ℕ) → numberOf (xs ++ ys) ≡ numberOf xs * 4 ^ length ys + numberOf ys
 unfolding numberOf
 number-append [] ys = omega arith
@@ -50,7 +40,7 @@ number-more s p h = rw (add-one, take-suc s p 0 h, number-append) (omega arith)
 abbrev pub lastLetters : ℕ → List ℕ → List ℕ
 lastLetters k s = drop (length s - k) s
 
-last-length : (k : ℕ) (s : List ℕ) → k ≤ length s → length (lastLetters k s) ≡ k
+pub last-length : (k : ℕ) (s : List ℕ) → k ≤ length s → length (lastLetters k s) ≡ k
 last-length k s h =
     let e : length s - (length s - k) ≡ k = omega arith in
     length-drop (length s - k) s ∙ e
@@ -79,6 +69,10 @@ pub all-every : (s : List ℕ) → allRead everyByte s ≡ true
 unfolding allRead
 all-every [] = refl
 all-every (x ∷ s) = all-every s
+
+pub all-by-zero : (reading : ℕ) → reading ≡ 0 → (s : List ℕ) → allRead (readBy reading) s ≡ true
+unfolding readBy
+all-by-zero reading e s = rw e (all-every s)
 
 module _ (reads : ℕ → Bool) (k : ℕ) where
   first-short : (s : List ℕ) → length s < k → firstWindow reads k s ≡ []
@@ -252,13 +246,17 @@ module _ (reads : ℕ → Bool) (k : ℕ) (negative : Bool) where
 pub four-pos : (k : ℕ) → 0 < 4 ^ k
 four-pos k = pow-le-pow-right {n = 4} (omega arith) {i = 0} {j = k} zero-le
 
-pub turn-number : (k : ℕ) (s : List ℕ) (p v d size : ℕ) → size ≡ 4 ^ k → p < length s → v ≡ numberOf (take p s) % 4 ^ k → d ≡ codeOf (getD s p 0)
-    → (v * 4 + d) % size ≡ numberOf (take (p + 1) s) % 4 ^ k
-turn-number k s p v d size es h ev ed =
-    rw (es, ev, ed) (roll (numberOf (take p s)) (codeOf (getD s p 0)) (4 ^ k) ∙ ap (λ (x : ℕ). x % 4 ^ k) (sym (number-more s p h)))
+pub turn-number : (k : ℕ) (s : List ℕ) (p v d size : ℕ) → size ≡ 4 ^ k → k ≤ 6 → p < length s → v ≡ numberOf (take p s) % 4 ^ k
+    → d ≡ entryOf (encoded (getD s p 0)) → (v * 4 + d) % size ≡ numberOf (take (p + 1) s) % 4 ^ k
+turn-number k s p v d size es six h ev ed =
+    rw (es, ev, ed) (
+    entry-code k (numberOf (take p s) % 4 ^ k) (getD s p 0) six
+    ∙ roll (numberOf (take p s)) (codeOf (getD s p 0)) (4 ^ k)
+    ∙ ap (λ (x : ℕ). x % 4 ^ k) (sym (number-more s p h))
+    )
 
 module _ (k : ℕ) (s : List ℕ) (p : ℕ) (more : p < length s) where
-  read-length : length (take (p + 1) s) ≡ p + 1
+  pub read-length : length (take (p + 1) s) ≡ p + 1
   read-length = length-take-le (p + 1) s (omega arith)
 
   pub turn-window : k ≤ p + 1 → numberOf (take (p + 1) s) % 4 ^ k ≡ numberOf (lastLetters k (take (p + 1) s))

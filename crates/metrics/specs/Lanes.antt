@@ -8,7 +8,9 @@ use lib.ListN.{length, getD}
 use lib.IntN.{ℤ, pos, negsuc}
 use Rattle.metrics.specs.declared.lanes.Sums.{Sums}
 use Rattle.metrics.specs.declared.lanes.RowSum.{RowSum}
-use Rattle.metrics.specs.Letters.{codeOf}
+use Rattle.metrics.specs.declared.kmer.Code.{Code}
+use Rattle.metrics.specs.declared.kmer.Code.the-variants.{Letter, NoCode}
+use Rattle.metrics.specs.Letters.{encoded}
 use Rattle.metrics.specs.Similarity.{magnitudeSum, sumD, sumN}
 
 -- the bits of a signed number of 32 bits, and the magnitude of the number that has these bits
@@ -39,6 +41,10 @@ pub record RowSummed (a : List ℤ) (r : RowSum) : Type 0 where
   pub room : magnitudeSum a ≤ length a * r .most
   pub exact : magnitudeSum a < 4294967296 → r .sum ≡ magnitudeSum a
 
--- a table that has the code of each byte
+-- a letter's code with a mark that there is one, or 0 for none; a table that has this of each byte
+abbrev pub entryOf : Code → ℕ
+entryOf (Letter n) = n + 4096
+entryOf NoCode = 0
+
 pub record Coded (t : List ℕ) : Type 0 where
-  pub at : (b : ℕ) → b < 256 → getD t b 0 ≡ codeOf b
+  pub at : (b : ℕ) → b < 256 → getD t b 0 ≡ entryOf (encoded b)

@@ -1,11 +1,13 @@
--- Document 01, "From letters to similarity", Letters: the code of a letter, the windows of a sequence, the counter.
+-- Document 01, "From letters to similarity", Letters, and document 02, P6: the code of a letter, the two readings, the windows of a sequence, the counter.
 use Prim.Native.Nat.{ℕ, zero, suc, _+_, _-_, _*_, _^_, _≤_}
 use mathlib.Core.Path.{_≡_}
-use mathlib.Core.Bool.{Bool, true, false, cond, not, _&&_}
+use mathlib.Core.Bool.{Bool, true, false, cond, not, _&&_, _||_}
 use mathlib.Core.List.{List, [], _∷_, _++_}
 use lib.Dec.{leb, ltb, eqb}
 use lib.IntN.{ℤ, pos, negℤ, _+ℤ_}
 use lib.ListN.{length, take}
+use Rattle.metrics.specs.declared.kmer.Code.{Code}
+use Rattle.metrics.specs.declared.kmer.Code.the-variants.{Letter, NoCode}
 use Rattle.metrics.specs.declared.kmer.Counted.{Counted}
 use Rattle.metrics.specs.declared.kmer.Counted.the-variants.{Done, Refused}
 use Rattle.metrics.specs.Similarity.{magnitudeSum}
@@ -15,6 +17,19 @@ unfoldable pub codeOf : ℕ → ℕ
 codeOf b =
     cond (eqb b 65) 0 (cond (eqb b 97) 0 (cond (eqb b 71) 1 (cond (eqb b 103) 1
     (cond (eqb b 67) 2 (cond (eqb b 99) 2 (cond (eqb b 84) 3 (cond (eqb b 116) 3 0)))))))
+
+-- these have a code, and no other byte has
+unfoldable pub hasCode : ℕ → Bool
+hasCode b =
+    eqb b 65 || (eqb b 97 || (eqb b 71 || (eqb b 103 || (eqb b 67 || (eqb b 99 || (eqb b 84 || eqb b 116))))))
+
+-- encoding one letter: its code, or that there is none
+unfoldable pub encoded : ℕ → Code
+encoded b = cond (hasCode b) (Letter (codeOf b)) NoCode
+
+-- the setting `letters`: 0 is document 01's reading, in which every byte is read; 1 reads only what has a code
+unfoldable pub readBy : ℕ → ℕ → Bool
+readBy reading b = eqb reading 0 || hasCode b
 
 -- letters are a base-4 number, first letter highest
 unfoldable pub numberOf : List ℕ → ℕ
@@ -72,13 +87,18 @@ unfoldable pub countsOf : ℕ → Bool → List ℕ → List ℤ
 unfolding countsReading windowsOf
 countsOf = countsReading everyByte
 
--- the counter refuses by 1, 6 (room not 4^k) and 13
-unfoldable pub counterAnswer : ℕ → List ℕ → List ℤ → Counted
-counterAnswer k letters row =
+-- the counts by a reading: reading 1 leaves out each window that holds a byte without a code
+unfoldable pub countsBy : ℕ → ℕ → Bool → List ℕ → List ℤ
+countsBy reading = countsReading (readBy reading)
+
+-- the counter refuses by 1, 3 (a reading other than 0 or 1), 6 (room not 4^k) and 13
+unfoldable pub counterAnswer : ℕ → ℕ → List ℕ → List ℤ → Counted
+counterAnswer k reading letters row =
     cond (not (leb 1 k && leb k 6)) (Refused 1)
+    (cond (ltb 1 reading) (Refused 3)
     (cond (not (eqb (length row) (4 ^ k))) (Refused 6)
     (cond (ltb 131072 (length letters)) (Refused 13)
-    Done))
+    Done)))
 
 -- the number that the paper gives each answer, and what the lent row holds after it
 abbrev pub countedNumber : Counted → ℕ
@@ -100,6 +120,16 @@ EntriesSum =
     (reads : ℕ → Bool) (k : ℕ) (negative : Bool) (letters : List ℕ)
     → entriesOf (countsReading reads k negative letters) ≡ signed negative (length (windowsReading reads k letters))
 
+-- by either reading
+unfoldable pub EntriesSumBy : Type 0
+EntriesSumBy =
+    (reading k : ℕ) (negative : Bool) (letters : List ℕ)
+    → entriesOf (countsBy reading k negative letters) ≡ signed negative (length (windowsReading (readBy reading) k letters))
+
+-- reading 0 is document 01's
+unfoldable pub ReadingZero : Type 0
+ReadingZero = (k : ℕ) (negative : Bool) (letters : List ℕ) → countsBy 0 k negative letters ≡ countsOf k negative letters
+
 -- "The entries sum to plus or minus (length - k + 1), or 0": every window is kept, and the difference is 0 where there are fewer than k letters
 unfoldable pub EntriesSumToLength : Type 0
 EntriesSumToLength =
@@ -108,5 +138,5 @@ EntriesSumToLength =
 -- the magnitudes of a counted row sum to at most the limit that the search asks of a feature row
 unfoldable pub RowWithinLimit : Type 0
 RowWithinLimit =
-    (reads : ℕ → Bool) (k : ℕ) (negative : Bool) (letters : List ℕ) (row : List ℤ) → counterAnswer k letters row ≡ Done
+    (reads : ℕ → Bool) (k reading : ℕ) (negative : Bool) (letters : List ℕ) (row : List ℤ) → counterAnswer k reading letters row ≡ Done
     → magnitudeSum (countsReading reads k negative letters) ≤ 131072

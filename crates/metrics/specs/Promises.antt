@@ -8,7 +8,7 @@ use lib.Dec.{ltb}
 use lib.IntN.{ℤ, pos, natAbs}
 use lib.ListN.{length, replicate}
 use lib.Ieee.{Float, binary32, toBits}
-use Rattle.metrics.specs.Letters.{countsOf, entryCount, counterAnswer, rowAfter}
+use Rattle.metrics.specs.Letters.{countsBy, entryCount, counterAnswer, rowAfter}
 use Rattle.metrics.specs.Similarity.{sizesimOf, seqsimValue, seqsimOf, overlapsOf, magnitudeSum}
 use Rattle.metrics.specs.declared.Sim.{Sim}
 use Rattle.metrics.specs.declared.kmer.Counted.{Counted}
@@ -25,8 +25,8 @@ SeqsimPromise a b minkfreq r = r ≡ seqsimOf a b minkfreq
 abbrev pub OverlapsPromise : ℕ → ℕ → ℕ → ℕ → Bool → Type 0
 OverlapsPromise s1 e1 s2 e2 r = r ≡ overlapsOf s1 e1 s2 e2
 
-abbrev pub SeqToKmerPromise : List ℕ → ℕ → Bool → List ℤ → List ℤ → Counted → Type 0
-SeqToKmerPromise seq k negative out out' r = (r ≡ counterAnswer k seq out) × (out' ≡ rowAfter r (countsOf k negative seq) out)
+abbrev pub SeqToKmerPromise : List ℕ → ℕ → Bool → ℕ → List ℤ → List ℤ → Counted → Type 0
+SeqToKmerPromise seq k negative reading out out' r = (r ≡ counterAnswer k reading seq out) × (out' ≡ rowAfter r (countsBy reading k negative seq) out)
 
 abbrev pub ClearRowPromise : List ℤ → List ℤ → Type 0
 ClearRowPromise row row' = row' ≡ replicate (length row) (pos 0)

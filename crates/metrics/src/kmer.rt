@@ -2,13 +2,15 @@
 ghost use mathlib.Core.Path.{_≡_};
 ghost use mathlib.Core.Bool.{cond};
 ghost use Prim.Native.Nat.{_+_, _*_, _%_, _≤_, _^_};
+ghost use lib.Dec.{eqb};
 ghost use lib.IntN.{pos, natAbs, sucℤ, predℤ};
 ghost use lib.ListN.{length, replicate};
-ghost use Rattle.metrics.specs.Letters.{codeOf, countsOf};
-ghost use Rattle.metrics.specs.Lanes.{Coded};
+ghost use Rattle.metrics.specs.Letters.{encoded, countsBy};
+ghost use Rattle.metrics.specs.Lanes.{entryOf, Coded};
 ghost use Rattle.metrics.specs.Promises.{ClearRowPromise, EntriesPromise, SeqToKmerPromise};
 use crate::refusals::BAD_K;
 use crate::refusals::BAD_LENGTHS;
+use crate::refusals::BAD_NUMBER;
 use crate::refusals::TOO_MANY_LETTERS;
 
 pub enum Counted {
@@ -16,50 +18,75 @@ pub enum Counted {
     Refused(u32),
 }
 
-// A, G, C and T give 0, 1, 2, 3 in either case; any other byte gives 0. Written from T to A: in that order the compiler folds the whole of `code_table`.
-fn encode_nuc(b: u8) -> u8
-    ensures { λ r. ⌜ r ≡ codeOf b ⌝ }
+// What encoding a letter gives.
+pub enum Code {
+    Letter(u8),
+    NoCode,
+}
+
+// A, G, C and T give 0, 1, 2, 3 in either case; any other byte has no code.
+fn encode_nuc(b: u8) -> Code
+    ensures { λ r. ⌜ r ≡ encoded b ⌝ }
 {
     match b {
-        b'T' => 3,
-        b't' => 3,
-        b'C' => 2,
-        b'c' => 2,
-        b'G' => 1,
-        b'g' => 1,
-        b'A' => 0,
-        b'a' => 0,
-        _ => 0,
+        b'T' => Code::Letter(3),
+        b't' => Code::Letter(3),
+        b'C' => Code::Letter(2),
+        b'c' => Code::Letter(2),
+        b'G' => Code::Letter(1),
+        b'g' => Code::Letter(1),
+        b'A' => Code::Letter(0),
+        b'a' => Code::Letter(0),
+        _ => Code::NoCode,
+    }
+}
+
+// A code as the table has it: 4096 marks that there is one, and none is 0. The mark falls away under the mask of `next_window`, so that reading 0 pays nothing for it.
+fn as_entry(code: Code) -> u16
+    ensures { λ r. ⌜ r ≡ entryOf code ⌝ }
+{
+    match code {
+        Code::Letter(n) => n as u16 + 4096,
+        Code::NoCode => 0,
     }
 }
 
 // The codes of all bytes, each by the match: a table has no branch to mispredict, so that random letters are counted in a fifth of the time.
-fn code_table() -> [u8; 256]
+// Below A, 65, and above t, 116, there are none, and with no more turns than these 52 the compiler folds the loop into a few stores.
+fn code_table() -> [u16; 256]
     ensures { λ r. ⌜ Coded r ⌝ }
 {
-    let mut table = [0u8; 256];
-    let mut i: usize = 0;
-    while i < 256 {
-        table[i] = encode_nuc(i as u8);
+    let mut table = [0u16; 256];
+    let mut i: usize = 65;
+    while i < 117 {
+        table[i] = as_entry(encode_nuc(i as u8));
         i += 1;
     }
     table
 }
 
-fn code_by_table(table: &[u8; 256], b: u8) -> usize
+fn entry_by_table(table: &[u16; 256], b: u8) -> usize
     requires { ⌜ Coded (now table) ⌝ }
-    ensures { λ r. ⌜ r ≡ codeOf b ⌝ }
+    ensures { λ r. ⌜ r ≡ entryOf (encoded b) ⌝ }
 {
     let i = b as usize;
     table[i] as usize
 }
 
 // The number of the last k letters once another letter is read. A mask, since a division takes ten times as long.
-fn next_window(window: usize, code: usize, k: u8, size: usize) -> usize
-    requires { ⌜ (size ≡ 4 ^ k) × (window ≤ 4096) × (code ≤ 3) ⌝ }
-    ensures { λ r. ⌜ r ≡ (window * 4 + code) % size ⌝ }
+fn next_window(window: usize, entry: usize, k: u8, size: usize) -> usize
+    requires { ⌜ (size ≡ 4 ^ k) × (window ≤ 4096) × (entry ≤ 8192) ⌝ }
+    ensures { λ r. ⌜ r ≡ (window * 4 + entry) % size ⌝ }
 {
-    (window * 4 + code) & (size - 1)
+    (window * 4 + entry) & (size - 1)
+}
+
+// How many letters in a row have a code, up to this one: none once a letter has none.
+fn next_run(run: usize, entry: usize) -> usize
+    requires { ⌜ run ≤ 131072 ⌝ }
+    ensures { λ r. ⌜ r ≡ cond (eqb entry 0) 0 (run + 1) ⌝ }
+{
+    if entry == 0 { 0 } else { run + 1 }
 }
 
 // The entries of a feature row: 4^k. A k over 6 has none.
@@ -86,6 +113,17 @@ fn counted_once_more(x: i32, negative: bool) -> i32
     if negative { x - 1 } else { x + 1 }
 }
 
+// One more window, if it is kept.
+fn counted_if(x: i32, negative: bool, kept: bool) -> i32
+    requires { ⌜ natAbs x ≤ 131072 ⌝ }
+    ensures { λ r. ⌜ r ≡ cond kept (cond negative (predℤ x) (sucℤ x)) x ⌝ }
+{
+    if kept {
+        return counted_once_more(x, negative);
+    }
+    x
+}
+
 // A row of zeros, whatever it held.
 pub fn clear_row(row: &mut [i32])
     ensures { λ _. ⌜ ClearRowPromise (now (row .entry)) (now (row .exit)) ⌝ }
@@ -97,33 +135,44 @@ pub fn clear_row(row: &mut [i32])
     }
 }
 
-// Counts each window of k letters in a row of zeros. `window` is the number of the last k letters read.
-fn count_windows(seq: &[u8], k: u8, size: usize, negative: bool, out: &mut [i32])
-    requires { ⌜ (size ≡ 4 ^ k) × (size ≤ 4096) × (1 ≤ k) × (length (now seq) ≤ 131072) × (now out ≡ replicate (4 ^ k) (pos 0)) ⌝ }
-    ensures { λ _. ⌜ now (out .exit) ≡ countsOf k negative (now (seq .entry)) ⌝ }
+// Counts each window of k letters that is kept, in a row of zeros. `window` is the number of the last k letters, `run` how many letters in a row have
+// a code; reading 0 keeps every window. Reading 1 stores at every letter: a branch on letters without a code would be mispredicted.
+fn count_windows(seq: &[u8], k: u8, size: usize, negative: bool, letters: u8, out: &mut [i32])
+    requires { ⌜ (size ≡ 4 ^ k) × (1 ≤ k) × (k ≤ 6) × (length (now seq) ≤ 131072) × (now out ≡ replicate (4 ^ k) (pos 0)) ⌝ }
+    ensures { λ _. ⌜ now (out .exit) ≡ countsBy letters k negative (now (seq .entry)) ⌝ }
 {
     let width = k as usize;
     let table = code_table();
     let mut window: usize = 0;
+    let mut run: usize = 0;
     let mut read: usize = 0;
     while read < seq.len() {
-        window = next_window(window, code_by_table(&table, seq[read]), k, size);
+        let entry = entry_by_table(&table, seq[read]);
+        window = next_window(window, entry, k, size);
         read += 1;
-        if width <= read {
-            out[window] = counted_once_more(out[window], negative);
+        if letters == 0 {
+            if width <= read {
+                out[window] = counted_once_more(out[window], negative);
+            }
+        } else {
+            run = next_run(run, entry);
+            out[window] = counted_if(out[window], negative, width <= run);
         }
     }
 }
 
-// The counts of a sequence's windows of k letters, in a lent row of 4^k entries.
-pub fn seq_to_kmer(seq: &[u8], k: u8, negative: bool, out: &mut [i32]) -> Counted
-    ensures { λ r. ⌜ SeqToKmerPromise (now (seq .entry)) k negative (now (out .entry)) (now (out .exit)) r ⌝ }
+// The counts of a sequence's windows of k letters, in a lent row of 4^k entries: of every window by reading 0, by reading 1 of those in which each letter has a code.
+pub fn seq_to_kmer(seq: &[u8], k: u8, negative: bool, letters: u8, out: &mut [i32]) -> Counted
+    ensures { λ r. ⌜ SeqToKmerPromise (now (seq .entry)) k negative letters (now (out .entry)) (now (out .exit)) r ⌝ }
 {
     if k < 1 {
         return Counted::Refused(BAD_K);
     }
     if 6 < k {
         return Counted::Refused(BAD_K);
+    }
+    if letters > 1 {
+        return Counted::Refused(BAD_NUMBER);
     }
     let size = entries(k);
     if out.len() != size {
@@ -133,6 +182,6 @@ pub fn seq_to_kmer(seq: &[u8], k: u8, negative: bool, out: &mut [i32]) -> Counte
         return Counted::Refused(TOO_MANY_LETTERS);
     }
     clear_row(out);
-    count_windows(seq, k, size, negative, out);
+    count_windows(seq, k, size, negative, letters, out);
     Counted::Done
 }

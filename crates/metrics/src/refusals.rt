@@ -58,5 +58,23 @@ pub const TOO_MANY_LINES: u32 = 42;
 pub const LITTLE_TEXT_ROOM: u32 = 43;
 // a row that isn't there
 pub const MISSING_ROW: u32 = 44;
+// a version that isn't there
+pub const MISSING_VERSION: u32 = 45;
+// all 255 versions are used
+pub const VERSIONS_USED: u32 = 46;
+// fewer than 43 bytes left in the book
+pub const LITTLE_BOOK_ROOM: u32 = 47;
+// a book that breaks its rules or holds settings we would refuse
+pub const BROKEN_BOOK: u32 = 48;
 // a sheet that isn't its table's, or a table that breaks 5 to 8
 pub const NOT_ITS_SHEET: u32 = 49;
+// a sample count not 1 to 8
+pub const BAD_SAMPLES: u32 = 50;
+// a sample index at or above the sample count
+pub const NO_SUCH_SAMPLE: u32 = 51;
+// unequal sample counts
+pub const UNEQUAL_SAMPLES: u32 = 52;
+// a coverage sum passes 64 bits
+pub const COVERAGE_OVERFLOW: u32 = 53;
+// a proposal over 64 rows or over 64 positions
+pub const LONG_PROPOSAL: u32 = 54;

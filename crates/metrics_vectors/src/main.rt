@@ -187,7 +187,7 @@ fn print_row(row: &[i32]) {
 }
 
 fn print_counted(letters: &[u8], k: u8, negative: bool, row: &mut [i32]) {
-    let counted = metrics::kmer::seq_to_kmer(letters, k, negative, row);
+    let counted = metrics::kmer::seq_to_kmer(letters, k, negative, 0, row);
     match counted {
         Counted::Done => print(b"counted"),
         Counted::Refused(n) => {

@@ -132,6 +132,11 @@ module _ (test : ℕ → Bool) where
   pub any-end : (n i : ℕ) → n ≤ i → i ≤ n → anyBelow i test ≡ false → anyBelow n test ≡ false
   any-end n i l h none = let p : n ≡ i = omega arith in rw p none
 
+  pub none-below : (n : ℕ) → ((i : ℕ) → i < n → test i ≡ false) → anyBelow n test ≡ false
+  unfolding anyBelow
+  none-below zero h = refl
+  none-below (suc n) h = rw (none-below n (λ i l. h i (omega arith)), h n (omega arith))
+
   pub any-where : (n : ℕ) → anyBelow n test ≡ false → (i : ℕ) → i < n → test i ≡ false
   any-where n none i h = go (test i) refl
     where

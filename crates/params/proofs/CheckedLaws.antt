@@ -36,13 +36,14 @@ settled s p =
     let a = or-no (ltb 4095 (s .maxpaths)) _ (p .1 .1 .0) in
     let b = or-no (ltb 65535 (s .maxnodes)) _ (a .1) in
     let c = or-no (ltb 65535 (s .fnmax)) _ (b .1) in
-    let d = or-no (ltb 12 (s .pileupmax)) (ltb 16777216 (s .minkfreq)) (c .1) in
+    let d = or-no (ltb 12 (s .pileupmax)) _ (c .1) in
+    let e = or-no (ltb 16777216 (s .minkfreq)) (ltb 1 (s .letters)) (d .1) in
     record {
       k-low = leb-true 1 (s .k) (k .0);
       k-high = leb-true (s .k) 6 (k .1);
       maxpaths = ltb-false 4095 (s .maxpaths) (a .0);
       pileupmax = ltb-false 12 (s .pileupmax) (d .0);
-      minkfreq = ltb-false 16777216 (s .minkfreq) (d .1);
+      minkfreq = ltb-false 16777216 (s .minkfreq) (e .0);
     }
 
 pub record Measured (e : ℕ) (t : Table) (p : Parts) : Type 0 where

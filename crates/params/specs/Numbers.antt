@@ -74,10 +74,11 @@ badFloat s =
     outside (whole 1) (s .sizesim)
     || (outside (whole 1) (s .seqsim) || (outside (whole 1000) (s .fpenalty) || outside (whole 1000) (s .gpenalty)))
 
--- 3: a whole-number setting over its limit
+-- 3: a whole-number setting over its limit; document 02, P6: `letters` other than 0 or 1
 unfoldable pub badNumber : Settings → Bool
 badNumber s =
-    ltb 4095 (s .maxpaths) || (ltb 65535 (s .maxnodes) || (ltb 65535 (s .fnmax) || (ltb 12 (s .pileupmax) || ltb 16777216 (s .minkfreq))))
+    ltb 4095 (s .maxpaths)
+    || (ltb 65535 (s .maxnodes) || (ltb 65535 (s .fnmax) || (ltb 12 (s .pileupmax) || (ltb 16777216 (s .minkfreq) || ltb 1 (s .letters)))))
 
 -- 4: no variants
 abbrev pub noVariants : List ℕ → Bool

@@ -7,12 +7,15 @@ use mathlib.Core.List.{List}
 use lib.IntN.{ℤ}
 use Rattle.params.specs.declared.Settings.{Settings}
 use Rattle.metrics.specs.Letters.{entryCount}
-use Rattle.params.specs.Numbers.{tableOf, partsOf, callOf, searchMode, firstOf, partsRules, firstFault, chainCountFault}
+use Rattle.params.specs.Numbers.{tableOf, partsOf, callOf, searchMode, firstOf, settingsRules, partsRules, firstFault, chainCountFault}
 use Rattle.params.specs.Several.{severalFault}
 use Rattle.params.specs.TableOrder.{earlierOf}
 
 abbrev pub SearchModePromise : Settings → ℕ → Bool → Type 0
 SearchModePromise s v r = r ≡ searchMode s v
+
+abbrev pub SettingsFaultPromise : Settings → ℕ → Type 0
+SettingsFaultPromise s r = r ≡ firstOf (settingsRules s)
 
 abbrev pub QueueRoomPromise : ℕ → ℕ → ℕ → Type 0
 QueueRoomPromise links keys r = r ≡ min links keys

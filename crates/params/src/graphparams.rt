@@ -5,8 +5,8 @@ use metrics::refusals::BAD_FLOAT;
 use metrics::refusals::BAD_K;
 use metrics::refusals::BAD_NUMBER;
 ghost use mathlib.Core.Path.{_≡_};
-ghost use Rattle.params.specs.Numbers.{outside, badFloat, badNumber, firstOf, settingsRules};
-ghost use Rattle.params.specs.Promises.{SearchModePromise};
+ghost use Rattle.params.specs.Numbers.{outside, badFloat, badNumber};
+ghost use Rattle.params.specs.Promises.{SearchModePromise, SettingsFaultPromise};
 
 // Whether a job is searched, and not matched one to one.
 pub fn search_mode(s: Settings, v: usize) -> bool
@@ -60,12 +60,15 @@ fn bad_number(s: Settings) -> bool
     if s.pileupmax > 12 {
         return true;
     }
-    s.minkfreq > 16777216
+    if s.minkfreq > 16777216 {
+        return true;
+    }
+    s.letters > 1
 }
 
-// The first of the settings' refusals.
-pub(crate) fn settings_fault(s: Settings) -> u32
-    ensures { λ r. ⌜ r ≡ firstOf (settingsRules s) ⌝ }
+// The number of the settings' first refusal, 0 where they are accepted.
+pub fn settings_fault(s: Settings) -> u32
+    ensures { λ r. ⌜ SettingsFaultPromise s r ⌝ }
 {
     if s.k < 1 {
         return BAD_K;

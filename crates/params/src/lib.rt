@@ -4,7 +4,7 @@ pub mod graphparams;
 pub mod order;
 pub mod several;
 
-// The fields of graphparams.rs that document 01 takes: one value that goes from the job form to the search.
+// The fields of graphparams.rs that document 01 takes, and document 02's `letters`: one value that goes from the job form to the search.
 pub struct Settings {
     pub k: u8,
     pub squish: bool,
@@ -15,6 +15,7 @@ pub struct Settings {
     pub fnmax: u32,
     pub pileupmax: u32,
     pub minkfreq: u32,
+    pub letters: u8,
     pub sizesim: f32,
     pub seqsim: f32,
     pub fpenalty: f32,

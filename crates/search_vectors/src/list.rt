@@ -76,6 +76,7 @@ fn read_row(k: u8, letters: &mut [u8], table: &mut [i32], from: usize, width: us
         &letters[0..count],
         k,
         negative,
+        0,
         &mut table[from..from + width],
     );
 }
@@ -129,6 +130,7 @@ fn no_settings() -> Settings {
         fnmax: 0,
         pileupmax: 0,
         minkfreq: 0,
+        letters: 0,
         sizesim: 0.0,
         seqsim: 0.0,
         fpenalty: 0.0,

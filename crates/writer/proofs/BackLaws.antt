@@ -37,6 +37,7 @@ settings-back s h r = rw (
   four-back (s .fnmax) (h .fnmax),
   four-back (s .pileupmax) (h .pileupmax),
   four-back (s .minkfreq) (h .minkfreq),
+  h .letters,
   four-back (toBits binary32 (s .sizesim)) (float-lt (s .sizesim) (h .sizesim)),
   four-back (toBits binary32 (s .seqsim)) (float-lt (s .seqsim) (h .seqsim)),
   four-back (toBits binary32 (s .fpenalty)) (float-lt (s .fpenalty) (h .fpenalty)),

@@ -1,6 +1,7 @@
--- What a job's numbers are as values of their types, with at most 131,072 letters in a sequence and 1 to 16 haplotypes: every job that the writer accepts is such a one.
+-- What a job's numbers are as values of their types, with the setting `letters` 0, at most 131,072 letters in a sequence and 1 to 16 haplotypes: every job with that setting that the writer accepts is such a one.
 use Prim.Native.Nat.{ℕ, _≤_, _<_, _^_}
 use mathlib.Core.List.{List, [], _∷_}
+use mathlib.Core.Path.{_≡_}
 use lib.Dec.{T}
 use lib.IntN.{pos}
 use lib.ListN.{length, getD}
@@ -17,6 +18,8 @@ pub record SettingsHold (s : Settings) : Type 0 where
   pub fnmax : s .fnmax < 2 ^ 32
   pub pileupmax : s .pileupmax < 2 ^ 32
   pub minkfreq : s .minkfreq < 2 ^ 32
+  -- the form has no place for it
+  pub letters : s .letters ≡ 0
   pub sizesim : T (fits binary32 (s .sizesim))
   pub seqsim : T (fits binary32 (s .seqsim))
   pub fpenalty : T (fits binary32 (s .fpenalty))

@@ -47,6 +47,9 @@ struct Document<'a> {
     without_thresholds: Option<Found<'a>>,
     /// Null where the sheet names none.
     haplotype: Option<&'a str>,
+    /// Which version of which book they are; left out where they are the sheet's own.
+    #[serde(skip_serializing_if = "Option::is_none")]
+    settings: Option<&'a str>,
 }
 
 fn float(value: f32) -> Float {
@@ -85,6 +88,7 @@ pub fn document(file: &str, sheet: &Sheet, answer: &Own) -> String {
         answer: answer.as_ref().ok().map(|answer| found(sheet, answer)),
         without_thresholds: free.map(|free| found(sheet, &free)),
         haplotype: sheet.haplotype(),
+        settings: sheet.settings.version.as_deref(),
     };
     serde_json::to_string(&document).map_or_else(|fault| format!("{{\"error\":\"{fault}\"}}\n"), |text| text + "\n")
 }

@@ -5,7 +5,7 @@ mod tsv;
 
 pub use json::document;
 pub use text::{decimal, parts_words_of, path_lines, printed, refused, text, text_with, titled, why, Lines};
-pub use tsv::{listed_names, parted_by_commas, table_row, TABLE_HEADINGS};
+pub use tsv::{listed_names, parted_by_commas, table_headings, table_row};
 
 use ndigomarr::{Answer, Target};
 

@@ -29,8 +29,21 @@ fn both(value: f32) -> [String; 2] {
     [float::text(value.to_bits()), format!("{:08x}", value.to_bits())]
 }
 
-/// The cells under the headings, of a haplotype in a sheet of its own; a refusal fills the first two and the haplotype only.
+/// The headings of a call that names a version: one more, which tells it.
+pub fn table_headings(versioned: bool) -> Vec<&'static str> {
+    let version = if versioned { Some("settings") } else { None };
+    TABLE_HEADINGS.into_iter().chain(version).collect()
+}
+
+/// The cells under the headings, of a haplotype in a sheet of its own.
 pub fn table_row(file: &str, sheet: &Sheet, answer: &Own) -> Vec<String> {
+    let mut cells = answer_cells(file, sheet, answer);
+    cells.extend(sheet.settings.version.clone());
+    cells
+}
+
+/// A refusal fills the first two and the haplotype only.
+fn answer_cells(file: &str, sheet: &Sheet, answer: &Own) -> Vec<String> {
     let answer = match answer {
         Ok(answer) => answer,
         Err(reasons) => {

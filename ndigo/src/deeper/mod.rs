@@ -47,15 +47,15 @@ pub enum Outcome {
     Looked(Looked),
 }
 
-/// Size and features of a row or a part, by the library's own counter.
-fn counts(sequence: &crate::model::Sequence, k: u8) -> Option<Counts> {
-    counted(sequence, k).map(|(size, features)| Counts { size, features })
+/// Size and features of a row or a part, by the library's own counter and the sheet's reading of letters.
+fn counts(sequence: &crate::model::Sequence, settings: &ndigomarr::Settings) -> Option<Counts> {
+    counted(sequence, settings).map(|(size, features)| Counts { size, features })
 }
 
 /// The haplotype, in a sheet of its own, as the search takes it.
 pub fn problem(own: &Sheet) -> Option<Problem> {
     let s = own.settings.to_library();
-    let variant = |v: &crate::model::Variant| Some(Variant { start: v.start, end: v.end, counts: counts(&v.sequence, s.k)? });
+    let variant = |v: &crate::model::Variant| Some(Variant { start: v.start, end: v.end, counts: counts(&v.sequence, &s)? });
     let settings = Settings {
         squish: s.squish,
         fnmax: s.fnmax,
@@ -67,7 +67,7 @@ pub fn problem(own: &Sheet) -> Option<Problem> {
         gpenalty: s.gpenalty,
     };
     let variants: Option<Vec<Variant>> = own.variants.iter().map(variant).collect();
-    let parts: Option<Vec<Counts>> = own.parts.iter().map(|part| counts(part, s.k)).collect();
+    let parts: Option<Vec<Counts>> = own.parts.iter().map(|part| counts(part, &s)).collect();
     Some(Problem { settings, variants: variants?, parts: parts? })
 }
 

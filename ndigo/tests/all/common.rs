@@ -52,6 +52,11 @@ pub fn example_names() -> Vec<String> {
     names
 }
 
+/// Those that the job form can say: it has no place for letters 1.
+pub fn examples_with_a_job() -> Vec<String> {
+    example_names().into_iter().filter(|name| !example(name).contains("\nletters\t1")).collect()
+}
+
 pub fn example(name: &str) -> String {
     file(&format!("examples/{name}.tsv"))
 }

@@ -72,9 +72,28 @@ fn letters_over_the_limit_are_refused_by_13() {
     assert_eq!((outcome.status, outcome.out, outcome.err), (1, vec![], format!("standard input: {words}\n")));
 }
 
+/// Until the form has a place for it, a job cannot say letters 1: written without, the program would count each N as A.
+#[test]
+fn letters_have_no_place_in_a_job() {
+    let with = |value: &str| format!("{GOOD}setting\tvalue\nk\t4\nletters\t{value}\n");
+    assert_eq!(job(with("0")), job(GOOD));
+    let instead = "ask `ndigo answer` about this sheet, or set letters to 0, so that each letter other than A, G, C and T counts as A";
+    for value in ["1", "2"] {
+        let outcome = ask("job", with(value), &[]);
+        let words = format!("standard input: line 9: letters is {value}, and a job has no place for it: it would be read as letters 0; {instead}\n");
+        assert_eq!((outcome.status, outcome.out, outcome.err), (2, vec![], words));
+    }
+    let checked = ask("check", with("1"), &[]);
+    assert_eq!((checked.status, checked.text().as_str()), (0, "nothing to refuse: 2 variants, 1 part, and no job, which has no place for letters 1\n"));
+    let document: serde_json::Value = serde_json::from_slice(&ask("check", with("1"), &["--json"]).out).unwrap();
+    assert_eq!((&document["status"], &document["job_bytes"]), (&0.into(), &serde_json::Value::Null));
+    // a job is shown with letters 0
+    assert!(ask("show", job(GOOD), &[]).text().contains("\nletters\t0\tdefault 0; "));
+}
+
 #[test]
 fn examples_come_back() {
-    for name in example_names() {
+    for name in examples_with_a_job() {
         let job = job(example(&name));
         assert_eq!(ndigo::job::length(&ndigo::job::read(&job).unwrap()), job.len());
         let shown = ask("show", &job, &[]);
@@ -134,7 +153,7 @@ fn the_proved_writer_makes_the_same_bytes() {
         assert_ne!(std::env::var("NDIGO_NEEDS_PROGRAM").as_deref(), Ok("1"), "SHEET_WRITER is not set");
         return;
     };
-    for name in example_names() {
+    for name in examples_with_a_job() {
         let job = job(example(&name));
         // a path that is not whole is one below the repository
         let done = assert_cmd::Command::new(root().join(&writer)).write_stdin(job.clone()).output().unwrap();
@@ -155,9 +174,12 @@ fn variant(row: usize) -> impl Strategy<Value = Variant> {
 /// Any job in good form, refused by the rules or not.
 fn any_sheet() -> impl Strategy<Value = Sheet> {
     let settings = (any::<u8>(), any::<[bool; 3]>(), any::<[u32; 9]>()).prop_map(|(k, flags, rest)| {
-        let mut words = [u32::from(k); 13];
+        let mut words = [u32::from(k); 14];
         words[1..4].copy_from_slice(&flags.map(u32::from));
-        words[4..].copy_from_slice(&rest);
+        words[4..9].copy_from_slice(&rest[..5]);
+        // the form has no place for letters
+        words[9] = 0;
+        words[10..].copy_from_slice(&rest[5..]);
         Settings::of_words(words)
     });
     let variants = (0usize..70).prop_flat_map(|count| (0..count).map(variant).collect::<Vec<_>>());

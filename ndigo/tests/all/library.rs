@@ -15,9 +15,9 @@ fn sequence(name: String, size: i32, letters: &str) -> Sequence {
     Sequence { name, size, negative: size < 0, letters: letters.as_bytes().to_vec(), line: 0 }
 }
 
-/// Insertions and deletions of few letters, near each other, sorted by start.
+/// Insertions and deletions of few letters, some of them unread, near each other, sorted by start; two letters always make a window of two.
 fn variants(most: usize) -> impl Strategy<Value = Vec<Variant>> {
-    let one = (0u64..60, 0u64..12, any::<bool>(), "[AGCT]{3,12}");
+    let one = (0u64..60, 0u64..12, any::<bool>(), "[AGCT]{2}[AGCTN]{1,10}");
     proptest::collection::vec(one, 1..most).prop_map(|mut rows| {
         rows.sort_by_key(|row| row.0);
         let variant = |(row, (start, long, deletion, letters)): (usize, (u64, u64, bool, String))| {
@@ -38,15 +38,15 @@ fn with_parts(variants: Vec<Variant>, chosen: &[bool], noise: &str) -> Sheet {
 
 /// Values around every limit: often accepted, often refused.
 fn around_the_limits() -> impl Strategy<Value = Sheet> {
-    let counts = (0u32..8, prop_oneof![0u32..9, Just(4095), Just(4096)], prop_oneof![Just(5000u32), Just(65_535), Just(65_536)], prop_oneof![0u32..12, Just(13)]);
+    let counts = (0u32..8, prop_oneof![0u32..9, Just(4095), Just(4096)], prop_oneof![Just(5000u32), Just(65_535), Just(65_536)], prop_oneof![0u32..12, Just(13)], 0u8..3);
     let float = prop_oneof![4 => Just(0.5f32), 1 => Just(-0.0), 1 => Just(1.5), 1 => Just(f32::NAN), 1 => Just(-1.0)];
     let size = prop_oneof![5 => -20i32..20, 1 => Just(131_072), 1 => Just(-131_073)];
-    let letters = prop_oneof![6 => "[AGCTN]{6,12}", 1 => "[AGCTN]{0,6}"];
+    let letters = prop_oneof![6 => "[AGCTN]{6,12}", 2 => "[AGCTagctn-]{6,30}", 1 => "[AGCTN]{0,6}"];
     let one = (0u64..6, 0u64..6, size, letters);
     let rows = prop_oneof![8 => proptest::collection::vec(one.clone(), 0..5), 1 => proptest::collection::vec(one, 64..67)];
     let long = (prop::bool::weighted(0.1), prop::bool::weighted(0.1));
     (counts, float.clone(), float, rows, prop_oneof![8 => 0usize..4, 1 => 64usize..67], long).prop_map(|(counts, sizesim, fpenalty, rows, parts, long)| {
-        let settings = ndigomarr::Settings { k: counts.0 as u8, maxpaths: counts.1, maxnodes: counts.2, pileupmax: counts.3, sizesim, fpenalty, ..Default::default() };
+        let settings = ndigomarr::Settings { k: counts.0 as u8, maxpaths: counts.1, maxnodes: counts.2, pileupmax: counts.3, letters: counts.4, sizesim, fpenalty, ..Default::default() };
         let mut sheet = Sheet { settings: Settings::of_library(&settings), ..Sheet::default() };
         for (row, (start, end, size, letters)) in rows.into_iter().enumerate() {
             // mostly in order
@@ -89,8 +89,9 @@ proptest! {
 
     /// The path against the used parts alone scores what it scored, and the penalty for those left out is not taken.
     #[test]
-    fn the_used_parts_are_those_that_were_matched(variants in variants(9), chosen in any::<[bool; 8]>(), noise in "[AGCT]{2,30}") {
-        let sheet = with_parts(variants, &chosen, &noise);
+    fn the_used_parts_are_those_that_were_matched(variants in variants(9), chosen in any::<[bool; 8]>(), noise in "[AGCTN]{2,30}", letters in 0u8..2) {
+        let mut sheet = with_parts(variants, &chosen, &noise);
+        sheet.settings = Settings::of_library(&ndigomarr::Settings { letters, ..sheet.settings.to_library() });
         let found = answer(&sheet).expect("within all limits");
         let Some(used) = used_parts(&sheet, &found) else {
             prop_assert_eq!(found.target, Target::Nothing);

@@ -2,6 +2,7 @@
 mod answers;
 mod batch;
 mod bed;
+mod book;
 mod common;
 mod deeper;
 mod examples;
@@ -9,6 +10,7 @@ mod haplotypes;
 mod jobs;
 mod library;
 mod messages;
+mod paths;
 mod people;
 mod pictures;
 mod warnings;

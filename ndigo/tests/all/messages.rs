@@ -99,6 +99,7 @@ fn bad_settings() -> Vec<Said> {
         (setting("colour\t5"), format!("line 2, column 1 (setting): no setting is called \"colour\"; they are {names}")),
         (setting("k\t1\nK\t2"), "line 3, column 1 (setting): \"k\" was set on line 2 already; keep one of the two lines".into()),
         (setting("k"), "line 2, column 2 (value): the value is missing; write one, or leave the whole line out for the default".into()),
+        (setting("letters\tN"), "line 2, column 2 (value): \"N\" is no whole number; write a whole number from 0 to 255, in digits".into()),
         (setting("k\t256"), "line 2, column 2 (value): \"256\" is out of range; write a whole number from 0 to 255".into()),
         (setting("maxnodes\t4294967296"), "line 2, column 2 (value): \"4294967296\" is out of range; write a whole number from 0 to 4294967295".into()),
         (setting("squish\toui"), "line 2, column 2 (value): \"oui\" is neither yes nor no; write yes or no".into()),
@@ -218,6 +219,19 @@ fn refused_sheets() -> Vec<(String, Vec<String>)> {
         (with("gpenalty\tbits:7fc00001"), vec![told("line 8", 2, "gpenalty is bits:7fc00001, it must be 0 to 1000")]),
         (with("seqsim\t-0.5"), vec![told("line 8", 2, "seqsim is -0.5, it must be 0 to 1")]),
         (with("maxpaths\t4096"), vec![told("line 8", 3, "maxpaths is 4096, the limit is 4095")]),
+        (with("letters\t2"), vec![told("line 8", 3, "letters is 2, it must be 0 or 1")]),
+        (with("letters\t255"), vec![told("line 8", 3, "letters is 255, it must be 0 or 1")]),
+        // the counter asks k and letters before a search asks the other settings; without anything to count the search asks all
+        (with("sizesim\t2\nmaxpaths\t4096\nletters\t2"), vec![
+            told("line 10", 3, "letters is 2, it must be 0 or 1"),
+            told("line 8", 2, "sizesim is 2, it must be 0 to 1"),
+            told("line 9", 3, "maxpaths is 4096, the limit is 4095"),
+        ]),
+        ("setting\tvalue\nsizesim\t2\nletters\t2\n".into(), vec![
+            told("line 2", 2, "sizesim is 2, it must be 0 to 1"),
+            told("line 3", 3, "letters is 2, it must be 0 or 1"),
+            told("the whole sheet", 4, "the sheet has no row under the heading variant"),
+        ]),
         (with("pileupmax\t13"), vec![told("line 8", 3, "pileupmax is 13, the limit is 12")]),
         (HEADINGS.into(), vec![told("the whole sheet", 4, "the sheet has no row under the heading variant")]),
         (table_of(65), vec![told("line 66", 5, "65 variants, the limit is 64")]),
@@ -260,9 +274,28 @@ fn rows_without_a_window() -> Vec<(String, Vec<String>)> {
     ]
 }
 
+/// The same of variants whose windows all hold a letter that was not read; parts may be so.
+fn rows_of_unread_letters() -> Vec<(String, Vec<String>)> {
+    let with = |k: u32, letters: &str| format!("{HEADINGS}A\t1\t1\t5\tAGCTAG\nB\t2\t2\t5\t{letters}\n\npart\tsize\tletters\nP\t5\t{letters}\nsetting\tvalue\nk\t{k}\nletters\t1\n");
+    let words = |k: u32, has: &str, instead: &str| {
+        let nothing = format!("it has no window of {k} letter{}, so nothing can match it", if k == 1 { "" } else { "s" });
+        format!("\"B\" has {has} of them not A, G, C or T, and k is {k}: with letters 1 {nothing}; write the letters that were read,{instead} or leave the row out")
+    };
+    let as_a = " set letters to 0, so that each counts as A,";
+    let one = |k: u32, letters: &str, has: &str, instead: &str| (with(k, letters), vec![told("line 3", 16, &words(k, has, instead))]);
+    vec![
+        one(4, "AGCNTAGn", "8 letters, 2", &format!(" set k to 3 or less,{as_a}")),
+        one(2, "ANC", "3 letters, 1", &format!(" set k to 1,{as_a}")),
+        one(1, "NN", "2 letters, 2", as_a),
+        one(4, "AGN", "3 letters, 1", " set k to 2 or less,"),
+        // too few letters, all of them read
+        (with(4, "AGC"), vec![told("line 3", 16, &no_window("B", "3 letters", "4", " set k to 3 or less,"))]),
+    ]
+}
+
 #[test]
 fn each_refusal_with_its_line() {
-    for (content, lines) in refused_sheets().into_iter().chain(rows_without_a_window()) {
+    for (content, lines) in refused_sheets().into_iter().chain(rows_without_a_window()).chain(rows_of_unread_letters()) {
         let outcome = ask("check", &content, &[]);
         let text = outcome.text();
         let said: Vec<&str> = text.lines().filter(|line| !line.starts_with("warning")).collect();
@@ -284,7 +317,7 @@ fn each_refusal_with_its_line() {
 /// An answer tells a refusal in the words of a check.
 #[test]
 fn an_answer_tells_the_row_without_a_window() {
-    for (content, lines) in rows_without_a_window() {
+    for (content, lines) in rows_without_a_window().into_iter().chain(rows_of_unread_letters()) {
         let answer = ask("answer", &content, &[]);
         assert_eq!(answer.status, 1);
         assert!(answer.text().ends_with(&(lines.join("\n") + "\n")), "{}", answer.text());
@@ -300,7 +333,10 @@ fn nothing_to_refuse() {
 #[test]
 fn the_limits_themselves_are_accepted() {
     let six_letters = GOOD.replace("AGCT", "AGCTAG").replace("CCCCC", "CCCCCC");
-    for row in ["k\t6", "maxpaths\t4095", "maxnodes\t65535", "fnmax\t65535", "pileupmax\t12", "minkfreq\t16777216", "sizesim\t1", "seqsim\t-0", "fpenalty\t1000", "gpenalty\t0"] {
+    for row in [
+        "k\t6", "maxpaths\t4095", "maxnodes\t65535", "fnmax\t65535", "pileupmax\t12", "minkfreq\t16777216", "letters\t0", "letters\t1", "sizesim\t1", "seqsim\t-0",
+        "fpenalty\t1000", "gpenalty\t0",
+    ] {
         for command in ["check", "answer"] {
             assert_eq!(ask(command, format!("{six_letters}setting\tvalue\n{row}\n"), &[]).status, 0, "{row}");
         }

@@ -10,6 +10,8 @@ const FROM_ONE: &str = "as where places count from 1; here starts count from 0 a
 const LEAVE_OUT: &str = "the search will stop early, and better paths may exist; leave out variants that can be ruled out";
 const RAISE: &str = "the search will stop early, and better paths may exist; raise maxpaths, up to 4095, or leave out variants that can be ruled out";
 const NO_WINDOWS: &str = "it has no windows and adds nothing to seqsim, which is 0 where no windows are compared";
+const AS_A: &str = "each counts as A, and with letters 1 the windows that hold one are left out";
+const LEFT_OUT: &str = "with letters 1 the windows that hold one are left out";
 const PART: &str = "\npart\tsize\tletters\nP\t5\tCCCCC\n";
 
 fn one_row(row: &str) -> String {
@@ -24,8 +26,8 @@ fn a_good_sheet_has_none() {
 #[test]
 fn each_warning() {
     for (row, words) in [
-        ("A\t1\t1\t6\tAGNNct", "line 2: \"A\": 2 of 6 letters are not A, G, C or T, the first is N at letter 3; each counts as A"),
-        ("A\t1\t1\t5\tAGRct", "line 2: \"A\": 1 of 5 letters is not A, G, C or T, the first is R at letter 3; each counts as A"),
+        ("A\t1\t1\t6\tAGNNct", &*format!("line 2: \"A\": 2 of 6 letters are not A, G, C or T, the first is N at letter 3; {AS_A}")),
+        ("A\t1\t1\t5\tAGRct", &*format!("line 2: \"A\": 1 of 5 letters is not A, G, C or T, the first is R at letter 3; {AS_A}")),
         ("A\t1\t1\t6\tAGCTA", "line 2: \"A\" has size 6 and 5 letters; they are compared each by itself"),
         ("A\t1\t6\t5\tAGCTA", "line 2: \"A\" spans 5 (1 to 6) as a deletion does, and its size is above 0: 5; a deletion is written -5, and an insertion has start = end"),
         ("A\t11\t10\t5\tAGCTA", &*format!("line 2: \"A\" ends at 10, one below its start 11, {FROM_ONE}")),
@@ -51,7 +53,29 @@ fn of_a_part_without_windows_nothing_is_found() {
 
 #[test]
 fn a_part_is_looked_at_too() {
-    assert_eq!(warned(&GOOD.replace("P\t5\tCCCCC", "P\t5\tCCCCN")), ["line 6: \"P\": 1 of 5 letters is not A, G, C or T, the first is N at letter 5; each counts as A"]);
+    assert_eq!(warned(&GOOD.replace("P\t5\tCCCCC", "P\t5\tCCCCN")), [format!("line 6: \"P\": 1 of 5 letters is not A, G, C or T, the first is N at letter 5; {AS_A}")]);
+}
+
+/// With letters 1 it is said how many windows are left, of variants and of parts; of a reading or a k that is refused nothing is said of windows.
+#[test]
+fn letters_that_were_not_read() {
+    let with = |row: &str, settings: &str| format!("{}setting\tvalue\n{settings}", one_row(row));
+    let first = |row: &str, settings: &str| warned(&with(row, settings)).remove(0);
+    let strange = "line 2: \"A\": 2 of 9 letters are not A, G, C or T, the first is N at letter 5";
+    let row = "A\t1\t1\t9\tAGctNAGCn";
+    assert_eq!(first(row, ""), format!("{strange}; {AS_A}"));
+    assert_eq!(first(row, "letters\t0\n"), format!("{strange}; {AS_A}"));
+    assert_eq!(first(row, "letters\t1\n"), format!("{strange}; {LEFT_OUT}: 1 of 6 are counted"));
+    assert_eq!(first(row, "letters\t1\nk\t1\n"), format!("{strange}; {LEFT_OUT}: 7 of 9 are counted"));
+    assert_eq!(first(row, "letters\t1\nk\t7\n"), format!("{strange}; {LEFT_OUT}"));
+    assert_eq!(first(row, "letters\t2\n"), strange);
+    // nothing to say where every letter was read
+    assert_eq!(warned(&format!("{GOOD}setting\tvalue\nletters\t1\n")), [""; 0]);
+    let part = GOOD.replace("P\t5\tCCCCC", "P\t5\tCNCCC") + "setting\tvalue\nletters\t1\n";
+    assert_eq!(warned(&part), [
+        format!("line 6: \"P\": 1 of 5 letters is not A, G, C or T, the first is N at letter 2; {LEFT_OUT}: 0 of 2 are counted"),
+        format!("line 6: \"P\" has 5 letters and no window of 4 that letters 1 keeps: {NO_WINDOWS}"),
+    ]);
 }
 
 /// So many insertions have 2 to that power of paths.
@@ -84,7 +108,7 @@ fn what_is_foretold_comes_true() {
 #[test]
 fn warnings_stand_above_an_answer_and_on_standard_error_for_tables() {
     let content = GOOD.replace("P\t5\tCCCCC", "P\t5\tCCCCN");
-    let words = "line 6: \"P\": 1 of 5 letters is not A, G, C or T, the first is N at letter 5; each counts as A";
+    let words = format!("line 6: \"P\": 1 of 5 letters is not A, G, C or T, the first is N at letter 5; {AS_A}");
     assert!(ask("answer", &content, &[]).text().starts_with(&format!("warning {words}\npath ")));
     for form in ["--tsv", "--json"] {
         let outcome = ask("answer", &content, &[form]);

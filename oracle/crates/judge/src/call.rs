@@ -30,10 +30,20 @@ pub fn queue_need(settings: &Settings, variants: usize) -> usize {
     1 + (settings.maxpaths as usize).saturating_add(1).saturating_mul(variants)
 }
 
+/// The counts by a reading: of document 01's by the Rust's own counter, of `letters` 1 by the second program, which takes its place. Of one that is refused
+/// anyway as of 0.
+pub fn counted(letters: u32, k: u8, text: &[u8], negative: bool) -> Vec<i32> {
+    match letters {
+        1 => letters::row(k, text, negative),
+        _ => rust::features(k, text, negative),
+    }
+}
+
 impl Call {
-    /// The job's first haplotype, the features by the Rust's own counter, the rows' own numbers as record numbers. A k that is refused anyway gets no features.
+    /// The job's first haplotype, counted by its reading, the rows' own numbers as record numbers. A k that is refused anyway gets no features.
     pub fn of_job(job: &Job) -> Call {
-        Call::of_parts_by(job, &job.haplotypes[0], (0..).take(job.variants.len()).collect(), rust::features)
+        let features = |k, text: &[u8], negative| counted(job.settings.letters, k, text, negative);
+        Call::of_parts_by(job, &job.haplotypes[0], (0..).take(job.variants.len()).collect(), features)
     }
 
     /// The job's table and these parts.
@@ -85,7 +95,7 @@ impl Call {
         match number {
             1 => s.k < 1 || s.k > 6,
             2 => s.floats().into_iter().zip([1.0, 1.0, 1000.0, 1000.0]).any(|(float, top)| !rules.float_is_good(float, top)),
-            3 => s.wholes().into_iter().zip([4_095, 65_535, 65_535, 12, 16_777_216]).any(|(whole, top)| whole > top),
+            3 => s.wholes().into_iter().zip([4_095, 65_535, 65_535, 12, 16_777_216]).any(|(whole, top)| whole > top) || rules.letters_are_refused(s.letters),
             4 => v == 0,
             5 => v > 64 || m > 64,
             6 => self.lengths(v, m).into_iter().any(|(lent, wanted)| lent != wanted) || rules.numbers_disagree(self.numbers.len(), v),

@@ -1,6 +1,7 @@
 //! A job in one line of words, and bytes that are no job as hexadecimal.
 use crate::call::Call;
 use crate::job::{self, Job, Part, Settings};
+use crate::proposal::Proposal;
 use crate::rules::DOCUMENT;
 use crate::several::Several;
 
@@ -19,6 +20,9 @@ fn settings(s: &Settings) -> String {
         if set {
             words.push(word.to_string());
         }
+    }
+    if s.letters != 0 {
+        words.push(format!("letters {}", s.letters));
     }
     words.push(format!(
         "maxpaths {} maxnodes {} fnmax {} pileupmax {} minkfreq {} sizesim {:?} seqsim {:?} fpenalty {:?} gpenalty {:?}",
@@ -65,6 +69,10 @@ pub fn call(call: &Call) -> String {
         call.answer_room,
         call.record_buffer
     )
+}
+
+pub fn proposal(proposal: &Proposal) -> String {
+    format!("rows {:?} positions {:?} score {:?} ({:08x})", proposal.rows, proposal.positions, proposal.score, proposal.score.to_bits())
 }
 
 pub fn several(several: &Several) -> String {

@@ -5,17 +5,19 @@ use crate::call::Call;
 use crate::job::Job;
 use crate::met::Met;
 use crate::program;
-use crate::rules::Rules;
+use crate::proposal::{self, Checked, Proposal};
+use crate::rules::{Rules, DOCUMENT};
 use crate::several::Several;
 use std::cell::OnceCell;
 use std::collections::BTreeMap;
 
-/// The counts of all windows of k letters. "A window of k letters is a base-4 number, first letter highest."
-pub fn features(rules: &Rules, k: u8, letters: &[u8], negative: bool) -> Vec<i32> {
+/// The counts of the windows of k letters that a reading keeps. "A window of k letters is a base-4 number, first letter highest."
+pub fn features(rules: &Rules, letters: u32, k: u8, text: &[u8], negative: bool) -> Vec<i32> {
+    let codes: Vec<Option<usize>> = text.iter().map(|&letter| rules.code(letter, letters)).collect();
     let mut row = vec![0; 4usize.pow(k.into())];
-    for window in letters.windows(k.into()) {
-        let number = window.iter().try_fold(0, |number, &letter| Some(number * 4 + rules.code(letter)?));
-        if let Some(number) = number {
+    for (at, window) in codes.windows(k.into()).enumerate() {
+        if rules.is_kept(&codes, at, k.into()) {
+            let number = window.iter().fold(0, |number, code| number * 4 + code.unwrap_or(0));
             row[number] += rules.window_adds(negative);
         }
     }
@@ -202,6 +204,54 @@ fn one_to_one(rules: &Rules, call: &Call, met: &mut Met) -> Scored {
     best
 }
 
+/// What a list scores against some rows, whatever that is; 0.5 where a skip test keeps it.
+pub fn list_score(call: &Call, rows: &[u32], positions: &[u32]) -> f32 {
+    match proposed_verdict(&DOCUMENT, call, rows, positions) {
+        Verdict::Score { score, .. } => score,
+        _ => 0.5,
+    }
+}
+
+fn proposed_verdict(rules: &Rules, call: &Call, rows: &[u32], positions: &[u32]) -> Verdict {
+    let as_places = |numbers: &[u32]| -> Vec<usize> { numbers.iter().map(|&number| number as usize).collect() };
+    let (rows, chosen) = (as_places(rows), as_places(positions));
+    let list = PartList {
+        size: sum_of_sizes(&call.part_sizes, &chosen),
+        features: sum_of_features(&call.part_features, call.settings.entries(), &chosen),
+        n: chosen.len() as u64,
+        partial: call.part_sizes.len().saturating_sub(chosen.len()) as u32,
+    };
+    let path = Path { rows: &rows, length: rows.len() as u64, size: sum_of_sizes(&call.sizes, &rows), features: OnceCell::new() };
+    Scorer { rules, call, lists: vec![] }.verdict(&path, &list)
+}
+
+/// The answer to a proposal: the refusal's number, and whether it is a yes. The list is scored as in a search.
+pub fn checked(rules: &Rules, call: &Call, proposal: &Proposal) -> Checked {
+    let call = &proposal::lent(call);
+    let (s, v, m) = (&call.settings, call.starts.len(), call.part_sizes.len());
+    let refused = |&number: &u32| match number {
+        54 => rules.proposal_is_long(proposal.rows.len(), proposal.positions.len()),
+        _ => call.is_refused_by(rules, number),
+    };
+    let number = rules.proposal_refusals().iter().copied().find(refused).unwrap_or(0);
+    let rows: Vec<usize> = proposal.rows.iter().map(|&row| row as usize).collect();
+    let missing = |numbers: &[u32], count: usize| numbers.iter().any(|&number| number as usize >= count);
+    if number != 0 || rules.mode_forbids(s, v) || missing(&proposal.rows, v) || missing(&proposal.positions, m) {
+        return (number, false);
+    }
+    let may_follow = |at: usize| rules.may_follow(s.full, &rows[..at], &|earlier| rules.overlaps(call.interval(earlier), call.interval(rows[at])));
+    let lengths = if rules.only_the_whole(m, s.pileupmax as usize) { vec![m] } else { rules.list_lengths(m, s.fnmax as usize) };
+    let as_sent = |list: Vec<usize>| -> Vec<u32> { list.into_iter().map(|position| position as u32).collect() };
+    let lists: Vec<Vec<u32>> = lengths.into_iter().flat_map(|length| positions(0, m, length)).map(as_sent).collect();
+    if !rules.rows_ascend(&proposal.rows) || !(0..rows.len()).all(may_follow) || !rules.is_a_part_list(&proposal.positions, &lists, m) {
+        return (0, false);
+    }
+    match proposed_verdict(rules, call, &proposal.rows, &proposal.positions) {
+        Verdict::Score { score, .. } => (0, rules.is_that_score(score, proposal.score)),
+        _ => (0, false),
+    }
+}
+
 /// The answer to a call. One-to-one: "Count V + 2, complete yes."
 pub fn call_answer(rules: &Rules, call: &Call, met: &mut Met) -> Answer {
     let refusal = call.refusal(rules);
@@ -249,7 +299,7 @@ pub fn several_answers(rules: &Rules, several: &Several, met: &mut Met) -> Vec<A
 
 /// All haplotypes of the job as a call, its features counted and its record numbers given by the rules.
 fn several_of(rules: &Rules, job: &Job) -> Several {
-    Several::of_job_by(job, rules.present_numbers(job.variants.len()), |k, letters, negative| features(rules, k, letters, negative))
+    Several::of_job_by(job, rules.present_numbers(job.variants.len()), |k, text, negative| features(rules, job.settings.letters, k, text, negative))
 }
 
 /// The first alone.

@@ -59,6 +59,7 @@ fn settings() -> Vec<Settings> {
         fnmax: 3,
         pileupmax: 5,
         minkfreq: 1,
+        letters: 0,
         sizesim: 0.0,
         seqsim: 0.0,
         fpenalty: 0.25,

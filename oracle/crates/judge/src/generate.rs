@@ -1,10 +1,14 @@
 //! Seeded jobs that reach what document 01 speaks of: ties, zero and negative sizes, squish, bare graphs, one-to-one,
-//! thresholds and penalties at telling values, every kind of refusal, sums at their limits, record numbers of all kinds, and rows all zero.
-use crate::call::{queue_need, Call};
+//! thresholds and penalties at telling values, every kind of refusal, sums at their limits, record numbers of all kinds, rows all zero, and in calls of
+//! the library both readings of letters.
+use crate::answer::Answer;
+use crate::call::{counted, queue_need, Call};
+use crate::document::list_score;
 use crate::job::{record_length, shape, Job, Part, Settings, Variant};
+use crate::proposal::{self, Proposal};
 use crate::random::Random;
 use crate::rules::{DOCUMENT, SIZE_LIMIT};
-use crate::rust::chains;
+use crate::rust::{chains, part_positions};
 use crate::several::Several;
 
 /// How large the jobs may be.
@@ -29,6 +33,23 @@ fn letter(r: &mut Random, style: u64) -> u8 {
         8 => r.pick(b"ACGTNnacgt-"),
         _ => r.below(256) as u8,
     }
+}
+
+/// A text for the counter: of letters that were read, with few, some or many others among them, or stretches of these.
+pub fn text(r: &mut Random, length: usize) -> Vec<u8> {
+    let others = r.pick(&[0, 1, 10, 50, 95]);
+    let stretch = r.pick(&[1, 1, 3, 200]);
+    let mut text = vec![];
+    while text.len() < length {
+        if r.chance(others) {
+            let other = if r.chance(70) { r.pick(b"Nn-") } else { r.below(256) as u8 };
+            text.resize(text.len() + 1 + r.below(stretch) as usize, other);
+        } else {
+            text.extend((0..1 + r.below(stretch)).map(|_| r.pick(b"ACGTacgt")));
+        }
+    }
+    text.truncate(length);
+    text
 }
 
 fn sequence(r: &mut Random, size: Size) -> Vec<u8> {
@@ -191,6 +212,7 @@ fn settings(r: &mut Random, v: u64, m: u64, size: Size) -> Settings {
             2 | 3 => r.below(6) as u32,
             _ => r.pick(&[1u32, 2]),
         },
+        letters: 0,
         sizesim: threshold(r),
         seqsim: threshold(r),
         fpenalty: penalty(r),
@@ -321,12 +343,43 @@ pub fn cost(call: &Call) -> u64 {
     chains(call, limit) * (lists(call.part_sizes.len(), &call.settings) * entries + 8 * v)
 }
 
+/// What only the library can be asked: the reading of letters, often 1 and now and then one that there is not. With 1 most variants keep a window.
+fn read_by(r: &mut Random, job: &mut Job) {
+    job.settings.letters = match r.below(20) {
+        0..=8 => 1,
+        9 if r.chance(50) => r.pick(&[2, 3, 255, 256, 257, 0x0100_0000, u32::MAX]),
+        _ => return,
+    };
+    if job.settings.letters > 1 {
+        // beside a refusal that comes before it
+        match r.below(8) {
+            0 => job.settings.k = 7,
+            1 => job.settings.seqsim = f32::NAN,
+            _ => {}
+        }
+        return;
+    }
+    if r.chance(10) {
+        return;
+    }
+    let k = usize::from(job.settings.k);
+    for variant in &mut job.variants {
+        let letters = &mut variant.letters;
+        if letters.len() >= k && (1..=6).contains(&k) && DOCUMENT.is_blank(&counted(1, job.settings.k, letters, false)) {
+            let place = r.pick(&[0, letters.len()]);
+            let read: Vec<u8> = (0..k).map(|_| r.pick(b"ACGTacgt")).collect();
+            letters.splice(place..place, read);
+        }
+    }
+}
+
 /// A library call of at most the given cost; more costly ones score fewer chains.
 pub fn call(r: &mut Random, budget: u64) -> Call {
     let mut job = if r.chance(1) { job_at_limits(r) } else { job(r, LIBRARY) };
     if r.chance(5) {
         disturb_job(r, &mut job);
     }
+    read_by(r, &mut job);
     let call = lent(r, &job, budget);
     numbered(r, call)
 }
@@ -337,6 +390,7 @@ pub fn small_call(r: &mut Random) -> Call {
     if r.chance(30) {
         disturb_job(r, &mut job);
     }
+    read_by(r, &mut job);
     let call = lent(r, &job, 100_000);
     numbered(r, call)
 }
@@ -522,7 +576,9 @@ pub fn several_input(r: &mut Random) -> Vec<u8> {
 
 /// A library call for several haplotypes; each of at most the given cost.
 pub fn several_call(r: &mut Random, size: Size, budget: u64) -> Several {
-    let mut several = Several::of_job(&several_job_or_refused(r, size));
+    let mut job = several_job_or_refused(r, size);
+    read_by(r, &mut job);
+    let mut several = Several::of_job(&job);
     if several.refusal(&DOCUMENT) == 0 {
         if r.chance(20) {
             scatter(r, &mut several.call);
@@ -791,4 +847,83 @@ pub fn input(r: &mut Random) -> Vec<u8> {
         disturb_bytes(r, &mut bytes);
     }
     bytes
+}
+
+/// Rows of the table that may be a chain: each with some chance where it overlaps none before it, now and then where it does.
+fn some_rows(r: &mut Random, call: &Call) -> Vec<u32> {
+    let mut rows: Vec<u32> = vec![];
+    for row in 0..call.starts.len().min(call.ends.len()).min(64) as u32 {
+        let apart = call.settings.full && rows.iter().all(|&earlier| !DOCUMENT.overlaps(call.interval(earlier as usize), call.interval(row as usize)));
+        if r.chance(if apart { 30 } else { 1 }) {
+            rows.push(row);
+        }
+    }
+    rows
+}
+
+/// One row or position off: another, one less, one more, two in each other's place, one twice, or one that is not there.
+fn one_off(r: &mut Random, numbers: &mut Vec<u32>, count: usize) {
+    let at = r.below(numbers.len() as u64 + 1) as usize;
+    let any = r.below(count as u64 + 1) as u32;
+    let other = at.min(numbers.len().saturating_sub(1)).max(1);
+    match r.below(6) {
+        0 if at < numbers.len() => numbers[at] = any,
+        1 if at < numbers.len() => drop(numbers.remove(at)),
+        2 if numbers.len() > 1 => numbers.swap(0, other),
+        3 if at < numbers.len() => numbers.insert(at, numbers[at]),
+        4 => numbers.push(r.pick(&[count as u32, u32::MAX, 0])),
+        _ => numbers.insert(at, any),
+    }
+}
+
+/// What is made of a good proposal: near misses, and lists too long.
+fn disturb_proposal(r: &mut Random, proposal: &mut Proposal, v: usize, m: usize) {
+    match r.below(12) {
+        0..=2 => one_off(r, &mut proposal.rows, v),
+        3..=5 => one_off(r, &mut proposal.positions, m),
+        10 => proposal.positions.retain(|_| r.chance(50)),
+        11 => proposal.rows = proposal.rows.iter().flat_map(|&row| vec![row; r.pick(&[1, 1, 2])]).collect(),
+        6 => proposal.score = f32::from_bits(proposal.score.to_bits() ^ 1 << r.below(32)),
+        7 => proposal.score = r.pick(&[0.0, -0.0, f32::NAN, f32::INFINITY, -proposal.score, 1.0]),
+        8 => proposal.rows = vec![0; r.pick(&[64, 65, 66])],
+        _ => proposal.positions = (0..r.pick(&[63, 64, 65, 66])).collect(),
+    }
+}
+
+/// A call for which paths are proposed: now and then its penalties take all of a score, so that it is 0 exactly.
+pub fn proposed_call(r: &mut Random, library: bool) -> Call {
+    let mut call = if library { call(r, 300_000) } else { small_call(r) };
+    if call.refusal(&DOCUMENT) == 0 && r.chance(20) {
+        let s = &mut call.settings;
+        (s.sizesim, s.seqsim, s.squish) = (0.0, 0.0, false);
+        (s.fpenalty, s.gpenalty) = (r.pick(&[0.0, 0.5]), r.pick(&[0.25, 0.5, 1.0]));
+        if r.chance(50) {
+            call.part_sizes.iter_mut().for_each(|size| *size = 0);
+        }
+    }
+    call
+}
+
+/// A proposal for a call: what its own answer says with the list that won, or some chain and list with their score, whatever that is; half of
+/// them as they are, else with one thing off, and then now and then with the score that it has so.
+pub fn proposal(r: &mut Random, call: &Call, answer: &Answer) -> Proposal {
+    let (v, m) = (call.starts.len(), call.part_sizes.len());
+    let accepted = answer.refusal == 0;
+    let own = if accepted && call.searches(&DOCUMENT) && r.chance(60) { proposal::own(call, &answer.rows, answer.score) } else { None };
+    let mut proposal = own.unwrap_or_else(|| {
+        let rows = some_rows(r, call);
+        let lists = if accepted { part_positions(call) } else { vec![] };
+        let place = r.below(lists.len().max(1) as u64) as usize;
+        let positions = lists.get(place).cloned().unwrap_or_else(|| (0..m.min(64) as u32).collect());
+        let score = if accepted && !lists.is_empty() { list_score(call, &rows, &positions) } else { 0.5 };
+        Proposal { rows, positions, score }
+    });
+    if r.chance(50) {
+        disturb_proposal(r, &mut proposal, v, m);
+        let there = |numbers: &[u32], count: usize| numbers.iter().all(|&number| (number as usize) < count);
+        if accepted && there(&proposal.rows, v) && there(&proposal.positions, m) && r.chance(70) {
+            proposal.score = list_score(call, &proposal.rows, &proposal.positions);
+        }
+    }
+    proposal
 }

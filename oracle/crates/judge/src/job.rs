@@ -15,6 +15,8 @@ pub struct Settings {
     pub fnmax: u32,
     pub pileupmax: u32,
     pub minkfreq: u32,
+    /// document 02, P6: the library's word; a job has no place for it
+    pub letters: u32,
     pub sizesim: f32,
     pub seqsim: f32,
     pub fpenalty: f32,
@@ -22,6 +24,7 @@ pub struct Settings {
 }
 
 impl Settings {
+    /// those of the job form
     pub fn wholes(&self) -> [u32; 5] {
         [self.maxpaths, self.maxnodes, self.fnmax, self.pileupmax, self.minkfreq]
     }
@@ -221,6 +224,7 @@ impl Reader<'_> {
             fnmax: u32_at(body, 12),
             pileupmax: u32_at(body, 16),
             minkfreq: u32_at(body, 20),
+            letters: self.rules.present_letters(),
             sizesim: f32_at(body, 24),
             seqsim: f32_at(body, 28),
             fpenalty: f32_at(body, 32),

@@ -75,6 +75,7 @@ fn of_call(counts: &mut Counts, call: &Call) {
         (s.sizesim == 0.0 || s.seqsim == 0.0, "a threshold 0"),
         (s.sizesim == 1.0 || s.seqsim == 1.0, "a threshold 1"),
         (s.floats().iter().any(|x| x.to_bits() == 0x8000_0000), "minus zero"),
+        (s.letters == 1, "letters 1"),
         (s.minkfreq == 0, "minkfreq 0"),
         (s.minkfreq > 1000, "minkfreq large"),
         (sizes().any(|&x| x == 0), "a zero size"),
@@ -106,6 +107,24 @@ fn of_letters<'a>(counts: &mut Counts, k: u8, mut letters: impl Iterator<Item = 
     }
     if letters.any(|l| l.len() < k.into()) {
         add(counts, "fewer than k letters");
+    }
+}
+
+/// What a text shows that is counted in both readings. A kind that no text shows is counted too, as 0.
+pub fn of_text(counts: &mut Counts, text: &[u8], k: u8) {
+    let codes: Vec<Option<usize>> = text.iter().map(|&letter| DOCUMENT.code(letter, 1)).collect();
+    let windows = (codes.len() + 1).saturating_sub(k.into());
+    let kept = (0..windows).filter(|&at| DOCUMENT.is_kept(&codes, at, k.into())).count();
+    let seen = [
+        (windows == 0, "text: fewer letters than k"),
+        (windows > 0 && kept == windows, "text: every window kept"),
+        (windows > 0 && kept == 0, "text: no window kept"),
+        (kept > 0 && kept < windows, "text: some windows kept"),
+        (text.len() >= 100_000, "text: 100,000 letters or more"),
+        (text.len() == 131_072, "text: 131,072 letters"),
+    ];
+    for (is, kind) in seen {
+        *counts.entry(kind.to_string()).or_default() += u64::from(is);
     }
 }
 
@@ -170,6 +189,22 @@ pub fn of_numbers(counts: &mut Counts, call: &Call, answer: &Answer) {
         (answer.refusal == 12 && call.answer_room >= v && !call.searches(&DOCUMENT), "second buffer: alone the 12, one-to-one"),
         (answer.records.windows(2).any(|pair| pair[0] > pair[1]), "records: falling"),
         (!answer.records.is_empty() && answer.records != answer.rows, "records: other than the rows"),
+    ];
+    for (is, kind) in seen {
+        *counts.entry(kind.to_string()).or_default() += u64::from(is);
+    }
+}
+
+/// What the reading of a call's letters shows. A kind that no call shows is counted too, as 0.
+pub fn of_reading(counts: &mut Counts, call: &Call, answer: &Answer) {
+    let (letters, refusal) = (call.settings.letters, answer.refusal);
+    let seen = [
+        (letters == 1 && refusal == 0 && !answer.rows.is_empty(), "letters: 1, rows answered"),
+        (letters == 1 && refusal == 0 && !call.searches(&DOCUMENT), "letters: 1, one-to-one"),
+        (letters == 1 && refusal == 16, "letters: 1, refused 16"),
+        (letters > 1 && refusal == 3, "letters: over 1, refused 3"),
+        (letters > 255 && refusal == 3, "letters: over a byte, refused 3"),
+        (letters > 1 && [1, 2].contains(&refusal), "letters: over 1, refused 1 or 2"),
     ];
     for (is, kind) in seen {
         *counts.entry(kind.to_string()).or_default() += u64::from(is);

@@ -2,6 +2,7 @@
 use crate::answer::Answer;
 use crate::call::Call;
 use crate::kinds::Counts;
+use crate::proposal::{Checked, Proposal};
 use crate::random::Random;
 use crate::several::{Seen, Several};
 
@@ -33,26 +34,38 @@ pub fn answer(_call: &Call) -> Result<Said, String> {
 }
 
 #[cfg(not(feature = "linked"))]
+pub fn check_path(_call: &Call, _proposal: &Proposal) -> Result<Checked, String> {
+    Err("the library is not linked".to_string())
+}
+
+#[cfg(not(feature = "linked"))]
 pub fn smaller_call(_r: &mut Random, _counts: &mut Counts) -> Result<(), String> {
     Err("the library is not linked".to_string())
 }
 
+#[cfg(not(feature = "linked"))]
+pub fn counts_alike(_text: &[u8], _k: u8, _negative: bool, _counts: &mut Counts) -> Result<(), String> {
+    Err("the library is not linked".to_string())
+}
+
 #[cfg(feature = "linked")]
-pub use linked::{answer, several, smaller_call};
+pub use linked::{answer, check_path, counts_alike, several, smaller_call};
 
 #[cfg(feature = "linked")]
 mod linked {
     use super::*;
     use crate::answer::Target;
-    use crate::call::magnitudes;
+    use crate::call::{counted, magnitudes};
+    use crate::document::features;
     use crate::job::Settings;
+    use crate::meta::{self, Asked};
     use crate::rules::DOCUMENT;
     use crate::{generate, kinds, rust};
     use unchanged::kplib::metrics;
 
     extern "C" {
         fn nd_apply_haplotype(
-            settings: *const [u32; 13],
+            settings: *const [u32; 14],
             starts: *const u64, starts_len: usize, ends: *const u64, ends_len: usize,
             sizes: *const i32, sizes_len: usize, features: *const i32, features_len: usize,
             record_numbers: *const u32, record_numbers_len: usize,
@@ -62,7 +75,7 @@ mod linked {
             report: *mut [u32; 7],
         ) -> u32;
         fn nd_apply_haplotypes(
-            settings: *const [u32; 13],
+            settings: *const [u32; 14],
             starts: *const u64, starts_len: usize, ends: *const u64, ends_len: usize,
             sizes: *const i32, sizes_len: usize, features: *const i32, features_len: usize,
             record_numbers: *const u32, record_numbers_len: usize,
@@ -71,20 +84,31 @@ mod linked {
             links: *mut u32, links_len: usize, keys: *mut u64, keys_len: usize, rows: *mut u32, rows_len: usize,
             records: *mut u32, records_len: usize, reports: *mut u32, reports_len: usize,
         ) -> u32;
+        fn nd_check_path(
+            settings: *const [u32; 14],
+            starts: *const u64, starts_len: usize, ends: *const u64, ends_len: usize,
+            sizes: *const i32, sizes_len: usize, features: *const i32, features_len: usize,
+            part_sizes: *const i32, part_sizes_len: usize, part_features: *const i32, part_features_len: usize,
+            rows: *const u32, rows_len: usize, positions: *const u32, positions_len: usize, score: f32, yes: *mut u32,
+        ) -> u32;
         fn nd_count_chains(starts: *const u64, starts_len: usize, ends: *const u64, ends_len: usize, full: bool, cap: u32, count: *mut u32) -> u32;
-        fn nd_seq_to_kmer(letters: *const u8, letters_len: usize, k: u8, negative: bool, row: *mut i32, row_len: usize) -> u32;
+        fn nd_seq_to_kmer(text: *const u8, text_len: usize, k: u8, negative: bool, letters: u8, row: *mut i32, row_len: usize) -> u32;
         fn nd_seqsim(a: *const i32, a_len: usize, b: *const i32, b_len: usize, minkfreq: u32, place: *mut f32) -> u32;
         fn nd_sizesim(a: u64, b: u64, place: *mut f32) -> u32;
+        fn nd_meta_new(index: u64, samples: u64, meta: *mut [u64; 28]) -> u32;
+        fn nd_meta_blank(samples: u64, meta: *mut [u64; 28]) -> u32;
+        fn nd_meta_combine(left: *mut [u64; 28], right: *const [u64; 28]) -> u32;
     }
 
     const MARK: u32 = 0xdead_0001;
     const MARK_KEY: u64 = 0xdead_0002_0000_0003;
 
     /// The settings as the archive takes them: flags as 0 and 1, floats by their bits.
-    fn words(s: &Settings) -> [u32; 13] {
+    fn words(s: &Settings) -> [u32; 14] {
         let [sizesim, seqsim, fpenalty, gpenalty] = [s.sizesim, s.seqsim, s.fpenalty, s.gpenalty].map(f32::to_bits);
         let [squish, one_to_one, full] = [s.squish, s.one_to_one, s.full].map(u32::from);
-        [s.k.into(), squish, one_to_one, full, s.maxpaths, s.maxnodes, s.fnmax, s.pileupmax, s.minkfreq, sizesim, seqsim, fpenalty, gpenalty]
+        let [maxpaths, maxnodes, fnmax, pileupmax, minkfreq] = s.wholes();
+        [s.k.into(), squish, one_to_one, full, maxpaths, maxnodes, fnmax, pileupmax, minkfreq, s.letters, sizesim, seqsim, fpenalty, gpenalty]
     }
 
     /// The answer in a refusal's number, the fronts of the buffers and the words of the report after the first.
@@ -195,14 +219,58 @@ mod linked {
         })
     }
 
-    /// One call of the counter, seqsim, sizesim or the chain count, compared with the Rust's; refusals by document 01.
+    /// The number that the check returns, and its word.
+    pub fn check_path(call: &Call, proposal: &Proposal) -> Result<Checked, String> {
+        let mut yes = MARK;
+        // SAFETY: every pointer comes with its slice's length.
+        let number = unsafe {
+            nd_check_path(
+                &words(&call.settings),
+                call.starts.as_ptr(), call.starts.len(), call.ends.as_ptr(), call.ends.len(),
+                call.sizes.as_ptr(), call.sizes.len(), call.features.as_ptr(), call.features.len(),
+                call.part_sizes.as_ptr(), call.part_sizes.len(), call.part_features.as_ptr(), call.part_features.len(),
+                proposal.rows.as_ptr(), proposal.rows.len(), proposal.positions.as_ptr(), proposal.positions.len(), proposal.score, &mut yes,
+            )
+        };
+        if yes > 1 {
+            return Err(format!("the word for yes or no is {yes}"));
+        }
+        Ok((number, yes == 1))
+    }
+
+    /// One call of the counter, seqsim, sizesim, the chain count or those of a haplotype's data, compared with the Rust's; refusals by the documents.
     pub fn smaller_call(r: &mut Random, counts: &mut Counts) -> Result<(), String> {
-        match r.below(4) {
+        match r.below(5) {
             0 => counter(r, counts),
             1 => rows(r, counts),
             2 => sizes(r, counts),
+            3 => data(r, counts),
             _ => chain_count(r, counts),
         }
+    }
+
+    fn data(r: &mut Random, counts: &mut Counts) -> Result<(), String> {
+        let asked = meta::asked(r);
+        let must = asked.said(&DOCUMENT);
+        let rust = asked.by_the_rust();
+        let mut words = [r.next(); 28];
+        // SAFETY: every pointer is to 28 words.
+        let said = match &asked {
+            Asked::New(index, samples) => unsafe { nd_meta_new(*index, *samples, &mut words) },
+            Asked::Blank(samples) => unsafe { nd_meta_blank(*samples, &mut words) },
+            Asked::Combine(left, right) => {
+                words = *left;
+                unsafe { nd_meta_combine(&mut words, right) }
+            }
+        };
+        kinds::add(counts, format!("data: refusal {}{}", must.0, if rust.is_some() { ", asked of the Rust" } else { "" }));
+        if rust.is_some_and(|rust| (0, rust) != must) {
+            return Err(format!("of {asked:?} the Rust says {rust:?}, the second reading {must:?}"));
+        }
+        if (said, words) == must {
+            return Ok(());
+        }
+        Err(format!("{asked:?}: must be {must:?}, is {said} {words:?}"))
     }
 
     /// The refusals of the chain count: the cap, then the table's bounds.
@@ -245,32 +313,59 @@ mod linked {
         Err(format!("chains of {starts:?} {ends:?} full {} cap {cap}: must be {must} {chains}, is {said} {count}", call.settings.full))
     }
 
+    const UNCOUNTED: i32 = 77;
+
+    /// The library's count into a row of so many entries, none of them 0 before the call.
+    fn library_counts(text: &[u8], k: u8, negative: bool, letters: u8, room: usize) -> (u32, Vec<i32>) {
+        let mut row = vec![UNCOUNTED; room];
+        // SAFETY: both pointers come with their lengths.
+        let said = unsafe { nd_seq_to_kmer(text.as_ptr(), text.len(), k, negative, letters, row.as_mut_ptr(), row.len()) };
+        (said, row)
+    }
+
+    /// One text counted with letters 0 as the Rust counts it, with 1 as the second program does; document.rs must count both alike.
+    pub fn counts_alike(text: &[u8], k: u8, negative: bool, counts: &mut Counts) -> Result<(), String> {
+        for letters in [0u8, 1] {
+            let must = counted(letters.into(), k, text, negative);
+            let (said, row) = library_counts(text, k, negative, letters, must.len());
+            let document = features(&DOCUMENT, letters.into(), k, text, negative);
+            if (said, &row) != (0, &must) || document != must {
+                let shown = text.iter().take(80).copied().collect::<Vec<u8>>();
+                let differs = |is: &[i32]| is.iter().zip(&must).position(|(is, must)| is != must).map(|at| (at, is[at], must[at]));
+                let words = format!("counting {} ({} letters) at k {k}, negative {negative}, letters {letters}", shown.escape_ascii(), text.len());
+                return Err(format!("{words}: returned {said}; first entry, is, must be: {:?}, and of document.rs {:?}", differs(&row), differs(&document)));
+            }
+        }
+        kinds::of_text(counts, text, k);
+        Ok(())
+    }
+
     fn counter(r: &mut Random, counts: &mut Counts) -> Result<(), String> {
         let k = if r.chance(5) { r.pick(&[0u8, 7, 255]) } else { 1 + r.below(6) as u8 };
         let length = if r.chance(1) { r.pick(&[131_071usize, 131_072, 131_073]) } else { r.below(60) as usize };
-        let letters: Vec<u8> =
-            (0..length).map(|_| if r.chance(95) { r.pick(b"ACGTacgtN") } else { r.below(256) as u8 }).collect();
+        let text = generate::text(r, length);
         let negative = r.chance(50);
+        let letters = if r.chance(5) { r.pick(&[2u8, 3, 128, 255]) } else { r.below(2) as u8 };
         let entries = 4usize.pow(k.clamp(1, 6).into());
         let room = if r.chance(5) { r.pick(&[0, entries - 1, entries + 1]) } else { entries };
-        let mut row = vec![77i32; room];
-        // SAFETY: both pointers come with their lengths.
-        let said = unsafe { nd_seq_to_kmer(letters.as_ptr(), letters.len(), k, negative, row.as_mut_ptr(), row.len()) };
-        let must = match (k, room == entries, length) {
-            (0 | 7..=255, _, _) => 1,
-            (_, false, _) => 6,
-            (_, _, 131_073..) => 13,
+        let (said, row) = library_counts(&text, k, negative, letters, room);
+        let must = match (k, letters, room == entries, length) {
+            (0 | 7..=255, _, _, _) => 1,
+            (_, 2..=255, _, _) => 3,
+            (_, _, false, _) => 6,
+            (_, _, _, 131_073..) => 13,
             _ => 0,
         };
-        let counted: Vec<i32> = match must {
-            0 => rust::features(k, &letters, negative),
-            _ => vec![77; room],
+        let wanted: Vec<i32> = match must {
+            0 => counted(letters.into(), k, &text, negative),
+            _ => vec![UNCOUNTED; room],
         };
-        kinds::add(counts, format!("counter: refusal {must}"));
-        if said == must && row == counted {
+        kinds::add(counts, format!("counter: refusal {must:02}"));
+        kinds::add(counts, format!("counter: letters {}", if letters > 1 { "over 1".to_string() } else { letters.to_string() }));
+        if said == must && row == wanted {
             return Ok(());
         }
-        Err(format!("counting {} at k {k}: must be {must} {counted:?}, is {said} {row:?}", letters.escape_ascii()))
+        Err(format!("counting {} at k {k}, letters {letters}: must be {must} {wanted:?}, is {said} {row:?}", text.escape_ascii()))
     }
 
     fn rows(r: &mut Random, counts: &mut Counts) -> Result<(), String> {

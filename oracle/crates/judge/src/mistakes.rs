@@ -1,6 +1,7 @@
 //! The planted mistakes: the documents with one rule misread, each under its words.
 use crate::answer::Target;
 use crate::rules::{Rules, DOCUMENT, SIZE_LIMIT};
+use std::collections::HashSet;
 
 pub struct Mistake {
     pub words: &'static str,
@@ -19,9 +20,9 @@ macro_rules! mistakes {
 }
 
 mistakes! {
-    "letters counted in A C G T order": code = |letter| DOCUMENT.code(letter).map(|code| [0, 2, 1, 3][code]);
-    "lower case read as another byte": code = |letter| if letter.is_ascii_lowercase() { Some(0) } else { DOCUMENT.code(letter) };
-    "windows with another byte left out": code = |letter| DOCUMENT.code(letter).filter(|_| b"AGCTagct".contains(&letter));
+    "letters counted in A C G T order": code = |letter, letters| DOCUMENT.code(letter, letters).map(|code| [0, 2, 1, 3][code]);
+    "lower case read as another byte": code = |letter, letters| DOCUMENT.code(if letter.is_ascii_lowercase() { b'N' } else { letter }, letters);
+    "windows with another byte left out": code = |letter, _| DOCUMENT.code(letter, 1);
     "a negative sequence counted up": window_adds = |_| 1;
     "entries must exceed minkfreq": n_and_d = |a, b, minkfreq| DOCUMENT.n_and_d(a, b, minkfreq + 1);
     "seqsim rounded once, not after the division": seqsim = |n, d| if n == 0 || d == 0 { DOCUMENT.seqsim(n, d) } else { (1.0 - n as f64 / d as f64) as f32 };
@@ -170,6 +171,22 @@ mistakes! {
     "`hap` printed for one haplotype too": hap_lines_stand = |_| true;
     "`hap` not printed": hap_lines_stand = |_| false;
     "`hap` from 1": hap_number = |at| at + 1;
+    "an unread letter counted as A with letters 1": code = |letter, _| DOCUMENT.code(letter, 0);
+    "lower case unread with letters 1": code = |letter, letters| DOCUMENT.code(letter, letters).filter(|_| letters == 0 || !letter.is_ascii_lowercase());
+    "n counted as A with letters 1, and N not": code = |letter, letters| if letter == b'n' { Some(0) } else { DOCUMENT.code(letter, letters) };
+    "only N and n unread with letters 1": code = |letter, letters| DOCUMENT.code(letter, if b"Nn".contains(&letter) { letters } else { 0 });
+    "a window kept whose last letter is unread": is_kept = |codes, at, k| DOCUMENT.is_kept(codes, at, k - 1);
+    "a window kept whose first letter is unread": is_kept = |codes, at, k| DOCUMENT.is_kept(codes, at + 1, k - 1);
+    "a window kept that has one letter with a code": is_kept = |codes, at, k| codes[at..at + k].iter().any(Option::is_some);
+    "the window behind an unread letter lost": is_kept = |codes, at, k| DOCUMENT.is_kept(codes, at, k) && (at == 0 || codes[at - 1].is_some());
+    "the window before an unread letter lost": is_kept = |codes, at, k| DOCUMENT.is_kept(codes, at, k) && codes.get(at + k).is_none_or(Option::is_some);
+    "nothing counted behind the first unread letter": is_kept = |codes, at, k| DOCUMENT.is_kept(codes, 0, at + k);
+    "nothing counted of a sequence with an unread letter": is_kept = |codes, _, _| DOCUMENT.is_kept(codes, 0, codes.len());
+    "a job's letters read by 1": present_letters = || 1;
+    "letters 2 accepted": letters_are_refused = |letters| letters > 2;
+    "letters 1 refused": letters_are_refused = |letters| letters > 0;
+    "letters compared by a byte": letters_are_refused = |letters| DOCUMENT.letters_are_refused(letters & 0xff);
+    "letters not looked at": letters_are_refused = |_| false;
     "16 looked for before 10": refusals = || &[1, 2, 3, 4, 27, 5, 6, 7, 8, 14, 9, 16, 10, 11, 12];
     "16 looked for before 9": refusals = || &[1, 2, 3, 4, 27, 5, 6, 7, 8, 14, 16, 9, 10, 11, 12];
     "16 looked for after 11": refusals = || &[1, 2, 3, 4, 27, 5, 6, 7, 8, 14, 9, 10, 11, 16, 12];
@@ -187,4 +204,51 @@ mistakes! {
     "16 in search mode only": blank_is_refused = |variants, _, searches, _| searches && variants.contains(&true);
     "16 in one-to-one only": blank_is_refused = |variants, _, searches, _| !searches && variants.contains(&true);
     "16 in a full graph only": blank_is_refused = |variants, _, _, full| full && variants.contains(&true);
+    "51 looked for before 50": meta_refusals = || &[51, 50, 52, 53];
+    "52 looked for before 50": meta_refusals = || &[52, 50, 51, 53];
+    "53 looked for before 52": meta_refusals = || &[50, 51, 53, 52];
+    "53 not looked for, and the sum wraps": meta_refusals = || &[50, 51, 52];
+    "no samples taken": samples_are_refused = |samples| samples > 8;
+    "nine samples taken": samples_are_refused = |samples| samples == 0 || samples > 9;
+    "eight samples refused": samples_are_refused = |samples| samples == 0 || samples > 7;
+    "a sample index at the count taken": index_is_refused = |index, samples| index > samples;
+    "unequal counts joined up to the shorter": counts_disagree = |_, _| false;
+    "more samples on the right taken": counts_disagree = |left, right| left > right;
+    "a coverage sum of all bits refused": sum_passes = |left, right| left.checked_add(right).is_none_or(|sum| sum == u64::MAX);
+    "a refusal gives the blank asked for": blank_on_refusal = |asked| asked;
+    "a sample's flag is its index": flag_of = |index| index;
+    "the larger coverage kept": coverage_of_both = |left, right| left.max(right);
+    "the right tag over the left": tag_of_both = |left, right| DOCUMENT.tag_of_both(right, left);
+    "the larger tag kept": tag_of_both = |left, right| left.max(right);
+    "tag 0 taken as none": tag_of_both = |left, right| if left < 2 { right } else { left };
+    "the flags added": flags_of_both = |left, right| left.wrapping_add(right);
+    "the flags of both alone": flags_of_both = |left, right| left & right;
+    "the id of the right": id_of_both = |_, right| right;
+    "a refused combining combined anyway": left_after = |_, combined, _| combined;
+    "54 looked for before 10": proposal_refusals = || &[1, 2, 3, 4, 5, 6, 7, 8, 9, 54, 10, 16];
+    "54 looked for before 16": proposal_refusals = || &[1, 2, 3, 4, 5, 6, 7, 8, 9, 10, 54, 16];
+    "54 looked for first": proposal_refusals = || &[54, 1, 2, 3, 4, 5, 6, 7, 8, 9, 10, 16];
+    "16 not looked for in a check": proposal_refusals = || &[1, 2, 3, 4, 5, 6, 7, 8, 9, 10, 54];
+    "54 for 64 rows": proposal_is_long = |rows, positions| rows >= 64 || positions > 64;
+    "54 for rows only": proposal_is_long = |rows, _| rows > 64;
+    "54 for positions only": proposal_is_long = |_, positions| positions > 64;
+    "proposed rows in any order": rows_ascend = |rows| rows.iter().collect::<HashSet<_>>().len() == rows.len();
+    "a proposed row twice": rows_ascend = |rows| rows.is_sorted();
+    "a proposed list below the lower end": is_a_part_list = |positions, lists, m| {
+        let rises = positions.windows(2).all(|pair| pair[0] < pair[1]) && positions.iter().all(|&position| (position as usize) < m);
+        DOCUMENT.is_a_part_list(positions, lists, m) || rises && !positions.is_empty()
+    };
+    "the empty list proposed": is_a_part_list = |positions, lists, m| positions.is_empty() || DOCUMENT.is_a_part_list(positions, lists, m);
+    "positions in any order": is_a_part_list = |positions, lists, m| {
+        let mut sorted = positions.to_vec();
+        sorted.sort();
+        DOCUMENT.is_a_part_list(&sorted, lists, m)
+    };
+    "only the whole haplotype proposed": is_a_part_list = |positions, _, m| positions.len() == m;
+    "equal bits not asked": is_that_score = |score, proposed| score > 0.0 && (score - proposed).abs() < 0.001;
+    "any score proposed": is_that_score = |score, _| score > 0.0;
+    "a score of 0 taken": is_that_score = |score, proposed| score >= 0.0 && score.to_bits() == proposed.to_bits();
+    "a score below 0 taken": is_that_score = |score, proposed| score != 0.0 && score.to_bits() == proposed.to_bits();
+    "no path in one-to-one": mode_forbids = |s, _| s.one_to_one;
+    "no path where V exceeds maxnodes": mode_forbids = |s, v| v > s.maxnodes as usize;
 }

@@ -64,14 +64,15 @@ rules! {
 
     // From letters to similarity
 
-    /// "A, G, C and T give 0, 1, 2, 3 in either case; any other byte gives 0." A window is counted when all its letters have a code.
-    fn code(letter: u8) -> Option<usize> {
+    /// "A, G, C and T give 0, 1, 2, 3 in either case; any other byte gives 0." Document 02, P6: "0 is document 01's reading", and with 1 a byte other
+    /// than these has no code.
+    fn code(letter: u8, letters: u32) -> Option<usize> {
         match letter {
             b'A' | b'a' => Some(0),
             b'G' | b'g' => Some(1),
             b'C' | b'c' => Some(2),
             b'T' | b't' => Some(3),
-            _ => Some(0),
+            _ => (letters != 1).then_some(0),
         }
     }
 
@@ -362,6 +363,23 @@ rules! {
         at
     }
 
+    // Document 02, P6: unread letters are not A
+
+    /// "A library setting other than 0 or 1 is a 3."
+    fn letters_are_refused(letters: u32) -> bool {
+        letters > 1
+    }
+
+    /// "1 leaves out each window that holds a byte other than A, G, C, T in either case": one is kept exactly when each of its k bytes has a code
+    fn is_kept(codes: &[Option<usize>], at: usize, k: usize) -> bool {
+        codes[at..at + k].iter().all(Option::is_some)
+    }
+
+    /// "Old jobs read as 0."
+    fn present_letters() -> u32 {
+        0
+    }
+
     // Document 02, P11: rows that can match nothing
 
     /// 16: a row that "is all zero"
@@ -373,5 +391,99 @@ rules! {
     /// parts'; whether the call is in search mode, and whether the graph is full
     fn blank_is_refused(variants: &[bool], _parts: &[bool], _searches: bool, _full: bool) -> bool {
         variants.contains(&true)
+    }
+
+    // Whose reads these were (document 02, P12)
+
+    /// "Refusals, in order: 50 .., 51 .., 52 .., 53"
+    fn meta_refusals() -> &'static [u32] {
+        &[50, 51, 52, 53]
+    }
+
+    /// 50: "for a sample count not 1 to 8"
+    fn samples_are_refused(samples: u64) -> bool {
+        !(1..=8).contains(&samples)
+    }
+
+    /// 51: "for a sample index at or above it"
+    fn index_is_refused(index: u64, samples: u64) -> bool {
+        index >= samples
+    }
+
+    /// 52: "for unequal counts (the Rust stops at the shorter)"
+    fn counts_disagree(left: u64, right: u64) -> bool {
+        left != right
+    }
+
+    /// 53: "when a coverage sum passes 64 bits"
+    fn sum_passes(left: u64, right: u64) -> bool {
+        left.checked_add(right).is_none()
+    }
+
+    /// "the others a blank of one sample"
+    fn blank_on_refusal(_asked: u64) -> u64 {
+        1
+    }
+
+    /// "sample flags": that of a sample is 2 to its index
+    fn flag_of(index: u64) -> u64 {
+        1 << index
+    }
+
+    /// "Combining adds coverage"
+    fn coverage_of_both(left: u64, right: u64) -> u64 {
+        left.wrapping_add(right)
+    }
+
+    /// "keeps the left tag where there is one and otherwise takes the right"
+    fn tag_of_both(left: u64, right: u64) -> u64 {
+        if left == 0 { right } else { left }
+    }
+
+    /// "joins the flags"
+    fn flags_of_both(left: u64, right: u64) -> u64 {
+        left | right
+    }
+
+    /// "and keeps the left id"
+    fn id_of_both(left: u64, _right: u64) -> u64 {
+        left
+    }
+
+    /// "combine hands both inputs back as they were"
+    fn left_after(before: [u64; 28], combined: [u64; 28], refused: bool) -> [u64; 28] {
+        if refused { before } else { combined }
+    }
+
+    // Document 02, P13: check a path someone else proposes
+
+    /// "Table, part and settings refusals come first; a proposal over 64 rows or 64 positions is a 54 after them."
+    fn proposal_refusals() -> &'static [u32] {
+        &[1, 2, 3, 4, 5, 6, 7, 8, 9, 10, 16, 54]
+    }
+
+    /// "over 64 rows or 64 positions"
+    fn proposal_is_long(rows: usize, positions: usize) -> bool {
+        rows > 64 || positions > 64
+    }
+
+    /// "the rows are a chain": as they are sent each is later than the one before
+    fn rows_ascend(rows: &[u32]) -> bool {
+        rows.windows(2).all(|pair| pair[0] < pair[1])
+    }
+
+    /// "the positions are one of the part lists"
+    fn is_a_part_list(positions: &[u32], lists: &[Vec<u32>], _m: usize) -> bool {
+        lists.iter().any(|list| list == positions)
+    }
+
+    /// "gives that score, greater than 0, bit for bit"
+    fn is_that_score(score: f32, proposed: f32) -> bool {
+        score > 0.0 && score.to_bits() == proposed.to_bits()
+    }
+
+    /// "whether the job asks for one-to-one, or V exceeds maxnodes, plays no part"
+    fn mode_forbids(_s: &Settings, _v: usize) -> bool {
+        false
     }
 }

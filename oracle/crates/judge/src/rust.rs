@@ -120,6 +120,31 @@ macro_rules! build {
                 won.expect("some list has the best score").partial as u32
             }
 
+            /// The positions of each part list, in the Rust's own order: parts of sizes 1, 2, 4, .. tell by a list's size which of them it has.
+            pub fn part_positions(call: &Call) -> Vec<Vec<u32>> {
+                let (s, m) = (&call.settings, call.part_sizes.len());
+                if m >= s.pileupmax as usize {
+                    return vec![(0..m as u32).collect()];
+                }
+                let meta = HaplotypeMeta::new_blank(1);
+                let mut whole = Haplotype::blank(1, meta.clone());
+                for part in 0..m {
+                    whole.add(&Haplotype::new(vec![0.0; 4], 1 << part, 1, meta.clone()));
+                }
+                let lists = whole.partial_haplotypes(1, s.fnmax as usize, s.pileupmax as usize);
+                lists.iter().map(|list| (0..m as u32).filter(|part| list.size >> part & 1 == 1).collect()).collect()
+            }
+
+            /// One list, by its place among the Rust's, scored alone against these rows of the table; 0 where it is skipped or not above 0.
+            pub fn list_score(call: &Call, rows: &[u32], place: usize) -> f32 {
+                let (params, variants, whole) = (params(call), table(call), haplotype(call));
+                let nodes: Vec<_> = variants.graph.node_indices().collect();
+                let path: Vec<_> = rows.iter().map(|&row| nodes[row as usize + 1]).collect();
+                let size = path.iter().map(|&node| variants.graph[node].size).sum();
+                let list = whole.partial_haplotypes(params.kmer, params.fnmax, params.pileupmax).swap_remove(place);
+                PathScore::new(&variants.graph, path, size, &[list], &params, &whole).score
+            }
+
             pub fn answer(call: &Call) -> Answer {
                 let (params, variants, whole) = (params(call), table(call), haplotype(call));
                 let best = variants.apply_haplotype(&whole, &params);
@@ -223,6 +248,16 @@ fn search(call: &Call) -> Judged {
         overlap,
     }
 }
+
+/// Rows of the table, ascending, no two of which overlap; in a bare graph none.
+pub fn is_chain(call: &Call, rows: &[u32]) -> bool {
+    let bounds = |row: u32| (call.starts[row as usize], call.ends[row as usize]);
+    let apart = |a: u32, b: u32| !ordered::kplib::metrics::overlaps(bounds(a).0, bounds(a).1, bounds(b).0, bounds(b).1);
+    let pairs = (0..rows.len()).flat_map(|b| (0..b).map(move |a| (a, b)));
+    (call.settings.full || rows.is_empty()) && pairs.into_iter().all(|(a, b)| rows[a] < rows[b] && apart(rows[a], rows[b]))
+}
+
+pub use ordered_build::{list_score, part_positions};
 
 /// The judge's answer to a call: the documents' refusals, else the Rust's.
 pub fn judged(call: &Call) -> Judged {

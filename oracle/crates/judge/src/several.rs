@@ -1,10 +1,9 @@
 //! Several haplotypes over one table as the library is asked for them (document 02, P1): the refusals of the whole call, each haplotype's own call,
 //! and what a caller finds in the lent buffers afterwards.
 use crate::answer::Answer;
-use crate::call::{queue_need, Call};
+use crate::call::{counted, queue_need, Call};
 use crate::job::Job;
 use crate::rules::Rules;
-use crate::rust;
 use std::ops::Range;
 
 #[derive(Clone, Debug)]
@@ -49,7 +48,8 @@ fn put(buffer: &mut [u32], from: usize, words: &[u32]) {
 impl Several {
     /// All haplotypes of a job, with the room that they need.
     pub fn of_job(job: &Job) -> Several {
-        Several::of_job_by(job, (0..).take(job.variants.len()).collect(), rust::features)
+        let features = |k, text: &[u8], negative| counted(job.settings.letters, k, text, negative);
+        Several::of_job_by(job, (0..).take(job.variants.len()).collect(), features)
     }
 
     pub fn of_job_by(job: &Job, numbers: Vec<u32>, features: impl Fn(u8, &[u8], bool) -> Vec<i32>) -> Several {

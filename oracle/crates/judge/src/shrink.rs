@@ -16,6 +16,9 @@ fn plainer(settings: &Settings) -> Vec<Settings> {
     with(&|s| s.squish = false);
     with(&|s| s.one_to_one = false);
     with(&|s| s.full = true);
+    for letters in 0..3 {
+        with(&|s| s.letters = letters);
+    }
     for (value, field) in [(9, 0), (9, 1), (0, 2), (5, 3), (0, 4), (1, 4), (1, 0), (0, 0)] {
         with(&|s| *[&mut s.maxpaths, &mut s.maxnodes, &mut s.fnmax, &mut s.pileupmax, &mut s.minkfreq][field] = value);
     }
@@ -82,7 +85,7 @@ fn settings_weight(s: &Settings) -> u64 {
         .iter()
         .map(|x| if x.to_bits() == 0 { 0 } else if *x == 0.5 { 1 } else { 3 })
         .sum();
-    wholes + floats + 10 * u64::from(s.k) + 5 * (u64::from(s.squish) + u64::from(s.one_to_one) + u64::from(!s.full))
+    wholes + floats + 5 * u64::from(s.letters.min(3)) + 10 * u64::from(s.k) + 5 * (u64::from(s.squish) + u64::from(s.one_to_one) + u64::from(!s.full))
 }
 
 /// A measure that falls with every step taken, so that shrinking ends.

@@ -44,6 +44,12 @@ element-copy-out-t29 c = search needs
 element-copy-out-t32 : tie.Need-element-copy-out-t32
 element-copy-out-t32 c = search needs
 
+element-copy-out-byte-of-word-2 : tie.Need-element-copy-out-byte-of-word-2
+element-copy-out-byte-of-word-2 c = search needs
+
+byte-of-word-requires-2 : tie.Need-byte-of-word-requires-2
+byte-of-word-requires-2 c κs = search needs
+
 element-copy-out-float-of : tie.Need-element-copy-out-float-of
 element-copy-out-float-of c = search needs
 
@@ -68,7 +74,7 @@ element-copy-out-float-of-4 c = search needs
 float-of-requires-4 : tie.Need-float-of-requires-4
 float-of-requires-4 c κs = search needs
 
--- the calls one after the other, each with its word's reading before it; five words between the flags and the floats are no calls
+-- the calls one after the other, each with its word's reading before it; five words between the flags and the letters are no calls
 abbrev fpenalty : tie.After-float-of4 → tie.After-float-of3
 fpenalty c = c .before .before
 
@@ -78,7 +84,10 @@ seqsim c = c .before .before
 abbrev sizesim : tie.After-float-of2 → tie.After-float-of
 sizesim c = c .before .before
 
-abbrev full : tie.After-float-of → tie.After-flag-of-word3
+abbrev letters : tie.After-float-of → tie.After-byte-of-word2
+letters c = c .before .before
+
+abbrev full : tie.After-byte-of-word2 → tie.After-flag-of-word3
 full c = c .before .before .before .before .before .before .before
 
 abbrev one-to-one : tie.After-flag-of-word3 → tie.After-flag-of-word2
@@ -96,7 +105,8 @@ returns c =
     let f = fpenalty c in
     let q = seqsim f in
     let z = sizesim q in
-    let u = full z in
+    let l = letters z in
+    let u = full l in
     let o = one-to-one u in
     let s = squish o in
     rw (
@@ -104,6 +114,7 @@ returns c =
       ← s .flag-of-word .ensures,
       ← o .flag-of-word2 .ensures,
       ← u .flag-of-word3 .ensures,
+      ← l .byte-of-word2 .ensures,
       ← z .float-of .ensures,
       ← q .float-of2 .ensures,
       ← f .float-of3 .ensures,
@@ -127,6 +138,8 @@ settings-of-words-spec =
     element-copy-out-t26
     element-copy-out-t29
     element-copy-out-t32
+    element-copy-out-byte-of-word-2
+    byte-of-word-requires-2
     element-copy-out-float-of
     float-of-requires
     element-copy-out-float-of-2

@@ -35,7 +35,7 @@ same-length c = search needs
 returns : tie.Need-returns
 returns c =
     let s = c .before .before .before .before .before in
-    row-counted (s .args .k) (s .args .at) (s .args .end) (s .args .from) (s .args .to) (s .args .negative) (now (s .args .letters)) (now (s .args .table)) (s .pre)
+    row-counted (s .args .reading) (s .args .k) (s .args .at) (s .args .end) (s .args .from) (s .args .to) (s .args .negative) (now (s .args .letters)) (now (s .args .table)) (s .pre)
     _ (c .before .seq-to-kmer .ensures .0) _ (c .before .seq-to-kmer .ensures .1)
 
 pub count-row-spec : {M : Type 1} → statement M

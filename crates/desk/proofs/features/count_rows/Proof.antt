@@ -9,10 +9,10 @@ use Rattle.desk.proofs.features.count_rows.Statement.{statement}
 use Rattle.desk.proofs.features.count_rows.Tie as tie
 
 abbrev Inv-loop : tie.InvT-loop
-Inv-loop k width negatives counts letters first table₀ row₀ at₀ from₀ table row at from = Running k width negatives counts letters first table₀ table row at from
+Inv-loop reading k width negatives counts letters first table₀ row₀ at₀ from₀ table row at from = Running reading k width negatives counts letters first table₀ table row at from
 
 abbrev μ-loop : tie.MeasureT-loop
-μ-loop k width negatives counts letters first table₀ row₀ at₀ from₀ table row at from = length counts - row
+μ-loop reading k width negatives counts letters first table₀ row₀ at₀ from₀ table row at from = length counts - row
 
 -- the places: the start, and the row that is counted
 abbrev start : tie.At-loop Inv-loop μ-loop → tie.Start Inv-loop μ-loop
@@ -23,11 +23,11 @@ inside c = c .before .before .before
 
 -- the row ends within the table
 fits : (c : tie.In-loop Inv-loop μ-loop) → let l = c .before .loop in let a = start (c .before) .args in
-    RowFits (a .k) (l .at) (l .at + getD (now (a .counts)) (l .row) 0) (l .from) (l .from + a .width) (now (a .letters)) (l .table)
-fits c = row-fits _ _ _ _ _ _ _ (start (c .before) .pre) _ _ _ _ (c .before .loop .inv) (c .loop-test .taken)
+    RowFits (a .reading) (a .k) (l .at) (l .at + getD (now (a .counts)) (l .row) 0) (l .from) (l .from + a .width) (now (a .letters)) (l .table)
+fits c = row-fits _ _ _ _ _ _ _ _ (start (c .before) .pre) _ _ _ _ (c .before .loop .inv) (c .loop-test .taken)
 
 loop-holds : tie.Need-loop-holds Inv-loop μ-loop
-loop-holds c = rows-start _ _ _ _ _ _ _ (c .before .before .before .pre)
+loop-holds c = rows-start _ _ _ _ _ _ _ _ (c .before .before .before .pre)
 
 mul-end : tie.Need-mul-end Inv-loop μ-loop
 mul-end c = omega arith
@@ -72,13 +72,13 @@ loop-again : tie.Need-loop-again Inv-loop μ-loop
 loop-again c =
     let w = c .before in
     let i = inside (w .before) in
-    rows-next _ _ _ _ _ _ _ (start (i .before) .pre) _ _ _ _ (i .before .loop .inv) (i .loop-test .taken) _ (w .count-row .ensures)
+    rows-next _ _ _ _ _ _ _ _ (start (i .before) .pre) _ _ _ _ (i .before .loop .inv) (i .loop-test .taken) _ (w .count-row .ensures)
 
 same-length : tie.Need-same-length Inv-loop μ-loop
 same-length c = c .before .loop .inv .kept
 
 returns : tie.Need-returns Inv-loop μ-loop
-returns c = rows-done _ _ _ _ _ _ _ (start (c .before) .pre) _ _ _ _ (c .before .loop .inv) (c .loop-test .left)
+returns c = rows-done _ _ _ _ _ _ _ _ (start (c .before) .pre) _ _ _ _ (c .before .loop .inv) (c .loop-test .left)
 
 pub count-rows-spec : {M : Type 1} → statement M
 count-rows-spec =

@@ -41,10 +41,10 @@ small c = let p = passed c in within-limits _ _ _ (p .before .limit-fault .ensur
 
 -- the rows end within the tables
 variants-room : (c : tie.After-entries) → length (now (begin c .args .counts)) * c .entries .result ≤ 4096
-variants-room c = let k = small c in variants-end _ _ (slices (begin c)) (begin c .pre) (k .0) (k .1) (c .entries .ensures)
+variants-room c = let k = small c in variants-end _ _ _ (slices (begin c)) (begin c .pre) (k .0) (k .1) (c .entries .ensures)
 
 parts-room : (c : tie.After-entries) → length (now (begin c .args .part-counts)) * c .entries .result ≤ 32768
-parts-room c = let k = small c in parts-end _ _ (slices (begin c)) (begin c .pre) (k .0) (k .1) (c .entries .ensures)
+parts-room c = let k = small c in parts-end _ _ _ (slices (begin c)) (begin c .pre) (k .0) (k .1) (c .entries .ensures)
 
 over-parts-requires : tie.Need-over-parts-requires
 over-parts-requires c κs = c .before .before .before .before .before .before .before .before .before .pre .rising
@@ -79,7 +79,7 @@ slice-aggregate-count-rows c = search needs
 count-rows-requires : tie.Need-count-rows-requires
 count-rows-requires c κs =
     let e = c .before .before .before in
-    variants-fit _ _ (slices (begin e)) (begin e .pre) (small e .0) (small e .1) (e .entries .ensures) _ (c .before .before .variant-table .ensures)
+    variants-fit _ _ _ (slices (begin e)) (begin e .pre) (small e .0) (small e .1) (e .entries .ensures) _ (c .before .before .variant-table .ensures)
 
 slice-aggregate-count-rows-2 : tie.Need-slice-aggregate-count-rows-2
 slice-aggregate-count-rows-2 c = search needs
@@ -88,7 +88,7 @@ count-rows-requires-2 : tie.Need-count-rows-requires-2
 count-rows-requires-2 c κs =
     let r = c .before .before in
     let e = wide r in
-    parts-fit _ _ (slices (begin e)) (begin e .pre) (small e .0) (small e .1) (e .entries .ensures) _ (r .before .before .part-table .ensures) _ (r .count-rows .ensures .next)
+    parts-fit _ _ _ (slices (begin e)) (begin e .pre) (small e .0) (small e .1) (e .entries .ensures) _ (r .before .before .part-table .ensures) _ (r .count-rows .ensures .next)
 
 mul-v : tie.Need-mul-v
 mul-v c = let h = variants-room (wide (counted c)) in omega arith
@@ -133,7 +133,7 @@ put-haplotypes-requires c κs =
     let d = c .before .before .before in
     let r = counted d in
     let e = wide r in
-    blocks-fit _ _ (slices (begin e)) (begin e .pre) (small e .0) (small e .1) (e .entries .ensures) _ _ (d .before .count-rows2 .ensures .kept ∙ sym (r .before .before .part-table .ensures))
+    blocks-fit _ _ _ (slices (begin e)) (begin e .pre) (small e .0) (small e .1) (e .entries .ensures) _ _ (d .before .count-rows2 .ensures .kept ∙ sym (r .before .before .part-table .ensures))
 
 same-length-2 : tie.Need-same-length-2
 same-length-2 c = search needs
@@ -144,7 +144,7 @@ returns-2 c =
     let q = done w .before in
     let r = counted (done w) in
     let e = wide r in let s = begin e in let l = passed e in let o = l .before .before in
-    let wide-is = power-is _ _ (slices s) (s .pre) (small e .0) (small e .1) (e .entries .ensures) in
+    let wide-is = power-is _ _ _ (slices s) (s .pre) (small e .0) (small e .1) (e .entries .ensures) in
     printed-as (w .put-haplotypes .ensures)
     (counted-text (s .args .s) (slices s) _ (o .over-parts .ensures) _ (l .before .limit-fault .ensures) (e .entries .result) (r .count-rows .result) (q .count-rows2 .result) _ _ _ _
     wide-is (l .if1 .left) (r .count-rows .ensures) (q .count-rows2 .ensures))

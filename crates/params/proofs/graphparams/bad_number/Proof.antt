@@ -34,11 +34,21 @@ returns-4 c =
 returns-5 : tie.Need-returns-5
 unfolding badNumber
 returns-5 c =
-    sym (or-later _ _ _ (le-ltb _ _ (c .before .before .before .before .before .before .before .if1 .left))
-    (or-later _ _ _ (le-ltb _ _ (c .before .before .before .before .before .if2 .left))
-    (or-later _ _ _ (le-ltb _ _ (c .before .before .before .if3 .left))
-    (or-later _ _ _ (le-ltb _ _ (c .before .if4 .left))
-    (refl)))))
+    sym (or-later _ _ _ (le-ltb _ _ (c .before .before .before .before .before .before .before .before .if1 .left))
+    (or-later _ _ _ (le-ltb _ _ (c .before .before .before .before .before .before .if2 .left))
+    (or-later _ _ _ (le-ltb _ _ (c .before .before .before .before .if3 .left))
+    (or-later _ _ _ (le-ltb _ _ (c .before .before .if4 .left))
+    (or-here _ _ (lt-ltb _ _ (c .if5 .taken)))))))
+
+returns-6 : tie.Need-returns-6
+unfolding badNumber
+returns-6 c =
+    sym (or-later _ _ _ (le-ltb _ _ (c .before .before .before .before .before .before .before .before .before .if1 .left))
+    (or-later _ _ _ (le-ltb _ _ (c .before .before .before .before .before .before .before .if2 .left))
+    (or-later _ _ _ (le-ltb _ _ (c .before .before .before .before .before .if3 .left))
+    (or-later _ _ _ (le-ltb _ _ (c .before .before .before .if4 .left))
+    (or-later _ _ _ (le-ltb _ _ (c .before .if5 .left))
+    (refl))))))
 
 pub bad-number-spec : {M : Type 1} → statement M
-bad-number-spec = tie.close (tie.spec returns returns-2 returns-3 returns-4 returns-5)
+bad-number-spec = tie.close (tie.spec returns returns-2 returns-3 returns-4 returns-5 returns-6)

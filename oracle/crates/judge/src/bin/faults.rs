@@ -2,15 +2,16 @@
 //! prints how many inputs it took and the smallest found that shows it: an input of the program, or a call of the library where no
 //! input can show it. A rule that no mistake misreads is a failure too.
 use judge::answer::Answer;
-use judge::call::Call;
-use judge::document::{call_answer, features, program_text, record_buffer, several_answers};
-use judge::generate::{input, several_call, several_input, small_call, PROGRAM};
+use judge::call::{counted, Call};
+use judge::document::{call_answer, checked, features, program_text, record_buffer, several_answers};
+use judge::generate::{self, input, several_call, several_input, small_call, PROGRAM};
 use judge::met::Met;
 use judge::mistakes::{Mistake, MISTAKES};
+use judge::proposal::{Checked, Proposal};
 use judge::random::Random;
 use judge::rules::{Rules, DOCUMENT};
 use judge::several::{self, Several};
-use judge::{describe, exhaust, program, rust, shrink};
+use judge::{describe, exhaust, meta, program, proposal, rust, shrink};
 use std::process::ExitCode;
 
 /// What anyone outside sees of a call: the answer, and what the second buffer holds after it.
@@ -39,18 +40,28 @@ fn several_must_be(several: &Several) -> several::Seen {
     several.seen(&DOCUMENT, &answers)
 }
 
-/// The first short sequence that a mistaken counter counts otherwise than the Rust, and the first sizes likewise.
-fn smaller_calls(rules: &Rules) -> Option<String> {
-    let sequences = (1..=3u32).flat_map(|n| (0..5u32.pow(n)).map(move |code| (n, code)));
+/// The first short sequence that a mistaken counter counts otherwise than the Rust, or with letters 1 than the second program.
+fn counted_otherwise(rules: &Rules) -> Option<String> {
+    const BYTES: &[u8; 8] = b"ACGTNan-";
+    let sequences = (1..=3u32).flat_map(|n| (0..8u32.pow(n)).map(move |code| (n, code)));
     for (n, code) in sequences {
-        let letters: Vec<u8> = (0..n).map(|i| b"ACGTN"[(code / 5u32.pow(i) % 5) as usize]).collect();
-        for k in 1..=2u8 {
-            let rust = rust::features(k, &letters, false);
-            let would = features(rules, k, &letters, false);
-            if would != rust {
-                return Some(format!("counting {} at k {k} must be {rust:?}, would be {would:?}", letters.escape_ascii()));
+        let text: Vec<u8> = (0..n).map(|i| BYTES[(code / 8u32.pow(i) % 8) as usize]).collect();
+        for (k, letters) in [(1, 0), (2, 0), (1, 1), (2, 1)] {
+            let must = counted(letters, k, &text, false);
+            let would = features(rules, letters, k, &text, false);
+            if would != must {
+                return Some(format!("counting {} at k {k} with letters {letters} must be {must:?}, would be {would:?}", text.escape_ascii()));
             }
         }
+    }
+    None
+}
+
+/// That, or the first sizes and a haplotype's data likewise.
+fn smaller_calls(rules: &Rules) -> Option<String> {
+    let shown = counted_otherwise(rules);
+    if shown.is_some() {
+        return shown;
     }
     for a in 0..6 {
         for b in 0..6 {
@@ -61,7 +72,16 @@ fn smaller_calls(rules: &Rules) -> Option<String> {
             }
         }
     }
-    None
+    calls_of_data(rules)
+}
+
+/// The first drawn call of a haplotype's data that goes otherwise than the Rust goes, or where that cannot be asked, the document.
+fn calls_of_data(rules: &Rules) -> Option<String> {
+    (0..10_000).find_map(|seed| {
+        let asked = meta::asked(&mut Random::new(seed));
+        let (must, would) = (asked.by_the_rust().map_or_else(|| asked.said(&DOCUMENT), |words| (0, words)), asked.said(rules));
+        (must != would).then(|| format!("{asked:?} must be {must:?}, would be {would:?}"))
+    })
 }
 
 /// What is put to each mistake, behind what the judge says of it.
@@ -69,6 +89,15 @@ struct Asked {
     inputs: Vec<(String, Vec<u8>)>,
     calls: Vec<(Seen, Call)>,
     several: Vec<(several::Seen, Several)>,
+    proposals: Vec<(Checked, Call, Proposal)>,
+}
+
+/// A call and a path proposed for it, behind the judge's answer.
+fn proposed(seed: u64) -> (Checked, Call, Proposal) {
+    let mut r = Random::new(seed);
+    let call = generate::proposed_call(&mut r, false);
+    let one = generate::proposal(&mut r, &call, &rust::judged(&call).answer);
+    (proposal::judged(&call, &one), call, one)
 }
 
 impl Asked {
@@ -82,6 +111,7 @@ impl Asked {
             inputs: inputs.into_iter().map(|bytes| (program::text(&bytes), bytes)).collect(),
             calls: calls.map(|call| (must_be(&call), call)).collect(),
             several: several.map(|several| (several_must_be(&several), several)).collect(),
+            proposals: (0..count / 2).map(proposed).collect(),
         }
     }
 
@@ -101,6 +131,17 @@ impl Asked {
     fn by_several(&self, rules: &Rules) -> Vec<usize> {
         let differs = |&at: &usize| seen_of_several(rules, &self.several[at].1) != self.several[at].0;
         (0..self.several.len()).filter(differs).collect()
+    }
+}
+
+impl Asked {
+    /// Those of the paths proposed.
+    fn by_proposals(&self, rules: &Rules) -> Vec<usize> {
+        let differs = |&at: &usize| {
+            let (must, call, one) = &self.proposals[at];
+            checked(rules, call, one) != *must
+        };
+        (0..self.proposals.len()).filter(differs).collect()
     }
 }
 
@@ -137,6 +178,14 @@ fn tell_several(rules: &Rules, asked: &Asked, found: &[usize]) {
     println!("    would be {:?}", seen_of_several(rules, &small));
 }
 
+fn tell_proposal(rules: &Rules, asked: &Asked, found: &[usize]) {
+    let length = |at: &&usize| describe::call(&asked.proposals[**at].1).len();
+    let (must, call, one) = &asked.proposals[*found.iter().min_by_key(length).expect("some proposal shows it")];
+    println!("    {} for {}", describe::proposal(one), describe::call(call));
+    println!("    must be  {must:?}");
+    println!("    would be {:?}", checked(rules, call, one));
+}
+
 /// Whether it is caught, and by what.
 fn is_caught(words: &str, rules: &Rules, asked: &Asked) -> bool {
     let found = asked.by_inputs(rules);
@@ -157,6 +206,12 @@ fn is_caught(words: &str, rules: &Rules, asked: &Asked) -> bool {
         tell_several(rules, asked, &found);
         return true;
     }
+    let found = asked.by_proposals(rules);
+    if let Some(first) = found.first() {
+        println!("caught {words}: first at proposed path {}, {} of {}", first + 1, found.len(), asked.proposals.len());
+        tell_proposal(rules, asked, &found);
+        return true;
+    }
     let shown = smaller_calls(rules);
     match &shown {
         Some(shown) => println!("caught {words}: by a smaller call; no answer can show it\n    {shown}"),
@@ -171,15 +226,17 @@ fn main() -> ExitCode {
     let input = asked.by_inputs(&DOCUMENT).first().map(|&at| describe::bytes(&asked.inputs[at].1));
     let call = asked.by_calls(&DOCUMENT).first().map(|&at| describe::call(&asked.calls[at].1));
     let several = asked.by_several(&DOCUMENT).first().map(|&at| describe::several(&asked.several[at].1));
-    if let Some(words) = input.or(call).or(several) {
+    let path = asked.by_proposals(&DOCUMENT).first().map(|&at| describe::proposal(&asked.proposals[at].2));
+    if let Some(words) = input.or(call).or(several).or(path).or(smaller_calls(&DOCUMENT)) {
         println!("with nothing planted: {words}");
         return ExitCode::FAILURE;
     }
     println!(
-        "nothing planted: {} inputs, {} library calls and {} for several haplotypes, no difference",
+        "nothing planted: {} inputs, {} library calls, {} for several haplotypes and {} proposed paths, no difference",
         asked.inputs.len(),
         asked.calls.len(),
-        asked.several.len()
+        asked.several.len(),
+        asked.proposals.len()
     );
     let unplanted: Vec<&str> = Rules::NAMES.iter().copied().filter(|&rule| MISTAKES.iter().all(|mistake| mistake.rule != rule)).collect();
     if !unplanted.is_empty() {

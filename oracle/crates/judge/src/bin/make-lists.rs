@@ -33,6 +33,7 @@ fn plain() -> Settings {
         fnmax: 1,
         pileupmax: 5,
         minkfreq: 1,
+        letters: 0,
         sizesim: 0.5,
         seqsim: 0.5,
         fpenalty: 0.0,

@@ -1,9 +1,9 @@
 //! The differential run: generated jobs put to the program and to the linked library, and every answer compared with
-//! the judge's. `run [--short] [--no-program] [--no-library] [--seed N] [--inputs N] [--calls N] [--every N]`; `--every`
-//! takes each N-th of the jobs that are made exhaustively
+//! the judge's; and texts put to the library's counter in both readings of letters. `run [--short] [--no-program] [--no-library] [--seed N]
+//! [--inputs N] [--calls N] [--every N]`; `--every` takes each N-th of the jobs that are made exhaustively
 use judge::answer::{self, Answer};
 use judge::call::Call;
-use judge::document::{call_answer, program_answers, record_buffer, several_answers};
+use judge::document::{call_answer, checked, program_answers, record_buffer, several_answers};
 use judge::generate;
 use judge::job;
 use judge::kinds::{self, Counts};
@@ -12,7 +12,7 @@ use judge::random::Random;
 use judge::rules::DOCUMENT;
 use judge::rust::Judged;
 use judge::several::Several;
-use judge::{describe, exhaust, library, program, rust, shrink};
+use judge::{describe, exhaust, library, program, proposal, rust, shrink};
 use std::io::{self, Read, Write};
 use std::process::{Command, ExitCode, Stdio};
 use std::sync::atomic::{AtomicU64, Ordering};
@@ -26,6 +26,9 @@ struct Options {
     inputs: u64,
     calls: u64,
     exhaust_step: usize,
+    /// the longest of the texts of which all are counted, and how many long ones are drawn
+    short_texts: u32,
+    long_texts: u64,
 }
 
 fn options() -> Options {
@@ -36,6 +39,8 @@ fn options() -> Options {
         inputs: 100_000,
         calls: 5_000,
         exhaust_step: 1,
+        short_texts: 7,
+        long_texts: 3_000,
     };
     let mut words = std::env::args().skip(1);
     let mut short = false;
@@ -54,6 +59,7 @@ fn options() -> Options {
     }
     if short {
         (o.inputs, o.calls, o.exhaust_step) = (o.inputs.min(15_000), o.calls.min(800), o.exhaust_step.max(11));
+        (o.short_texts, o.long_texts) = (5, 100);
     }
     o
 }
@@ -128,6 +134,7 @@ fn compare_call(tally: &mut Tally, call: &Call, o: &Options) {
     kinds::of_judged(&mut tally.counts, call, &judged, &met);
     kinds::of_numbers(&mut tally.counts, call, &judged.answer);
     kinds::of_blank_rows(&mut tally.counts, call, &judged.answer);
+    kinds::of_reading(&mut tally.counts, call, &judged.answer);
     if second != judged.answer {
         tally.differ(|| format!("the second reading says {second:?} of {}", describe::call(call)));
     }
@@ -136,6 +143,39 @@ fn compare_call(tally: &mut Tally, call: &Call, o: &Options) {
         if let Err(words) = library_says(call, &judged.answer) {
             tally.differ(|| format!("{words}\n  of {}", describe::call(call)));
         }
+    }
+}
+
+/// Our own answer with the list that won, which must be a yes, or something near it; by the judge, the second reading and the library.
+fn compare_proposal(tally: &mut Tally, call: &Call, r: &mut Random, o: &Options) {
+    let answer = rust::judged(call).answer;
+    let ours = answer.refusal == 0 && call.searches(&DOCUMENT) && f32::from_bits(answer.score) > 0.0;
+    let mut proposals = vec![generate::proposal(r, call, &answer)];
+    if ours {
+        proposals.extend(proposal::own(call, &answer.rows, answer.score));
+    }
+    for (at, one) in proposals.iter().enumerate() {
+        let must = if at == 1 { (0, true) } else { proposal::judged(call, one) };
+        let kind = match must {
+            (0, true) if at == 1 => "our own answer".to_string(),
+            (0, yes) => if yes { "yes" } else { "no" }.to_string(),
+            (number, _) => format!("refusal {number}"),
+        };
+        kinds::add(&mut tally.counts, format!("proposal: {kind}"));
+        let second = checked(&DOCUMENT, call, one);
+        if second != must || proposal::judged(call, one) != must {
+            tally.differ(|| format!("the second reading says {second:?}, the judge {must:?} of {} for {}", describe::proposal(one), describe::call(call)));
+        }
+        if o.library {
+            tally.compared += 1;
+            let said = library::check_path(call, one);
+            if said != Ok(must) {
+                tally.differ(|| format!("must be {must:?}, is {said:?}\n  of {} for {}", describe::proposal(one), describe::call(call)));
+            }
+        }
+    }
+    if ours && proposals.len() < 2 {
+        tally.differ(|| format!("no list gives the score of {answer:?} for {}", describe::call(call)));
     }
 }
 
@@ -223,6 +263,50 @@ fn work(upto: u64, one: impl Fn(&mut Tally, u64) + Sync) -> Tally {
     all.into_inner().unwrap()
 }
 
+/// A text at these k and both signs, in both readings.
+fn compare_counts(tally: &mut Tally, text: &[u8], ks: impl Iterator<Item = u8>) {
+    for (k, negative) in ks.flat_map(|k| [(k, false), (k, true)]) {
+        tally.compared += 1;
+        if let Err(words) = library::counts_alike(text, k, negative, &mut tally.counts) {
+            tally.differ(|| words);
+        }
+    }
+}
+
+/// All texts over these bytes, by their number: those of one letter behind the empty one, and so on.
+fn text_of(number: u64) -> Vec<u8> {
+    const BYTES: &[u8; 7] = b"ACGTNn-";
+    let (mut code, mut text) = (number, vec![]);
+    while code > 0 {
+        code -= 1;
+        text.push(BYTES[(code % 7) as usize]);
+        code /= 7;
+    }
+    text
+}
+
+fn all_texts(o: &Options) -> Tally {
+    let count = (7u64.pow(o.short_texts + 1) - 1) / 6;
+    let texts = work(if o.library { count } else { 0 }, |tally, i| compare_counts(tally, &text_of(i), 1..=3));
+    report(&format!("texts of up to {} letters over A C G T N n -, in both readings", o.short_texts), count, &texts);
+    texts
+}
+
+fn drawn_texts(o: &Options) -> Tally {
+    let texts = work(if o.library { o.long_texts } else { 0 }, |tally, i| {
+        let r = &mut seeded(o, 6, i);
+        let length = match r.below(10) {
+            0 => 131_072,
+            1..=4 => r.below(131_073),
+            _ => r.below(2_000),
+        };
+        let (text, k) = (generate::text(r, length as usize), 1 + r.below(6) as u8);
+        compare_counts(tally, &text, [k].into_iter());
+    });
+    report("texts of up to 131,072 letters, in both readings", o.long_texts, &texts);
+    texts
+}
+
 fn report(name: &str, jobs: u64, tally: &Tally) {
     println!("{name}: {jobs} jobs, {} compared, {} differences", tally.compared, tally.differences);
     for (kind, count) in &tally.counts {
@@ -268,15 +352,24 @@ fn main() -> ExitCode {
         }
     });
     report("smaller calls of the library", smaller.compared, &smaller);
-    let all = [&all_short, &inputs, &several_inputs, &calls, &several_calls, &smaller];
+    let (texts, long_texts) = (all_texts(&o), drawn_texts(&o));
+    let proposals = work(2 * o.calls, |tally, i| {
+        let mut r = seeded(&o, 6, i);
+        let call = generate::proposed_call(&mut r, i % 5 == 0);
+        compare_proposal(tally, &call, &mut r, &o);
+    });
+    report("proposed paths", 2 * o.calls, &proposals);
+    let all = [&all_short, &inputs, &several_inputs, &calls, &several_calls, &smaller, &texts, &long_texts, &proposals];
     let differences: u64 = all.iter().map(|tally| tally.differences).sum();
     println!(
-        "compared {} program-size and {} library-size jobs, {} and {} with several haplotypes, and {} smaller calls: {}",
+        "compared {} program-size and {} library-size jobs, {} and {} with several haplotypes, {} smaller calls, {} counts in both readings and {} proposed paths: {}",
         all_short.compared + inputs.compared,
         calls.compared,
         several_inputs.compared,
         several_calls.compared,
         smaller.compared,
+        texts.compared + long_texts.compared,
+        proposals.compared,
         if differences == 0 { "no difference off the list".to_string() } else { format!("{differences} differences") }
     );
     ExitCode::from((differences > 0) as u8)

@@ -1,0 +1,5 @@
+-- Laws that several proofs cite.
+pub mod RecordLaws
+pub mod FaultLaws
+pub mod SavedLaws
+pub mod KeptLaws

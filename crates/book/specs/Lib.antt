@@ -1,0 +1,4 @@
+pub mod Book
+pub mod Changes
+pub mod Kept
+pub mod Promises

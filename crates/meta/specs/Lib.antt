@@ -1,0 +1,4 @@
+pub mod Meta
+pub mod Words
+pub mod Grouping
+pub mod Promises
