@@ -48,15 +48,15 @@ module _ (book : List ℕ) (at version : ℕ) where
 
 -- ---- a book that keeps the rules
 module _ (book : List ℕ) (sound : broken book ≡ false) where
-  parts : (anyBelow (versionsOf book) (badVersion book) ≡ false) × (not (allZero (drop (placeOf (versionsOf book)) book)) ≡ false)
+  rules-kept : (anyBelow (versionsOf book) (badVersion book) ≡ false) × (not (allZero (drop (placeOf (versionsOf book)) book)) ≡ false)
   unfolding broken
-  parts = or-no _ _ sound
+  rules-kept = or-no _ _ sound
 
   pub good-at : (i : ℕ) → i < versionsOf book → Good book (placeOf i) (i + 1)
-  good-at i h = good-told book (placeOf i) (i + 1) (not-false _ (any-where (badVersion book) (versionsOf book) (parts .0) i h))
+  good-at i h = good-told book (placeOf i) (i + 1) (not-false _ (any-where (badVersion book) (versionsOf book) (rules-kept .0) i h))
 
   pub zeros-behind : allZero (drop (placeOf (versionsOf book)) book) ≡ true
-  zeros-behind = not-false _ (parts .1)
+  zeros-behind = not-false _ (rules-kept .1)
 
 -- ---- reading: 48, 45
 module _ (book : List ℕ) (v : ℕ) where
@@ -184,9 +184,9 @@ laid-record book settings line n l is e =
     let long : length line ≡ 43 = ap length e ∙ ap (λ (m : ℕ). suc (suc m)) l in
     rw (long, e, is)
 
-pub line-room : (book settings line : List ℕ) (n : ℕ) → length settings ≡ 41 → n ≡ versionsOf book → line ≡ recordOf (n + 1) settings → Ready book
+pub line-room : (book settings line : List ℕ) (n version : ℕ) → length settings ≡ 41 → n ≡ versionsOf book → line ≡ recordOf version settings → Ready book
     → 43 * n + length line ≤ length book
-line-room book settings line n l is e r =
+line-room book settings line n version l is e r =
     let long : length line ≡ 43 = ap length e ∙ ap (λ (m : ℕ). suc (suc m)) l in
     let room = r .room in omega arith
 

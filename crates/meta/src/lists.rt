@@ -5,60 +5,15 @@ use crate::blank;
 use crate::both_as_one;
 use crate::checks::combine_fault;
 use crate::checks::count_fault;
+use crate::words::meta_of_slice;
 use metrics::refusals::ACCEPTED;
 use metrics::refusals::BAD_LENGTHS;
 use metrics::refusals::BAD_SAMPLES;
 ghost use mathlib.Core.Path.{_≡_};
 ghost use Prim.Native.Nat.{_<_};
-ghost use lib.ListN.{length};
 ghost use Rattle.meta.specs.Meta.{blankOf, countFault, madeUnless};
-ghost use Rattle.meta.specs.Words.{metaOfWords};
 ghost use Rattle.meta.specs.Grouping.{nextUnless};
 ghost use Rattle.meta.specs.Promises.{CombineAllPromise};
-
-fn meta_of_slice(words: &[u64]) -> HaplotypeMeta
-    requires { ⌜ length (now words) ≡ 28 ⌝ }
-    ensures { λ r. ⌜ r ≡ metaOfWords (now (words .entry)) ⌝ }
-{
-    let coverage = [
-        words[3],
-        words[4],
-        words[5],
-        words[6],
-        words[7],
-        words[8],
-        words[9],
-        words[10],
-    ];
-    let ps = [
-        words[11],
-        words[12],
-        words[13],
-        words[14],
-        words[15],
-        words[16],
-        words[17],
-        words[18],
-    ];
-    let hp = [
-        words[19],
-        words[20],
-        words[21],
-        words[22],
-        words[23],
-        words[24],
-        words[25],
-        words[26],
-    ];
-    HaplotypeMeta {
-        id: words[0],
-        samples: words[1],
-        samples_flag: words[2],
-        coverage,
-        ps,
-        hp,
-    }
-}
 
 // A refusal, and a blank of one sample.
 fn none_made(refusal: u32) -> Made

@@ -1,10 +1,14 @@
 // The data as 28 words for C and for lists of data: id, samples, flags, 8 coverages, 8 phase sets, 8 tags, and a 0.
 use crate::HaplotypeMeta;
+ghost use mathlib.Core.Path.{_≡_};
+ghost use lib.ListN.{length};
+ghost use Rattle.meta.specs.Words.{metaOfWords};
 ghost use Rattle.meta.specs.Promises.{MetaOfWordsPromise, WordsOfMetaPromise};
 
 // The last word is not looked at.
-pub fn meta_of_words(words: &[u64; 28]) -> HaplotypeMeta
-    ensures { λ r. ⌜ MetaOfWordsPromise (now (words .entry)) r ⌝ }
+pub(crate) fn meta_of_slice(words: &[u64]) -> HaplotypeMeta
+    requires { ⌜ length (now words) ≡ 28 ⌝ }
+    ensures { λ r. ⌜ r ≡ metaOfWords (now (words .entry)) ⌝ }
 {
     let coverage = [
         words[3],
@@ -44,6 +48,12 @@ pub fn meta_of_words(words: &[u64; 28]) -> HaplotypeMeta
         ps,
         hp,
     }
+}
+
+pub fn meta_of_words(words: &[u64; 28]) -> HaplotypeMeta
+    ensures { λ r. ⌜ MetaOfWordsPromise (now (words .entry)) r ⌝ }
+{
+    meta_of_slice(words)
 }
 
 pub fn words_of_meta(meta: HaplotypeMeta) -> [u64; 28]

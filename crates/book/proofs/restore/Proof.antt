@@ -67,7 +67,7 @@ slice-aggregate-lay c = search needs
 lay-requires : tie.Need-lay-requires
 lay-requires c κs =
     let v = c .before .before .before .before .before in
-    line-room _ _ _ _ (slice-long _ _ (there v .whole)) (v .versions .ensures .0) (c .before .before .record-of .ensures) (room v)
+    line-room _ _ _ _ _ (slice-long _ _ (there v .whole)) (v .versions .ensures .0) (c .before .before .record-of .ensures) (room v)
 
 add-t13 : tie.Need-add-t13
 add-t13 c = search needs

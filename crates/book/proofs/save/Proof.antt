@@ -43,7 +43,7 @@ slice-aggregate-lay c = search needs
 lay-requires : tie.Need-lay-requires
 lay-requires c κs =
     let v = c .before .before .before .before in
-    line-room _ _ _ _ (search needs) (v .versions .ensures .0) (c .before .before .record-of .ensures) (room v)
+    line-room _ _ _ _ _ (search needs) (v .versions .ensures .0) (c .before .before .record-of .ensures) (room v)
 
 add-t12 : tie.Need-add-t12
 add-t12 c = search needs
