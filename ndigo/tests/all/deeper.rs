@@ -96,6 +96,27 @@ fn the_check_says_no() {
     assert!(says(&whole, &[1, 2], &[0, 1], 1.0) && !says(&whole, &[2], &[0], 0.9));
 }
 
+#[test]
+fn a_refusal_is_a_no() {
+    let says = |start: u32| {
+        let sheet = of(&format!("{HEADINGS}A\t{start}\t14\t5\tCCCCC\n\npart\tsize\tletters\nP\t5\tCCCCC\n"));
+        Check::of(&sheet).unwrap().says_yes(&Proposal { rows: vec![0], positions: vec![0], score: 1.0 })
+    };
+    assert!(says(14) && !says(15));
+}
+
+/// The windows of N are the row's alone: read as A they are too many, not read they are none.
+#[test]
+fn letters_are_read_as_the_sheet_says() {
+    for (letters, wanted) in [(0, None), (1, Some(1.0))] {
+        let sheet = of(&format!("{HEADINGS}A\t10\t10\t5\tCCCCCNNNNNNNN\n\npart\tsize\tletters\nP\t5\tCCCCC\nsetting\tvalue\nmaxpaths\t0\nletters\t{letters}\n"));
+        let proposal = Proposal { rows: vec![0], positions: vec![0], score: 1.0 };
+        assert_eq!(Check::of(&sheet).unwrap().says_yes(&proposal), wanted.is_some(), "letters {letters}");
+        let Outcome::Looked(looked) = look(&sheet, &answered(&sheet), LONG, &mut |_| {}) else { panic!("nothing to look for") };
+        assert_eq!((looked.better.map(|better| better.answer.score), looked.ended), (wanted, Ended::RuledOut), "letters {letters}");
+    }
+}
+
 /// Stopped at once, the look finds what the search finds when it scores all paths: the same score, bit for bit.
 #[test]
 fn it_comes_to_what_all_paths_come_to() {
