@@ -12,7 +12,7 @@ use Rattle.params.specs.Several.{haplotypes}
 use Rattle.params.specs.declared.Settings.{Settings}
 use Rattle.params.proofs.CheckLaws.{k-high}
 use Rattle.kplib.specs.Answer.{foundAfter}
-use Rattle.kplib.specs.Proposal.{Proposal, proposalFault, checkOf}
+use Rattle.kplib.specs.Proposal.{Proposal, proposalFault, checkOf, isGood, checkCase}
 use Rattle.kplib.specs.declared.checkpath.PathCheck.the-variants.{Refused}
 use Rattle.kplib.specs.Haplotypes.{laid, answeredAfter}
 use Rattle.dive.specs.Numbered.{Numbered, numberedFault, numberedAnswer, numberedRows, recordsAt, recordsOf, numberedSearches}
