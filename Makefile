@@ -58,7 +58,7 @@ wrong:
 # What is run, one after the other, since two rt in one folder mix their logs. One archive serves all that link it.
 runs:
 	tools/run-examples
-	set -e; ARCHIVE_MADE=$$(tools/library); export ARCHIVE_MADE; NDIGO_NEEDS_PROGRAM=1 SHEET_WRITER=target/bin/copy_job ndigo/test; oracle/run --short; bindings/test; oracle/bed/check; ndigo/build; bindings/test-install; workflow/test
+	set -e; ARCHIVE_MADE=$$(tools/library); export ARCHIVE_MADE; NDIGO_NEEDS_PROGRAM=1 SHEET_WRITER=target/bin/copy_job ndigo/test; ndigo/deeper/test; oracle/run --short; bindings/test; oracle/bed/check; ndigo/build; bindings/test-install; workflow/test
 
 # What stands on one line runs at the same time. rt ci stands last: its last line, 'N passed, 0 failed', is the gate's. It proves all from nothing, so what runs before it builds for itself.
 test:

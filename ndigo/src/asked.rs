@@ -3,6 +3,7 @@ use crate::answer;
 use crate::book::Version;
 use crate::check::Checked;
 use crate::commands::Form;
+use crate::deeper;
 use crate::draw;
 use crate::fault::Failure;
 use crate::job;
@@ -13,7 +14,10 @@ use crate::search::{self, Own};
 use crate::sheet;
 use crate::warnings;
 use crate::work::{shown_name, Told};
-use ndigomarr::{Bed, Target};
+use ::deeper::Step;
+use indicatif::ProgressBar;
+use ndigomarr::{Answer, Bed, Target};
+use std::time::Duration;
 
 /// How a sheet is read: its rows sorted by start, and a version's settings in place of its own.
 #[derive(Clone, Copy, Default)]
@@ -89,6 +93,22 @@ pub fn answer(file: &str, data: &[u8], how: How<'_>, form: Form) -> Result<Told,
         out.extend(if form.json { answer::document(file, own, answer).into_bytes() } else { table_line(&answer::table_row(file, own, answer)) });
     }
     Ok(Told { out, remarks, status })
+}
+
+/// The proved answer and, below it, what a longer look came to.
+pub fn deeper(file: &str, data: &[u8], how: How<'_>, time: Duration, bar: &ProgressBar) -> Result<Told, Failure> {
+    let (sheet, notes) = read(data, how)?;
+    let answers = search::answers(&sheet);
+    let look = |own: &Sheet, answer: &Answer| {
+        let of = own.haplotype().map_or(String::new(), |name| format!(", haplotype {name}"));
+        let mut shown = |step: Step| bar.set_message(format!("; {}{of}: {}", shown_name(file), deeper::progress(step)));
+        deeper::below(own, &deeper::look(own, answer, time, &mut shown))
+    };
+    let text = match &answers {
+        Ok(answers) => answer::text_with(&sheet, answers, &notes, look),
+        Err(reasons) => answer::refused(&sheet, reasons, &notes),
+    };
+    Ok(Told::text(status_of(&answers), text))
 }
 
 /// 1 where the sheet or any of its haplotypes is refused.

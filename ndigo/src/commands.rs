@@ -3,6 +3,7 @@ use crate::model::SETTINGS;
 use clap::{Args, CommandFactory, FromArgMatches, Parser, Subcommand};
 use clap_complete::Shell;
 use std::path::PathBuf;
+use std::time::Duration;
 
 #[derive(Debug, Parser)]
 #[command(name = "ndigo", version, about = "Which variants of a station sheet, taken together, explain the parts of a haplotype")]
@@ -56,7 +57,15 @@ pub enum Command {
         #[command(flatten)]
         into: Into,
     },
+    /// The best path, and a longer look for a better one, by a search that is not proved; what it finds is put to a check that is
+    Deeper {
+        #[command(flatten)]
+        sheets: Sheets,
+        #[command(flatten)]
+        time: Time,
+    },
     /// Many sheets or jobs into one table: a line a haplotype, on all cores; stopped and started again it does what is missing
+    #[command(mut_arg("seconds", |seconds| seconds.requires("deeper")))]
     Batch {
         /// Sheets, jobs, or files of jobs one behind the other; - is standard input
         #[arg(required_unless_present = "list", value_name = "FILE")]
@@ -73,6 +82,11 @@ pub enum Command {
         /// Sort the variants of each sheet or job by start first
         #[arg(long)]
         sort: bool,
+        /// Where a search stopped early look for a better path, as `ndigo deeper` does
+        #[arg(long)]
+        deeper: bool,
+        #[command(flatten)]
+        time: Time,
     },
     /// The sheet as job bytes, the form that the program ndigomarr reads
     Job {
@@ -151,6 +165,19 @@ pub struct Form {
     /// One JSON object on a line for each sheet; warnings go to standard error, and a sheet with faults gets no object
     #[arg(long)]
     pub json: bool,
+}
+
+#[derive(Clone, Copy, Debug, Args)]
+pub struct Time {
+    /// How long the deeper search may look, for each haplotype
+    #[arg(long, value_name = "SECONDS", default_value = "1", value_parser = seconds)]
+    pub seconds: Duration,
+}
+
+/// A time to look: above 0, and a day at most.
+fn seconds(text: &str) -> Result<Duration, String> {
+    let seconds = text.parse().ok().filter(|seconds| *seconds > 0.0 && *seconds <= 86_400.0);
+    seconds.map(Duration::from_secs_f64).ok_or_else(|| "write a number of seconds above 0 and up to 86400, such as 0.5 or 60".into())
 }
 
 #[derive(Debug, Args)]

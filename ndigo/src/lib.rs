@@ -5,6 +5,7 @@ pub mod batch;
 pub mod book;
 pub mod check;
 pub mod commands;
+pub mod deeper;
 pub mod draw;
 pub mod fault;
 pub mod float;

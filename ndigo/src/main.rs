@@ -1,10 +1,11 @@
 //! ndigo's command line. Statuses: 0 done, 1 refused by the rules or a no, 2 cannot be read, 3 cannot be written.
+use indicatif::ProgressBar;
 use ndigo::asked::{self, table_line, How};
 use ndigo::book::{self, Version};
 use ndigo::commands::{grammar, parsed, Cli, Command, Form, Sheets};
 use ndigo::fault::Failure;
 use ndigo::proposal::Written;
-use ndigo::work::{put_all, run, say, Sink, Told};
+use ndigo::work::{put_all, run, run_shown, say, Sink, Told};
 use ndigo::{answer, batch, check};
 use std::process::ExitCode;
 
@@ -15,6 +16,11 @@ fn output(form: Form, headings: &[&str]) -> Sink {
 
 /// The work over the sheets, each read as is asked for. A version is looked for once, before the first of them.
 fn over(sheets: &Sheets, sink: &Sink, work: impl Fn(&str, &[u8], How<'_>) -> Result<Told, Failure> + Sync) -> u8 {
+    over_shown(sheets, sink, |file, data, how, _| work(file, data, how))
+}
+
+/// The same for work that shows by itself how far it is.
+fn over_shown(sheets: &Sheets, sink: &Sink, work: impl Fn(&str, &[u8], How<'_>, &ProgressBar) -> Result<Told, Failure> + Sync) -> u8 {
     let version = match sheets.settings.as_deref().map(Version::asked).transpose() {
         Ok(version) => version,
         Err(failure) => {
@@ -23,7 +29,7 @@ fn over(sheets: &Sheets, sink: &Sink, work: impl Fn(&str, &[u8], How<'_>) -> Res
         }
     };
     let how = How { sort: sheets.sort, version: version.as_ref() };
-    run(&sheets.files, sink, |file, data| work(file, data, how).unwrap_or_else(Told::from))
+    run_shown(&sheets.files, sink, |file, data, bar| work(file, data, how, bar).unwrap_or_else(Told::from))
 }
 
 fn status(cli: Cli) -> u8 {
@@ -41,7 +47,13 @@ fn status(cli: Cli) -> u8 {
             let sink = Sink::Files { folder: into.into, ending: "svg" };
             over(&sheets, &sink, |file, data, how| asked::draw(file, data, how, rows.as_deref()))
         }
-        Command::Batch { files, list, out, jobs, sort } => batch::run(&batch::Asked { files, list, out, jobs: jobs.map(usize::from), sort }),
+        Command::Deeper { sheets, time } => over_shown(&sheets, &Sink::Output { first: vec![], titled: true }, |file, data, how, bar| {
+            asked::deeper(file, data, how, time.seconds, bar)
+        }),
+        Command::Batch { files, list, out, jobs, sort, deeper, time } => {
+            let deeper = deeper.then_some(time.seconds);
+            batch::run(&batch::Asked { files, list, out, jobs: jobs.map(usize::from), sort, deeper })
+        }
         Command::Job { sheets, into } => {
             let sink = Sink::Files { folder: into.into, ending: "job" };
             over(&sheets, &sink, |_, data, how| asked::job(data, how))

@@ -13,7 +13,7 @@ fn seen(row: usize, sequence: &Sequence) -> bool {
     row < ENOUGH || sequence.letters.len() > LETTERS_LIMIT
 }
 
-fn table(sheet: &Sheet, settings: &Settings) -> Result<Table, ndigomarr::Refusal> {
+pub fn table(sheet: &Sheet, settings: &Settings) -> Result<Table, ndigomarr::Refusal> {
     let mut table = settings.table();
     for (_, variant) in sheet.variants.iter().enumerate().filter(|(row, variant)| seen(*row, &variant.sequence)) {
         let sequence = &variant.sequence;
@@ -23,7 +23,7 @@ fn table(sheet: &Sheet, settings: &Settings) -> Result<Table, ndigomarr::Refusal
     Ok(table.with_record_numbers(&numbers))
 }
 
-fn haplotype(parts: &[Sequence], settings: &Settings) -> Result<Haplotype, ndigomarr::Refusal> {
+pub fn haplotype(parts: &[Sequence], settings: &Settings) -> Result<Haplotype, ndigomarr::Refusal> {
     let mut haplotype = settings.haplotype();
     for (_, part) in parts.iter().enumerate().filter(|(row, part)| seen(*row, part)) {
         haplotype.add(part.size, &part.letters, part.negative)?;
@@ -127,7 +127,7 @@ pub fn foretold(sheet: &Sheet) -> Foretold {
 }
 
 /// Size and features, by the library's own counter.
-fn counted(sequence: &Sequence, settings: &Settings) -> Option<(i64, Vec<i32>)> {
+pub fn counted(sequence: &Sequence, settings: &Settings) -> Option<(i64, Vec<i32>)> {
     Some((i64::from(sequence.size), ndigomarr::seq_to_kmer(&sequence.letters, settings.k, sequence.negative, settings.letters).ok()?))
 }
 

@@ -144,11 +144,15 @@ pub fn watched<T>(count: usize, template: &str, work: impl FnOnce(&ProgressBar) 
 
 /// Runs the work over the files and gives the worst status. Where writing fails, nothing more is written.
 pub fn run(files: &[String], sink: &Sink, work: impl Fn(&str, &[u8]) -> Told + Sync) -> u8 {
+    run_shown(files, sink, |file, data, _| work(file, data))
+}
+
+/// The same for work that shows by itself how far it is, as the bar's message.
+pub fn run_shown(files: &[String], sink: &Sink, work: impl Fn(&str, &[u8], &ProgressBar) -> Told + Sync) -> u8 {
     if let Some(words) = objection(files, sink) {
         say(&format!("ndigo: {words}"));
         return 2;
     }
-    let one = |file: &String| read(file).map_or_else(Told::from, |data| work(file, &data));
     let first = match sink {
         Sink::Output { first, .. } => put_all(first),
         Sink::Files { .. } => 0,
@@ -156,7 +160,8 @@ pub fn run(files: &[String], sink: &Sink, work: impl Fn(&str, &[u8]) -> Told + S
     if first > 0 {
         return first;
     }
-    watched(files.len(), "{spinner} {pos} of {len} files, {elapsed}", |bar| {
+    watched(files.len(), "{spinner} {pos} of {len} files, {elapsed}{msg}", |bar| {
+        let one = |file: &String| read(file).map_or_else(Told::from, |data| work(file, &data, bar));
         let mut status = 0;
         for some in files.chunks(AT_ONCE) {
             let each = |file: &String| { let told = one(file); bar.inc(1); told };

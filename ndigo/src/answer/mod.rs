@@ -4,7 +4,7 @@ mod text;
 mod tsv;
 
 pub use json::document;
-pub use text::{refused, text, why};
+pub use text::{decimal, parts_words_of, path_lines, printed, refused, text, text_with, titled, why, Lines};
 pub use tsv::{listed_names, parted_by_commas, table_headings, table_row};
 
 use ndigomarr::{Answer, Target};

@@ -6,7 +6,7 @@ use crate::search::{used_parts, without_thresholds, Own};
 use crate::warnings::{self, Warning};
 use ndigomarr::{Answer, Target};
 
-fn decimal(value: f32) -> String {
+pub fn decimal(value: f32) -> String {
     float::text(value.to_bits())
 }
 
@@ -24,7 +24,7 @@ fn row_lines(sheet: &Sheet, answer: &Answer) -> Vec<String> {
     }).collect()
 }
 
-fn path_lines(sheet: &Sheet, answer: &Answer) -> Vec<String> {
+pub fn path_lines(sheet: &Sheet, answer: &Answer) -> Vec<String> {
     if answer.target == Target::Nothing {
         let of = if answer.complete { "" } else { " of those scored" };
         return vec![format!("none: no path{of} passed the thresholds with a score above 0")];
@@ -38,6 +38,11 @@ fn path_lines(sheet: &Sheet, answer: &Answer) -> Vec<String> {
 }
 
 fn parts_words(sheet: &Sheet, answer: &Answer) -> String {
+    parts_words_of(sheet, answer, || used_parts(sheet, answer))
+}
+
+/// The same where it may be known which parts were used.
+pub fn parts_words_of(sheet: &Sheet, answer: &Answer, used: impl FnOnce() -> Option<Vec<usize>>) -> String {
     let count = sheet.parts.len();
     let left_out = match answer.target {
         Target::Nothing => return "none was matched".into(),
@@ -47,7 +52,7 @@ fn parts_words(sheet: &Sheet, answer: &Answer) -> String {
         Target::Partial(left_out) => left_out as usize,
     };
     let verb = if left_out == 1 { "was" } else { "were" };
-    let which = used_parts(sheet, answer).map_or(String::new(), |used| {
+    let which = used().map_or(String::new(), |used| {
         let names = sheet.parts.iter().enumerate().filter(|(part, _)| !used.contains(part)).map(|(_, part)| part.name.as_str());
         format!(": {}", names.collect::<Vec<_>>().join(", "))
     });
@@ -113,14 +118,14 @@ pub fn why(sheet: &Sheet, answer: &Answer) -> Vec<String> {
     lines
 }
 
-fn titled(title: &str, lines: Vec<String>) -> Lines {
+pub fn titled(title: &str, lines: Vec<String>) -> Lines {
     lines.into_iter().enumerate().map(|(at, words)| (if at == 0 { title.into() } else { String::new() }, words)).collect()
 }
 
 /// A title and its words, each line of them.
-type Lines = Vec<(String, String)>;
+pub type Lines = Vec<(String, String)>;
 
-fn printed(lines: &Lines) -> String {
+pub fn printed(lines: &Lines) -> String {
     lines.iter().map(|(title, words)| format!("{title:8}{words}\n")).collect()
 }
 
@@ -145,14 +150,19 @@ fn block(sheet: &Sheet, answer: &Answer, above: Lines) -> String {
 
 /// One answer with notes and warnings above its path; of several each under its haplotype's name, with notes and warnings above all.
 pub fn text(sheet: &Sheet, answers: &[Own], notes: &[String]) -> String {
+    text_with(sheet, answers, notes, |_, _| String::new())
+}
+
+/// The same with more below each answer, told of the haplotype in a sheet of its own.
+pub fn text_with(sheet: &Sheet, answers: &[Own], notes: &[String], more: impl Fn(&Sheet, &Answer) -> String) -> String {
     let above = above(notes, &warnings::of_rows(sheet));
     let each = sheet.each();
     if let ([Ok(answer)], [own]) = (answers, &each[..]) {
-        return block(own, answer, above);
+        return block(own, answer, above) + &more(own, answer);
     }
     let told = answers.iter().zip(&each).map(|(answer, own)| {
         let words = match answer {
-            Ok(answer) => block(own, answer, vec![]),
+            Ok(answer) => block(own, answer, vec![]) + &more(own, answer),
             Err(reasons) => reasons.iter().map(|reason| format!("{reason}\n")).collect(),
         };
         format!("haplotype {}\n{words}", own.haplotype().unwrap_or_default())

@@ -1,5 +1,5 @@
 //! Lines of earlier runs over the same output, found again by what they were made from. Of each table 24 bytes are held.
-use super::line::{Lines, COMPLETE, FILE, HEADINGS, JOB, MADE_FROM, NUMBER, OF, STATUS};
+use super::line::{Lines, COMPLETE, DEEPER, FILE, HEADINGS, JOB, MADE_FROM, NUMBER, OF, STATUS};
 use super::output::Output;
 use super::tally::{Status, Tally};
 use csv::ByteRecord;
@@ -98,7 +98,7 @@ impl Index {
             let record = record.ok()?;
             // two keys may agree by chance
             table_of(&record).filter(|table| *table == wanted)?;
-            tally.count(Status::of_word(&record[STATUS])?, &record[COMPLETE] == b"yes");
+            tally.count(Status::of_word(&record[STATUS])?, &record[COMPLETE] == b"yes", &record[DEEPER]);
         }
         // the last line of a file may have lost its end
         bytes.ends_with(b"\n").then_some(Lines { bytes, tally })

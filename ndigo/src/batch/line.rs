@@ -4,6 +4,7 @@ use super::source::{Content, Ended, Table};
 use super::tally::{Status, Tally};
 use crate::answer::{left_out, listed_names, parted_by_commas};
 use crate::asked::{read, sort_rows, table_line};
+use crate::deeper::{self, CELLS};
 use crate::fault::Failure;
 use crate::model::Sheet;
 use crate::refusals::{self, Refusal};
@@ -13,10 +14,11 @@ use crate::{float, job, warnings};
 use ndigomarr::Target;
 use sha2::{Digest, Sha256};
 use std::io::Read;
+use std::time::Duration;
 
-pub const HEADINGS: [&str; 18] = [
+pub const HEADINGS: [&str; 26] = [
     "file", "job", "haplotype", "number", "of", "status", "refused", "words", "names", "records", "score", "sizesim", "seqsim", "left_out", "scored", "complete", "warnings",
-    "made_from",
+    "made_from", CELLS[0], CELLS[1], CELLS[2], CELLS[3], CELLS[4], CELLS[5], CELLS[6], CELLS[7],
 ];
 pub const FILE: usize = 0;
 pub const JOB: usize = 1;
@@ -25,6 +27,7 @@ pub const OF: usize = 4;
 pub const STATUS: usize = 5;
 pub const COMPLETE: usize = 15;
 pub const MADE_FROM: usize = 17;
+pub const DEEPER: usize = 18;
 
 /// What parts several reasons, or several warnings, in one cell.
 const BETWEEN: &str = " | ";
@@ -44,12 +47,14 @@ struct Said {
     words: String,
     /// From the names to `complete`; empty where there is no answer.
     answer: Vec<String>,
+    /// What a deeper look came to; empty where there was none.
+    deeper: Vec<String>,
 }
 
 impl Said {
     fn without_answer(status: Status, haplotype: &str, refused: Option<u32>, words: String) -> Self {
         let refused = refused.map_or(String::new(), |number| number.to_string());
-        Self { haplotype: haplotype.into(), status, refused, words, answer: vec![String::new(); 8] }
+        Self { haplotype: haplotype.into(), status, refused, words, answer: vec![String::new(); 8], deeper: vec![String::new(); CELLS.len()] }
     }
 
     fn refused(haplotype: &str, reasons: &[Refusal], whole: &str) -> Self {
@@ -57,17 +62,21 @@ impl Said {
         Self::without_answer(Status::Refused, haplotype, reasons.first().map(|reason| reason.number), joined(&words))
     }
 
-    fn of(sheet: &Sheet, haplotype: &str, answer: &Own, whole: &str) -> Self {
+    /// Of a haplotype in a sheet of its own.
+    fn of(own: &Sheet, answer: &Own, whole: &str, deeper: Option<Duration>) -> Self {
+        let haplotype = own.haplotype().unwrap_or_default();
         let answer = match answer {
             Ok(answer) => answer,
             Err(reasons) => return Self::refused(haplotype, reasons, whole),
         };
         let status = if answer.target == Target::Nothing { Status::Nothing } else { Status::Answered };
-        let mut cells = vec![listed_names(sheet, answer), parted_by_commas(answer.records.iter())];
+        let mut cells = vec![listed_names(own, answer), parted_by_commas(answer.records.iter())];
         cells.extend([answer.score, answer.sizesim, answer.seqsim].map(|value| float::text(value.to_bits())));
         cells.push(left_out(answer).map_or(String::new(), |parts| parts.to_string()));
         cells.extend([answer.scored.to_string(), if answer.complete { "yes" } else { "no" }.into()]);
-        Self { haplotype: haplotype.into(), status, refused: String::new(), words: String::new(), answer: cells }
+        let looked = deeper.map(|time| deeper::look(own, answer, time, &mut |_| {}));
+        let deeper = looked.map_or(vec![String::new(); CELLS.len()], |looked| deeper::cells(own, &looked));
+        Self { haplotype: haplotype.into(), status, refused: String::new(), words: String::new(), answer: cells, deeper }
     }
 }
 
@@ -76,10 +85,9 @@ fn joined<T: ToString>(words: &[T]) -> String {
 }
 
 /// A line for each haplotype; one for a sheet that is refused as a whole, under no haplotype's name. `whole` is what a reason without a line is said of.
-fn said_of(sheet: &Sheet, whole: &str) -> Vec<Said> {
-    let name = |at: usize| sheet.haplotypes.get(at).map_or("", |haplotype| haplotype.name.as_str());
+fn said_of(sheet: &Sheet, whole: &str, deeper: Option<Duration>) -> Vec<Said> {
     match search::answers(sheet) {
-        Ok(answers) => answers.iter().enumerate().map(|(at, answer)| Said::of(sheet, name(at), answer, whole)).collect(),
+        Ok(answers) => answers.iter().zip(sheet.each()).map(|(answer, own)| Said::of(&own, answer, whole, deeper)).collect(),
         Err(reasons) => vec![Said::refused("", &reasons, whole)],
     }
 }
@@ -93,12 +101,12 @@ fn remarks(notes: &[String], sheet: &Sheet) -> String {
     joined(&notes.chain(warnings::of_rows(sheet).iter().map(|warning| warning.to_string())).collect::<Vec<_>>())
 }
 
-fn of_sheet(data: &[u8], sort: bool) -> (Vec<Said>, String) {
+fn of_sheet(data: &[u8], how: How) -> (Vec<Said>, String) {
     if data.starts_with(&table_line(&HEADINGS)) {
         return (unread(None, "this is the output of ndigo batch; leave it out".into()), String::new());
     }
-    match read(data, sort) {
-        Ok((sheet, notes)) => (said_of(&sheet, "the whole sheet"), remarks(&notes, &sheet)),
+    match read(data, how.sort) {
+        Ok((sheet, notes)) => (said_of(&sheet, "the whole sheet", how.deeper), remarks(&notes, &sheet)),
         Err(failure) => {
             // every job ends with a zero byte, and no text without a mark holds one
             let or_job = if data.contains(&0) && !marked(data) { "; or, if it is a job, its first byte must be 1: make it again with `ndigo job SHEET`" } else { "" };
@@ -107,7 +115,7 @@ fn of_sheet(data: &[u8], sort: bool) -> (Vec<Said>, String) {
     }
 }
 
-fn of_job(bytes: &[u8], begins: u64, ended: Ended, sort: bool) -> (Vec<Said>, String) {
+fn of_job(bytes: &[u8], begins: u64, ended: Ended, how: How) -> (Vec<Said>, String) {
     let instead = match ended {
         Ended::ByItself => "make the job again with `ndigo job SHEET`",
         Ended::Lost | Ended::TooLong => "where the next job would begin cannot be told, so nothing behind it was read: make the file again from whole jobs",
@@ -117,8 +125,8 @@ fn of_job(bytes: &[u8], begins: u64, ended: Ended, sort: bool) -> (Vec<Said>, St
     }
     match job::read(bytes) {
         Ok(mut sheet) => {
-            let notes: Vec<String> = sort.then(|| sort_rows(&mut sheet)).into_iter().collect();
-            (said_of(&sheet, "the whole job"), remarks(&notes, &sheet))
+            let notes: Vec<String> = how.sort.then(|| sort_rows(&mut sheet)).into_iter().collect();
+            (said_of(&sheet, "the whole job", how.deeper), remarks(&notes, &sheet))
         }
         Err(fault) => {
             let place = begins + fault.place as u64;
@@ -128,23 +136,32 @@ fn of_job(bytes: &[u8], begins: u64, ended: Ended, sort: bool) -> (Vec<Said>, St
     }
 }
 
+/// The way in which lines are made.
+#[derive(Clone, Copy, Debug)]
+pub struct How {
+    pub sort: bool,
+    /// How long to look deeper where a search stopped early.
+    pub deeper: Option<Duration>,
+}
+
 /// Makes lines, or takes them from an earlier run that made them of the same bytes, in the same way.
 pub struct Maker {
-    sort: bool,
+    how: How,
     earlier: Earlier,
     /// Of this very program: another edition may answer otherwise.
     program: [u8; 32],
 }
 
 impl Maker {
-    pub fn new(sort: bool, earlier: Earlier) -> Self {
+    pub fn new(how: How, earlier: Earlier) -> Self {
         let program = std::env::current_exe().and_then(std::fs::read).unwrap_or_else(|_| env!("CARGO_PKG_VERSION").into());
-        Self { sort, earlier, program: Sha256::digest(program).into() }
+        Self { how, earlier, program: Sha256::digest(program).into() }
     }
 
     /// Changes with the table's bytes, with the program and with what it was asked.
     fn made_from(&self, data: &[u8]) -> String {
-        let all = Sha256::new().chain_update(self.program).chain_update([u8::from(self.sort)]).chain_update(data).finalize();
+        let deeper = self.how.deeper.map_or(vec![], |time| [&b"deeper"[..], &time.as_nanos().to_le_bytes()].concat());
+        let all = Sha256::new().chain_update(self.program).chain_update([u8::from(self.how.sort)]).chain_update(deeper).chain_update(data).finalize();
         all[..8].iter().map(|byte| format!("{byte:02x}")).collect()
     }
 
@@ -171,8 +188,8 @@ impl Maker {
             return lines;
         }
         let said = match in_archive {
-            Some((begins, ended)) => of_job(&data, begins, ended, self.sort),
-            None => of_sheet(&data, self.sort),
+            Some((begins, ended)) => of_job(&data, begins, ended, self.how),
+            None => of_sheet(&data, self.how),
         };
         written(&file, &job, &said, &made_from)
     }
@@ -185,7 +202,8 @@ fn written(file: &str, job: &str, (said, warnings): &(Vec<Said>, String), made_f
         cells.extend([line.status.word().into(), line.refused.clone(), line.words.clone()]);
         cells.extend(line.answer.iter().cloned());
         cells.extend([warnings.clone(), made_from.into()]);
-        lines.tally.count(line.status, cells[COMPLETE] == "yes");
+        cells.extend(line.deeper.iter().cloned());
+        lines.tally.count(line.status, cells[COMPLETE] == "yes", cells[DEEPER].as_bytes());
         lines.bytes.extend(table_line(&cells));
     }
     lines

@@ -7,12 +7,13 @@ mod tally;
 
 use crate::work::{say, watched};
 use earlier::Earlier;
-use line::{Lines, Maker};
+use line::{How, Lines, Maker};
 use output::{Output, HELD};
 use source::{Source, Table};
 use std::collections::BTreeMap;
 use std::path::PathBuf;
 use std::sync::{mpsc, Condvar, Mutex, MutexGuard, PoisonError};
+use std::time::Duration;
 use tally::Tally;
 
 pub use line::HEADINGS;
@@ -27,6 +28,8 @@ pub struct Asked {
     /// How many tables at a time; one a core where it is not said.
     pub jobs: Option<usize>,
     pub sort: bool,
+    /// How long to look deeper where a search stopped early, if that is asked for.
+    pub deeper: Option<Duration>,
 }
 
 /// How many tables may be begun before the first of them is written: what bounds the memory where one takes long.
@@ -150,7 +153,7 @@ pub fn run(asked: &Asked) -> u8 {
             return status;
         }
     };
-    let maker = Maker::new(asked.sort, Earlier::of(&output));
+    let maker = Maker::new(How { sort: asked.sort, deeper: asked.deeper }, Earlier::of(&output));
     let queue = Queue { source: Mutex::new(source), progress: Mutex::default(), moved: Condvar::new() };
     let done = work(&queue, &maker, workers, &mut output).and_then(|tally| output.finish().map(|()| tally));
     match done {

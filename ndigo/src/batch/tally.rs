@@ -29,6 +29,9 @@ pub struct Tally {
     /// In the order of the statuses.
     lines: [usize; 4],
     stopped_early: usize,
+    /// Of how many of these a better path was looked for, and found.
+    looked: usize,
+    better: usize,
     /// Tables whose lines were there already.
     kept: usize,
 }
@@ -38,16 +41,21 @@ impl Tally {
         Self { tables: 1, kept: kept.into(), ..Self::default() }
     }
 
-    pub fn count(&mut self, status: Status, complete: bool) {
+    /// `deeper` is the word that a deeper look has in the line, empty without one.
+    pub fn count(&mut self, status: Status, complete: bool, deeper: &[u8]) {
         self.lines[status as usize] += 1;
         let searched = matches!(status, Status::Answered | Status::Nothing);
         self.stopped_early += usize::from(searched && !complete);
+        self.looked += usize::from(!deeper.is_empty());
+        self.better += usize::from(deeper == b"better");
     }
 
     pub fn add(&mut self, other: &Tally) {
         self.tables += other.tables;
         self.lines.iter_mut().zip(other.lines).for_each(|(sum, count)| *sum += count);
         self.stopped_early += other.stopped_early;
+        self.looked += other.looked;
+        self.better += other.better;
         self.kept += other.kept;
     }
 
@@ -67,6 +75,7 @@ impl std::fmt::Display for Tally {
         let kept = if self.kept > 0 { format!(" ({} of them kept from an earlier run)", self.kept) } else { String::new() };
         let lines = counted(self.lines.iter().sum(), "line");
         write!(out, "{}{kept}, {lines}: {answered} answered, {nothing} without a path, {refused} refused, {unread} unread; ", counted(self.tables, "table"))?;
-        write!(out, "{} {} stopped early", self.stopped_early, if self.stopped_early == 1 { "search" } else { "searches" })
+        write!(out, "{} {} stopped early", self.stopped_early, if self.stopped_early == 1 { "search" } else { "searches" })?;
+        if self.looked > 0 { write!(out, ", and deeper a better path was found for {} of {}", self.better, self.looked) } else { Ok(()) }
     }
 }

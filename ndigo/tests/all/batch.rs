@@ -7,7 +7,8 @@ use std::process::{Child, Command, Stdio};
 use std::time::{Duration, Instant};
 
 const HEADING_LINE: &str =
-    "file\tjob\thaplotype\tnumber\tof\tstatus\trefused\twords\tnames\trecords\tscore\tsizesim\tseqsim\tleft_out\tscored\tcomplete\twarnings\tmade_from\n";
+    "file\tjob\thaplotype\tnumber\tof\tstatus\trefused\twords\tnames\trecords\tscore\tsizesim\tseqsim\tleft_out\tscored\tcomplete\twarnings\tmade_from\t\
+     deeper\tdeeper_names\tdeeper_records\tdeeper_score\tdeeper_sizesim\tdeeper_seqsim\tdeeper_left_out\tdeeper_words\n";
 
 /// A folder of a test's own and the table in it.
 struct Place {
@@ -89,7 +90,7 @@ fn a_line_a_haplotype() {
     assert_eq!((done.status, done.text(), done.err), (0, String::new(), said));
     let made_from = place.cells("made_from").remove(0);
     assert!(made_from.len() == 16 && made_from.bytes().all(|digit| digit.is_ascii_hexdigit()), "{made_from}");
-    assert_eq!(place.table(), format!("{HEADING_LINE}{file}\t\t\t0\t1\tanswered\t\t\tB\t98\t1\t1\t1\t0\t4\tyes\t\t{made_from}\n"));
+    assert_eq!(place.table(), format!("{HEADING_LINE}{file}\t\t\t0\t1\tanswered\t\t\tB\t98\t1\t1\t1\t0\t4\tyes\t\t{made_from}\t\t\t\t\t\t\t\t\n"));
     let two = place.put("two.tsv", example("two-divers"));
     assert_eq!(place.run(&[two], &[]).status, 0);
     assert_eq!((place.cells("number"), place.cells("of")), (vec!["0".to_string(), "1".into()], vec!["2".to_string(), "2".into()]));
@@ -339,7 +340,7 @@ fn killed_and_started_again() {
     let mut child = place.waiting();
     let mut input = child.stdin.take().unwrap();
     input.write_all(names(&files[..10]).as_bytes()).unwrap();
-    wait_for("lines in the unfinished file", || bytes_in(&place.beside("unfinished")) > 200);
+    wait_for("lines in the unfinished file", || bytes_in(&place.beside("unfinished")) > HEADING_LINE.len() as u64 + 60);
     // another run must not write there too
     let second = place.run(&files, &[]);
     assert_eq!((second.status, second.err), (3, format!("ndigo: {}: another run is writing this; wait for it, or name another --out\n", place.out.display())));
@@ -426,4 +427,28 @@ fn only_an_ordinary_file_is_written() {
     std::fs::write(&place.out, HEADING_LINE).unwrap();
     assert_eq!(out(link.to_str().unwrap()).status, 0);
     assert_eq!((place.table(), link.is_symlink()), (whole, true));
+}
+
+/// Only where a search stopped early is there anything to look for; what is proved stands in its own columns either way.
+#[test]
+fn deeper_where_a_search_stopped_early() {
+    let place = Place::new("deeper");
+    let none = format!("{GOOD}Q\t-5\tCCCCC\nsetting\tvalue\nmaxpaths\t0\nseqsim\t0\nfnmax\t0\n");
+    let files = [place.put("all.tsv", GOOD), place.put("better.tsv", example("mistake-stopped-early")), place.put("none.tsv", none)];
+    let outcome = place.run(&files, &["--deeper", "--seconds", "60"]);
+    assert_eq!(outcome.status, 0, "{}", outcome.err);
+    assert!(outcome.err.ends_with("2 searches stopped early, and deeper a better path was found for 1 of 2\n"), "{}", outcome.err);
+    let looked = [("deeper", ["", "better", "none"]), ("deeper_names", ["", "left,right", ""]), ("deeper_records", ["", "0,2", ""]), ("deeper_score", ["", "1", ""])];
+    for (heading, cells) in looked {
+        assert_eq!(place.cells(heading), cells, "{heading}");
+    }
+    let words = place.cells("deeper_words");
+    assert!(words[1].starts_with("found outside the proved search; checked by it: a path of this table, with exactly this score; its bounds"), "{}", words[1]);
+    assert!(words[2].starts_with("its bounds, which are not proved, rule out"), "{}", words[2]);
+    let proved = |place: &Place| ["names", "score", "scored", "complete"].map(|heading| place.cells(heading));
+    let before = proved(&place);
+    assert!(place.run(&files, &["--deeper", "--seconds", "60"]).err.contains("3 of them kept"));
+    let plain = place.run(&files, &[]);
+    assert!(!plain.err.contains("kept") && plain.err.ends_with("2 searches stopped early\n"), "{}", plain.err);
+    assert_eq!((place.cells("deeper"), proved(&place)), (vec![String::new(); 3], before));
 }

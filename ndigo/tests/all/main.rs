@@ -4,6 +4,7 @@ mod batch;
 mod bed;
 mod book;
 mod common;
+mod deeper;
 mod examples;
 mod haplotypes;
 mod jobs;
