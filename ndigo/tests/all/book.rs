@@ -34,10 +34,10 @@ fn saved(book: &str, settings: &str) -> Outcome {
     call(&["book", "save", book, "-"], format!("setting\tvalue\n{settings}").as_bytes())
 }
 
-/// A book of seqsim 0.9, then 0.8, then 0.9 again with k 5.
+/// A book of seqsim 0.9, then 0.8, then 0.9 again with k 3.
 fn three(folder: &Folder) -> String {
     let book = folder.file("sea.book");
-    for settings in ["seqsim\t0.9\n", "seqsim\t0.8\n", "k\t5\n"] {
+    for settings in ["seqsim\t0.9\n", "seqsim\t0.8\n", "k\t3\n"] {
         let outcome = saved(&book, settings);
         assert_eq!(outcome.status, 0, "{}", outcome.err);
     }
@@ -49,13 +49,13 @@ fn versions_are_listed_with_what_changed() {
     let folder = Folder::new("listed");
     let book = three(&folder);
     let outcome = call(&["book", "restore", &book, "1"], b"");
-    let told = format!("version 1 saved again as version 4 of {book}: k from 5 to 4 (the same as version 1)\n");
+    let told = format!("version 1 saved again as version 4 of {book}: k from 3 to 4 (the same as version 1)\n");
     assert_eq!((outcome.status, outcome.text()), (0, told));
     let list = call(&["book", "list", &book], b"").text();
     let lines: Vec<&str> = list.lines().collect();
     assert!(lines[0].starts_with("version   1  k 4, squish no, one-to-one no, full yes, maxpaths 4095,"), "{list}");
     assert!(lines[0].contains("seqsim 0.9"), "{list}");
-    assert_eq!(lines[1..], ["version   2  seqsim from 0.9 to 0.8", "version   3  k from 4 to 5, seqsim from 0.8 to 0.9", "version   4  k from 5 to 4 (the same as version 1)"]);
+    assert_eq!(lines[1..], ["version   2  seqsim from 0.9 to 0.8", "version   3  k from 4 to 3, seqsim from 0.8 to 0.9", "version   4  k from 3 to 4 (the same as version 1)"]);
     assert_eq!(std::fs::read(&book).unwrap().len(), 4 * 43);
     // nothing is left over but the lock
     assert_eq!(folder.names(), ["sea.book", "sea.book.lock"]);
@@ -74,7 +74,7 @@ fn an_answer_says_which_version_it_used() {
     let folder = Folder::new("answer");
     let book = three(&folder);
     let asked = format!("{book}:3");
-    let plain = ask("answer", GOOD.replace("variant\tstart", "setting\tvalue\nk\t5\n\nvariant\tstart"), &[]).text();
+    let plain = ask("answer", GOOD.replace("variant\tstart", "setting\tvalue\nk\t3\n\nvariant\tstart"), &[]).text();
     let outcome = ask("answer", GOOD, &["--settings", &asked]);
     let note = format!("note    the settings are version 3 of {book}\n");
     assert_eq!((outcome.status, outcome.text().starts_with(&note)), (0, true), "{}", outcome.text());
