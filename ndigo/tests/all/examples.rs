@@ -181,7 +181,7 @@ fn printed(command: &str) -> Option<String> {
 
 #[test]
 fn the_pages_print_what_the_commands_print() {
-    for (page, count) in [("docs/FIRST-WEEK.md", 18), ("docs/COORDINATES.md", 4), ("docs/DEEPER.md", 1)] {
+    for (page, count) in [("docs/FIRST-WEEK.md", 20), ("docs/COORDINATES.md", 4), ("docs/DEEPER.md", 1)] {
         let blocks = blocks(page, "$ ");
         assert_eq!(blocks.len(), count, "{page}");
         for block in blocks {
