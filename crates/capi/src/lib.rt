@@ -291,7 +291,7 @@ pub extern "C" fn nd_companions_together(
             ACCEPTED
         }
         Paired::Refused(n) => {
-            *yes = 0;
+            *yes = 0u32;
             n
         }
     }
