@@ -1,7 +1,8 @@
-"""What the Python tools share of documents 01 and 02: the job form, byte for byte, and the program's answer, line for line.
+"""What the Python tools share of documents 01 and 02: the job form in both editions, byte for byte, and the program's answer, line for line.
 
-The form stands here once: the kinds of record, the fields of their bodies, a writer and a reader. A float setting is
-kept as its 32 bits, so that every NaN comes back as it was. Which jobs in good form are refused is not said here.
+The form stands here once: the kinds of record, the fields of their bodies, a writer and a reader. The two editions differ in the kinds of
+settings and variant alone (document 02, P7): edition 2's bodies are edition 1's with one field more. A float setting is kept as its 32 bits, so
+that every NaN comes back as it was. Which jobs in good form are refused is not said here.
 tools/test_ndform holds the bytes to document 01's worked example; ndigo has the form in Rust, and its tests hold that to the
 proved writer's bytes.
 """
@@ -12,35 +13,45 @@ from typing import NamedTuple
 # --- records ----------------------------------------------------------------
 
 END, SETTINGS, VARIANT, PART, LETTERS, NEXT = range(6)
+SETTINGS_2, VARIANT_2 = 0x11, 0x12
+# an edition's own kinds: its settings' and its variants'
+EDITIONS = {1: (SETTINGS, VARIANT), 2: (SETTINGS_2, VARIANT_2)}
 
-# the fields of the settings record, in its order
+# the fields of the settings record, in its order; the last is edition 2's alone
 FIELDS = {
     "k": "byte", "squish": "flag", "one-to-one": "flag", "full": "flag",
     "maxpaths": "count", "maxnodes": "count", "fnmax": "count", "pileupmax": "count", "minkfreq": "count",
     "sizesim": "float", "seqsim": "float", "fpenalty": "float", "gpenalty": "float",
+    "letters": "flag",
 }
 FLAGS = [name for name, holds in FIELDS.items() if holds == "flag"]
 LETTERS_LIMIT = 131072
 HAPLOTYPES_LIMIT = 16
 
+SETTINGS_FORM = "<" + "".join({"byte": "B", "flag": "B", "count": "I", "float": "I"}[holds] for holds in FIELDS.values())
+VARIANT_FORM = "<QQiBII"  # start, end, size, negative, letter count; the record number is edition 2's alone
 # what follows the byte of kind
 BODIES = {
     END: struct.Struct("<"),
-    SETTINGS: struct.Struct("<" + "".join({"byte": "B", "flag": "B", "count": "I", "float": "I"}[holds] for holds in FIELDS.values())),
-    VARIANT: struct.Struct("<QQiBI"),  # start, end, size, negative, letter count
+    SETTINGS: struct.Struct(SETTINGS_FORM[:-1]),
+    VARIANT: struct.Struct(VARIANT_FORM[:-1]),
     PART: struct.Struct("<iBI"),       # size, negative, letter count
     LETTERS: struct.Struct("<16s"),    # zero-padded
     NEXT: struct.Struct("<"),          # begins the next haplotype
+    SETTINGS_2: struct.Struct(SETTINGS_FORM),
+    VARIANT_2: struct.Struct(VARIANT_FORM),
 }
 LENGTHS = {kind: 1 + body.size for kind, body in BODIES.items()}
 
 
 class Variant(NamedTuple):
+    """In edition 1 a variant's record number is its row."""
     start: int
     end: int
     size: int
     letters: bytes
     negative: int = 0
+    number: int = 0
 
 
 class Part(NamedTuple):
@@ -50,10 +61,12 @@ class Part(NamedTuple):
 
 
 class Job(NamedTuple):
-    """The settings are a value for each name of FIELDS, a float as its bits. Each haplotype is a list of its parts; there is at least one."""
+    """The settings are a value for each name of FIELDS, a float as its bits; in edition 1 `letters` is 0. Each haplotype is a list of its parts;
+    there is at least one."""
     settings: dict
     variants: list
     haplotypes: list
+    edition: int = 1
 
 
 def float_of_bits(bits):
@@ -75,13 +88,18 @@ def letters_records(letters):
     return b"".join(record(LETTERS, letters[at:at + held]) for at in range(0, len(letters), held))
 
 
-def settings_record(values):
-    return record(SETTINGS, *(values[name] for name in FIELDS))
+def settings_record(values, edition=1):
+    """What the edition has no place for is left out."""
+    kind, _ = EDITIONS[edition]
+    named = list(FIELDS) if edition == 2 else list(FIELDS)[:-1]
+    return record(kind, *(values[name] for name in named))
 
 
-def variant(start, end, size, letters, negative=0):
-    """The record of a variant and those of its letters."""
-    return record(VARIANT, start, end, size, negative, len(letters)) + letters_records(letters)
+def variant(start, end, size, letters, negative=0, number=None):
+    """The record of a variant and those of its letters: of edition 2 where a record number is named."""
+    values = (start, end, size, negative, len(letters))
+    head = record(VARIANT, *values) if number is None else record(VARIANT_2, *values, number)
+    return head + letters_records(letters)
 
 
 def part(size, letters, negative=0):
@@ -99,10 +117,18 @@ def job(head, *records):
 
 
 def settings(k=1, squish=0, one_to_one=0, full=1, maxpaths=10, maxnodes=10, fnmax=1, pileupmax=5, minkfreq=1,
-             sizesim=0.5, seqsim=0.5, fpenalty=0.0, gpenalty=0.0):
-    """The settings record of the worked example, but for what is named; a float is given as a float."""
+             sizesim=0.5, seqsim=0.5, fpenalty=0.0, gpenalty=0.0, letters=None):
+    """The settings record of the worked example, but for what is named; a float is given as a float. Of edition 2 where `letters` is named."""
     floats = map(bits_of_float, (sizesim, seqsim, fpenalty, gpenalty))
-    return record(SETTINGS, k, squish, one_to_one, full, maxpaths, maxnodes, fnmax, pileupmax, minkfreq, *floats)
+    values = dict(zip(FIELDS, (k, squish, one_to_one, full, maxpaths, maxnodes, fnmax, pileupmax, minkfreq, *floats, letters)))
+    return settings_record(values, 1 if letters is None else 2)
+
+
+def write(found):
+    """The bytes of a job."""
+    rows = (row if found.edition == 2 else row._replace(number=None) for row in found.variants)
+    lists = ([part(*one) for one in parts] for parts in found.haplotypes)
+    return job(settings_record(found.settings, found.edition), *(variant(*row) for row in rows), haplotypes(*lists))
 
 
 # --- reading ----------------------------------------------------------------
@@ -116,7 +142,8 @@ class FormFault(Exception):
 
 
 class Reader:
-    """Takes records off the front. Within a record the faults come in document 01's order, 27 after 22 (document 02, P1)."""
+    """Takes records off the front. Within a record the faults come in document 01's order, 27 after 22 (document 02, P1); a kind of the other
+    edition is out of place, a 22 (P7)."""
 
     def __init__(self, data):
         self.data, self.place, self.record = data, 0, 0
@@ -143,8 +170,9 @@ class Reader:
         if any(value > 1 for value in values):
             raise self.fault(24)
 
-    def letters(self, count):
-        """What a variant or a part owes: just enough records, zeros after the last letter."""
+    def letters(self, count, negative):
+        """What a variant or a part owes, once its own record is good: just enough records, zeros after the last letter."""
+        self.flags([negative])
         if count > LETTERS_LIMIT:
             raise self.fault(13)
         letters = b""
@@ -156,26 +184,28 @@ class Reader:
 
 
 def read(data):
-    """The job that the bytes hold; FormFault where they hold none."""
+    """The job that the bytes hold; FormFault where they hold none. The first record decides the edition."""
     reader = Reader(data)
-    found = Job(dict(zip(FIELDS, reader.take(SETTINGS)[1])), [], [[]])
+    kind, values = reader.take(SETTINGS, SETTINGS_2)
+    edition = next(number for number, own in EDITIONS.items() if kind in own)
+    _, of_variants = EDITIONS[edition]
+    found = Job({"letters": 0} | dict(zip(FIELDS, values)), [], [[]], edition)
     reader.flags(found.settings[name] for name in FLAGS)
-    allowed = (VARIANT, PART, NEXT, END)
+    allowed = (of_variants, PART, NEXT, END)
     kind, values = reader.take(*allowed)
     while kind != END:
         if kind == NEXT:
             if len(found.haplotypes) == HAPLOTYPES_LIMIT:
                 raise reader.fault(27)
             found.haplotypes.append([])
+        elif kind == PART:
+            size, negative, count = values
+            found.haplotypes[-1].append(Part(size, reader.letters(count, negative), negative))
         else:
-            *front, negative, count = values
-            reader.flags([negative])
-            letters = reader.letters(count)
-            if kind == VARIANT:
-                found.variants.append(Variant(*front, letters, negative))
-            else:
-                found.haplotypes[-1].append(Part(*front, letters, negative))
-        if kind != VARIANT:
+            start, end, size, negative, count, *number = values
+            letters = reader.letters(count, negative)
+            found.variants.append(Variant(start, end, size, letters, negative, *number or [len(found.variants)]))
+        if kind != of_variants:
             allowed = (PART, NEXT, END)
         kind, values = reader.take(*allowed)
     if reader.place < len(data):

@@ -240,6 +240,20 @@ static void bed(void)
     expect("its counts", counts[0] == 0 && counts[1] == 0, 1);
 }
 
+/* Settings and the end: in edition 2 one byte longer, and back as it was. */
+static void editions(void)
+{
+    const uint8_t job[42] = {1, 1};
+    uint8_t second[43], back[42];
+    uint64_t written = MARK;
+    expect("to edition 2", nd_move_job(job, sizeof job, 2, second, sizeof second, &written), ND_ACCEPTED);
+    expect("its bytes", written == sizeof second && second[0] == 0x11, 1);
+    expect("and back", nd_move_job(second, sizeof second, 1, back, sizeof back, &written), ND_ACCEPTED);
+    expect("the first bytes", written == sizeof back && memcmp(back, job, sizeof job) == 0, 1);
+    expect("already there", nd_move_job(job, sizeof job, 1, back, sizeof back, &written), ND_REFUSED_OUT_OF_PLACE);
+    expect("nothing written", (uint32_t)written, 0);
+}
+
 /* Rows 0 to 10, 5 to 5 inside it, and 10 to 12, which only touches it. */
 static void companions(void)
 {
@@ -342,6 +356,7 @@ int main(void)
     two_haplotypes();
     program_text();
     bed();
+    editions();
     companions();
     data();
     check_path();

@@ -51,6 +51,8 @@ enum nd_refusal {
     ND_REFUSED_BYTES_AFTER_END = 25, /* bytes after 0x00 */
     ND_REFUSED_TOO_LARGE = 26, /* over the program's own limits */
     ND_REFUSED_TOO_MANY_HAPLOTYPES = 27, /* not 1 to 16 haplotypes */
+    ND_REFUSED_NUMBER_NOT_ROW = 28, /* a record number is not its row */
+    ND_REFUSED_LETTERS_ONE = 29, /* letters is 1 */
     ND_REFUSED_LITTLE_ROOM = 30, /* too little room */
     ND_REFUSED_BAD_LINE = 40, /* a bad line of BED, or a bad name to write */
     ND_REFUSED_SECOND_NAME = 41, /* a second name in BED */
@@ -97,6 +99,8 @@ static inline const char *nd_refusal_text(uint32_t number)
     case ND_REFUSED_BYTES_AFTER_END: return "bytes after 0x00";
     case ND_REFUSED_TOO_LARGE: return "over the program's own limits";
     case ND_REFUSED_TOO_MANY_HAPLOTYPES: return "not 1 to 16 haplotypes";
+    case ND_REFUSED_NUMBER_NOT_ROW: return "a record number is not its row";
+    case ND_REFUSED_LETTERS_ONE: return "letters is 1";
     case ND_REFUSED_LITTLE_ROOM: return "too little room";
     case ND_REFUSED_BAD_LINE: return "a bad line of BED, or a bad name to write";
     case ND_REFUSED_SECOND_NAME: return "a second name in BED";
@@ -354,6 +358,14 @@ uint32_t nd_book_read(const uint8_t *book, size_t book_len, uint32_t version,
 /* Saves the settings of a version again, under the next, which *added tells. Refuses by 48, 45, 46,
  * 47. */
 uint32_t nd_book_restore(uint8_t *book, size_t book_len, uint32_t version, uint32_t *added);
+
+/* A job's bytes in the edition of the form asked for, 1 or 2, at the front of out, whose rest stays
+ * as it was. *written is how many bytes, 0 on a refusal, which changes nothing else. To edition 2 the
+ * row numbers become record numbers and letters is 0; a job grows by 1 + 4 V bytes. Refuses by the
+ * form's first fault (20 to 27, 13), then 22 (a job already in that edition, or no such edition), 28
+ * (a record number is not its row), 29 (letters is 1), 30 (too little room). */
+uint32_t nd_move_job(const uint8_t *job, size_t job_len, uint32_t edition, uint8_t *out,
+                     size_t out_len, uint64_t *written);
 
 #ifdef __cplusplus
 }

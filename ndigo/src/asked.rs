@@ -6,7 +6,7 @@ use crate::commands::Form;
 use crate::deeper;
 use crate::draw;
 use crate::fault::Failure;
-use crate::job;
+use crate::job::{self, Edition};
 use crate::model::{counted, Sheet, Variant};
 use crate::proposal::{self, Written};
 use crate::refusals::{self, Refusal};
@@ -150,28 +150,31 @@ pub fn check_path(data: &[u8], how: How<'_>, written: &Written) -> Result<Told, 
     Ok(Told { remarks: remarks(&notes, &[]), ..told })
 }
 
-/// The job form takes sheets that the rules refuse, but not a sequence over its limit, nor letters other than 0.
+/// The job form takes sheets that the rules refuse, but not letters other than 0 and 1, nor a sequence over its limit.
 pub fn job(data: &[u8], how: How<'_>) -> Result<Told, Failure> {
     let (sheet, notes) = read(data, how)?;
-    if let Some(words) = job::objection(&sheet) {
-        return Err(Failure::Input(words));
-    }
-    let long = refusals::long_sequences(&sheet);
-    if !long.is_empty() {
-        let reasons = long.iter().map(|refusal| refusal.to_string()).collect();
+    let unsaid = refusals::of_form(&sheet);
+    if !unsaid.is_empty() {
+        let reasons = unsaid.iter().map(|refusal| refusal.to_string()).collect();
         return Ok(Told { out: vec![], remarks: reasons, status: 1 });
     }
     Ok(Told { out: job::written(&sheet), remarks: remarks(&notes, &[]), status: 0 })
 }
 
 pub fn show(data: &[u8]) -> Result<Told, Failure> {
-    match job::read(data) {
-        Ok(sheet) => Ok(Told::text(0, sheet::written(&sheet))),
-        Err(fault) => {
-            let place = if fault.number == 25 { format!("from byte {} on", fault.place) } else { format!("the record at byte {}", fault.place) };
-            Err(Failure::Input(format!("refused {}: {}: {place}", fault.number, refusals::words(fault.number))))
-        }
-    }
+    let sheet = job::read(data).map_err(|fault| Failure::Input(fault.to_string()))?;
+    Ok(Told::text(0, sheet::written(&sheet)))
+}
+
+/// The job in the edition asked for, by the library. What ndigo's own reading of the job adds are the words for a refusal.
+pub fn move_job(data: &[u8], edition: Edition) -> Result<Told, Failure> {
+    let refusal = match ndigomarr::move_job(data, edition.number()) {
+        Ok(out) => return Ok(Told { out, ..Told::default() }),
+        Err(refusal) => refusal,
+    };
+    let sheet = job::read(data).map_err(|fault| Failure::Input(fault.to_string()))?;
+    let reasons = search::with_first(refusal, refusals::of_move(&sheet, edition));
+    Ok(Told { out: vec![], remarks: reasons.iter().map(|reason| reason.told_of("the whole job")).collect(), status: 1 })
 }
 
 /// The rows of the answer as BED; a sheet that the rules refuse has none.

@@ -2,7 +2,7 @@
 use crate::asked;
 use crate::commands::BookCommand;
 use crate::fault::Failure;
-use crate::model::{Settings, Sheet, LETTERS, SETTINGS};
+use crate::model::{Settings, Sheet, SETTINGS};
 use crate::refusals;
 use crate::work::{put_all, read, say, shown_name};
 use fs2::FileExt as _;
@@ -136,7 +136,7 @@ fn listed(book: &Book) -> Result<String, Failure> {
 fn refused(sheet: &Sheet, refusal: Refusal) -> Vec<String> {
     match refusal.number() {
         1..=3 => refusals::of_settings(sheet).iter().map(|reason| reason.to_string()).collect(),
-        24 => vec![refusals::of_setting(sheet, 24, LETTERS, "it must be 0 or 1").to_string()],
+        24 => refusals::bad_letters(sheet, 24).iter().map(|reason| reason.to_string()).collect(),
         _ => vec![format!("{refusal}; begin another book")],
     }
 }

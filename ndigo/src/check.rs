@@ -1,6 +1,6 @@
 //! All that can be told of a sheet before running: faults, refusals, warnings and notes.
 use crate::fault::Fault;
-use crate::job;
+use crate::job::{self, Edition};
 use crate::model::counted;
 use crate::refusals::{self, Refusal};
 use crate::search;
@@ -39,10 +39,18 @@ impl<'a> Checked<'a> {
         lines.join("\n") + "\n"
     }
 
-    /// None where the sheet is not whole, or where the form cannot say it.
+    /// None where the sheet is not whole.
     fn job_bytes(&self) -> Option<usize> {
+        self.read.faults.is_empty().then(|| job::length(&self.read.sheet))
+    }
+
+    fn job_words(&self) -> String {
         let sheet = &self.read.sheet;
-        (self.read.faults.is_empty() && job::objection(sheet).is_none()).then(|| job::length(sheet))
+        let edition = match Edition::of(sheet) {
+            Edition::First => "",
+            Edition::Second => " in edition 2",
+        };
+        format!("a job of {} bytes{edition}", job::length(sheet))
     }
 
     fn last_line(&self) -> String {
@@ -51,8 +59,7 @@ impl<'a> Checked<'a> {
             None => {
                 let named = if sheet.haplotypes.is_empty() { String::new() } else { format!("{}, ", counted(sheet.haplotypes.len(), "haplotype")) };
                 let (variants, parts) = (counted(sheet.variants.len(), "variant"), counted(sheet.parts.len(), "part"));
-                let job = self.job_bytes().map_or("and no job, which has no place for letters 1".into(), |bytes| format!("a job of {bytes} bytes"));
-                format!("nothing to refuse: {variants}, {named}{parts}, {job}")
+                format!("nothing to refuse: {variants}, {named}{parts}, {}", self.job_words())
             }
             Some(first) if first.haplotype.is_some() => format!("{} to refuse some of the haplotypes; the library gives each its first", counted(self.refusals.len(), "reason")),
             Some(first) => format!("{} to refuse; the library gives the first: refused {}", counted(self.refusals.len(), "reason"), first.number),

@@ -1,4 +1,5 @@
 //! The command line: what may be asked, and its help.
+use crate::job::Edition;
 use crate::model::SETTINGS;
 use clap::{Args, CommandFactory, FromArgMatches, Parser, Subcommand};
 use clap_complete::Shell;
@@ -88,18 +89,29 @@ pub enum Command {
         #[command(flatten)]
         time: Time,
     },
-    /// The sheet as job bytes, the form that the program ndigomarr reads
+    /// The sheet as job bytes, the form that the program ndigomarr reads: in edition 2 where the sheet has a column 'record' or the setting 'letters', else in edition 1
     Job {
         #[command(flatten)]
         sheets: Sheets,
         #[command(flatten)]
         into: Into,
     },
-    /// A job as a sheet; making it again gives the same bytes
+    /// A job of either edition as a sheet; making it again gives the same bytes
     Show {
         /// Jobs; - is standard input
         #[arg(required = true, value_name = "JOB")]
         files: Vec<String>,
+        #[command(flatten)]
+        into: Into,
+    },
+    /// A job in the other edition of its form, where nothing is lost; moving it back gives the same bytes
+    Move {
+        /// Jobs; - is standard input
+        #[arg(required = true, value_name = "JOB")]
+        files: Vec<String>,
+        /// 2 has a place for record numbers and letters; 1 has none, so each record must be its row's number, and letters 0
+        #[arg(long, value_name = "1|2", value_parser = edition)]
+        edition: Edition,
         #[command(flatten)]
         into: Into,
     },
@@ -174,6 +186,11 @@ pub struct Time {
     pub seconds: Duration,
 }
 
+fn edition(text: &str) -> Result<Edition, String> {
+    let asked = Edition::ALL.into_iter().find(|edition| edition.number().to_string() == text);
+    asked.ok_or_else(|| "write 1 or 2".into())
+}
+
 /// A time to look: above 0, and a day at most.
 fn seconds(text: &str) -> Result<Duration, String> {
     let seconds = text.parse().ok().filter(|seconds| *seconds > 0.0 && *seconds <= 86_400.0);
@@ -204,6 +221,9 @@ the one that each belongs to, of up to 16; each is answered by itself, and a row
 one without parts. Every section may have a column 'remark'; other
 columns are passed over with a note. A line whose one filled cell begins with # is a remark too. Letters are A to
 Z in either case; other bytes are written hex:4e2e. A float is written in decimal, or as its 32 bits: bits:7fc00000.
+
+A sheet's job is of edition 2 of the job form where the sheet has a column 'record' or names the setting 'letters',
+and of edition 1, which has a place for neither, where it does not; 'ndigo move' turns the one into the other.
 
 Status: 0 done, 1 refused by the rules (of check-path also a no), 2 cannot be read, 3 cannot be written.
 

@@ -1,14 +1,18 @@
-//! The job form of document 01, byte for byte: written from a sheet and read back. Its limits are the form's, not the program's.
+//! The job form of documents 01 and 02, byte for byte, in both editions: written from a sheet and read back. Its limits are the form's, not
+//! the program's.
 use crate::model::{self, Haplotype, Sequence, Settings, Sheet, Variant};
+use crate::refusals::words;
 
-/// The kind that ends a job, and the kind that begins one.
-pub const END: u8 = 0;
-pub const SETTINGS: u8 = 1;
-const VARIANT: u8 = 2;
-const PART: u8 = 3;
-const LETTERS: u8 = 4;
+/// The kinds of record. The editions differ in settings and variants alone.
+pub const END: u8 = 0x00;
+const SETTINGS: u8 = 0x01;
+const VARIANT: u8 = 0x02;
+const PART: u8 = 0x03;
+const LETTERS: u8 = 0x04;
 /// Begins the next haplotype (document 02, P1).
-const NEXT: u8 = 5;
+const NEXT: u8 = 0x05;
+const SETTINGS_2: u8 = 0x11;
+const VARIANT_2: u8 = 0x12;
 /// How many haplotypes a job may carry.
 pub const HAPLOTYPES_LIMIT: usize = 16;
 
@@ -16,22 +20,85 @@ pub const HAPLOTYPES_LIMIT: usize = 16;
 pub const LETTERS_LIMIT: usize = 131_072;
 const HELD: usize = 16;
 
+/// Where the first edition's bodies end; what the second adds stands behind: `letters`, and a variant's record number.
+const SETTINGS_BODY: usize = 40;
+const VARIANT_BODY: usize = 25;
+
 /// The length of a record of this kind with its byte of kind; none for a kind that there is not.
 pub fn length_of(kind: u8) -> Option<usize> {
-    [1, 41, 26, 10, 17, 1].get(usize::from(kind)).copied()
+    let body = match kind {
+        END | NEXT => 0,
+        SETTINGS => SETTINGS_BODY,
+        SETTINGS_2 => SETTINGS_BODY + 1,
+        VARIANT => VARIANT_BODY,
+        VARIANT_2 => VARIANT_BODY + 4,
+        PART => 9,
+        LETTERS => HELD,
+        _ => return None,
+    };
+    Some(1 + body)
+}
+
+/// The editions of the form (document 02, P7). The second has a place for record numbers and for the setting `letters`.
+#[derive(Clone, Copy, Debug, PartialEq, Eq)]
+pub enum Edition {
+    First,
+    Second,
+}
+
+impl Edition {
+    pub const ALL: [Self; 2] = [Self::First, Self::Second];
+
+    /// The edition of a job whose first byte is this; none where no job begins so.
+    pub fn begun_by(kind: u8) -> Option<Self> {
+        Self::ALL.into_iter().find(|edition| edition.settings() == kind)
+    }
+
+    /// The edition of a sheet's job: the second where the sheet has a column `record` or the setting `letters`. A version of a book may
+    /// set letters 1 where the sheet does not.
+    pub fn of(sheet: &Sheet) -> Self {
+        let settings = &sheet.settings;
+        let second = sheet.numbered || settings.lines[model::LETTERS].is_some() || settings.words[model::LETTERS] != 0;
+        if second { Self::Second } else { Self::First }
+    }
+
+    pub fn number(self) -> u32 {
+        match self {
+            Self::First => 1,
+            Self::Second => 2,
+        }
+    }
+
+    fn settings(self) -> u8 {
+        match self {
+            Self::First => SETTINGS,
+            Self::Second => SETTINGS_2,
+        }
+    }
+
+    fn variant(self) -> u8 {
+        match self {
+            Self::First => VARIANT,
+            Self::Second => VARIANT_2,
+        }
+    }
 }
 
 /// How many bytes the job has. Counted and not made, since a sequence over its limit has no job.
 pub fn length(sheet: &Sheet) -> usize {
-    let letters: usize = sheet.sequences().map(|sequence| 17 * ((sequence.letters.len() + HELD - 1) / HELD)).sum();
-    let further = sheet.part_lists().len() - 1;
-    41 + 26 * sheet.variants.len() + 10 * sheet.parts.len() + further + letters + 1
+    let edition = Edition::of(sheet);
+    let letters: usize = sheet.sequences().map(|sequence| (sequence.letters.len() + HELD - 1) / HELD).sum();
+    let (variants, parts, further) = (sheet.variants.len(), sheet.parts.len(), sheet.part_lists().len() - 1);
+    let records = [(edition.settings(), 1), (edition.variant(), variants), (PART, parts), (LETTERS, letters), (NEXT, further), (END, 1)];
+    records.into_iter().map(|(kind, count)| count * length_of(kind).unwrap_or(0)).sum()
 }
 
-fn put_sequence(job: &mut Vec<u8>, sequence: &Sequence) {
+/// What variants and parts have in common, and what the second edition has behind it; then the letters.
+fn put_sequence(job: &mut Vec<u8>, sequence: &Sequence, behind: &[u8]) {
     job.extend(sequence.size.to_le_bytes());
     job.push(sequence.negative.into());
     job.extend((sequence.letters.len() as u32).to_le_bytes());
+    job.extend(behind);
     for held in sequence.letters.chunks(HELD) {
         let mut body = [0; HELD];
         body[..held.len()].copy_from_slice(held);
@@ -40,26 +107,28 @@ fn put_sequence(job: &mut Vec<u8>, sequence: &Sequence) {
     }
 }
 
-/// Why the form cannot say this sheet's settings: they have no place for `letters`, and a job reads as 0 (document 02, P6).
-pub fn objection(sheet: &Sheet) -> Option<String> {
-    let letters = sheet.settings.words[model::LETTERS];
-    let line = sheet.settings.lines[model::LETTERS].map_or(String::new(), |line| format!("line {line}: "));
-    let instead = "ask `ndigo answer` about this sheet, or set letters to 0, so that each letter other than A, G, C and T counts as A";
-    (letters != 0).then(|| format!("{line}letters is {letters}, and a job has no place for it: it would be read as letters 0; {instead}"))
-}
-
-/// The job's bytes. A sequence over its letter limit has none, nor have letters other than 0: whoever asks has looked for them.
-pub fn written(sheet: &Sheet) -> Vec<u8> {
-    let words = &sheet.settings.words;
-    let mut job = vec![SETTINGS];
+fn put_settings(job: &mut Vec<u8>, settings: &Settings, edition: Edition) {
+    let words = &settings.words;
+    job.push(edition.settings());
     job.extend(words[..4].iter().map(|&word| word as u8));
     let rest = words[4..model::LETTERS].iter().chain(&words[model::LETTERS + 1..]);
     job.extend(rest.flat_map(|word| word.to_le_bytes()));
-    for variant in &sheet.variants {
-        job.push(VARIANT);
+    if edition == Edition::Second {
+        job.push(words[model::LETTERS] as u8);
+    }
+}
+
+/// The job's bytes. A sequence over its letter limit has none, nor have letters other than 0 and 1: whoever asks has looked for them.
+pub fn written(sheet: &Sheet) -> Vec<u8> {
+    let edition = Edition::of(sheet);
+    let mut job = Vec::new();
+    put_settings(&mut job, &sheet.settings, edition);
+    for (row, variant) in sheet.variants.iter().enumerate() {
+        job.push(edition.variant());
         job.extend(variant.start.to_le_bytes());
         job.extend(variant.end.to_le_bytes());
-        put_sequence(&mut job, &variant.sequence);
+        let number = (sheet.number(row) as u32).to_le_bytes();
+        put_sequence(&mut job, &variant.sequence, if edition == Edition::Second { &number } else { &[] });
     }
     for (place, parts) in sheet.part_lists().into_iter().enumerate() {
         if place > 0 {
@@ -67,7 +136,7 @@ pub fn written(sheet: &Sheet) -> Vec<u8> {
         }
         for part in parts {
             job.push(PART);
-            put_sequence(&mut job, part);
+            put_sequence(&mut job, part, &[]);
         }
     }
     job.push(END);
@@ -79,6 +148,13 @@ pub fn written(sheet: &Sheet) -> Vec<u8> {
 pub struct FormFault {
     pub number: u32,
     pub place: usize,
+}
+
+impl std::fmt::Display for FormFault {
+    fn fmt(&self, out: &mut std::fmt::Formatter<'_>) -> std::fmt::Result {
+        write!(out, "refused {}: {}: ", self.number, words(self.number))?;
+        if self.number == 25 { write!(out, "from byte {} on", self.place) } else { write!(out, "the record at byte {}", self.place) }
+    }
 }
 
 /// Takes records off the front. Within a record the faults come in document 01's order.
@@ -113,28 +189,39 @@ impl<'a> Reader<'a> {
         if byte > 1 { self.fault(24) } else { Ok(byte == 1) }
     }
 
-    fn settings(&mut self) -> Result<Settings, FormFault> {
-        let (_, body) = self.take(&[SETTINGS])?;
-        // old jobs read as letters 0
+    /// The first record decides the edition.
+    fn settings(&mut self) -> Result<(Edition, Settings), FormFault> {
+        let (kind, body) = self.take(&Edition::ALL.map(Edition::settings))?;
+        let (first, letters) = body.split_at(SETTINGS_BODY);
+        for &byte in first[1..4].iter().chain(letters) {
+            self.flag(byte)?;
+        }
         let mut words = [0; 14];
-        for (word, &byte) in words.iter_mut().zip(&body[..4]) {
+        for (word, &byte) in words.iter_mut().zip(&first[..4]) {
             *word = byte.into();
         }
         let places = (4..model::LETTERS).chain(model::LETTERS + 1..words.len());
-        for (place, bytes) in places.zip(body[4..].chunks_exact(4)) {
-            words[place] = u32::from_le_bytes([bytes[0], bytes[1], bytes[2], bytes[3]]);
+        for (place, bytes) in places.zip(first[4..].chunks_exact(4)) {
+            words[place] = number(bytes) as u32;
         }
-        for &byte in &body[1..4] {
-            self.flag(byte)?;
-        }
-        Ok(Settings::of_words(words))
+        // the first edition reads as letters 0
+        words[model::LETTERS] = number(letters) as u32;
+        Ok((if kind == SETTINGS { Edition::First } else { Edition::Second }, Settings::of_words(words)))
+    }
+
+    /// The variant of this row, which has a record number in the second edition.
+    fn variant(&mut self, body: &[u8], row: usize) -> Result<Variant, FormFault> {
+        let (first, record) = body.split_at(VARIANT_BODY);
+        let sequence = self.sequence(&first[16..], format!("row-{row}"))?;
+        let record = (!record.is_empty()).then(|| number(record) as u32);
+        Ok(Variant { start: number(&first[..8]), end: number(&first[8..16]), record, sequence })
     }
 
     /// The end of a variant's or a part's body, and the letters that it owes: just enough records, zeros after the last letter.
     fn sequence(&mut self, body: &[u8], name: String) -> Result<Sequence, FormFault> {
-        let size = i32::from_le_bytes([body[0], body[1], body[2], body[3]]);
+        let size = number(&body[..4]) as u32 as i32;
         let negative = self.flag(body[4])?;
-        let count = u32::from_le_bytes([body[5], body[6], body[7], body[8]]) as usize;
+        let count = number(&body[5..]) as usize;
         if count > LETTERS_LIMIT {
             return self.fault(13);
         }
@@ -150,23 +237,35 @@ impl<'a> Reader<'a> {
     }
 }
 
-fn long(bytes: &[u8]) -> u64 {
+/// A number from its bytes, the lowest first; no byte is 0.
+fn number(bytes: &[u8]) -> u64 {
     bytes.iter().rev().fold(0, |number, &byte| number << 8 | u64::from(byte))
 }
 
-/// The job that the bytes hold. It has no names and no record numbers: its rows, parts and, where there are several, haplotypes are
-/// named by their places.
+/// The haplotypes of a job that has several, by where each but the last ends and how many parts there are.
+fn haplotypes(mut ends: Vec<usize>, parts: usize) -> Vec<Haplotype> {
+    if !ends.is_empty() {
+        ends.push(parts);
+    }
+    ends.into_iter().enumerate().map(|(place, end)| Haplotype { name: format!("hap-{place}"), end }).collect()
+}
+
+/// The job that the bytes hold. It has no names: its rows, parts and, where there are several, haplotypes are named by their places. One of
+/// the first edition has no record numbers.
 pub fn read(data: &[u8]) -> Result<Sheet, FormFault> {
     let mut reader = Reader { data, place: 0, record: 0 };
-    let mut sheet = Sheet { settings: reader.settings()?, ..Sheet::default() };
+    let (edition, settings) = reader.settings()?;
+    let mut sheet = Sheet { settings, numbered: edition == Edition::Second, ..Sheet::default() };
     // where each haplotype but the last ends
     let mut ends: Vec<usize> = Vec::new();
+    let records = [edition.variant(), PART, NEXT, END];
     loop {
-        let allowed: &[u8] = if sheet.parts.is_empty() && ends.is_empty() { &[VARIANT, PART, NEXT, END] } else { &[PART, NEXT, END] };
+        // no variant stands behind a part or a further haplotype
+        let allowed = if sheet.parts.is_empty() && ends.is_empty() { &records[..] } else { &records[1..] };
         match reader.take(allowed)? {
-            (VARIANT, body) => {
-                let sequence = reader.sequence(&body[16..], format!("row-{}", sheet.variants.len()))?;
-                sheet.variants.push(Variant { start: long(&body[..8]), end: long(&body[8..16]), record: None, sequence });
+            (VARIANT | VARIANT_2, body) => {
+                let variant = reader.variant(body, sheet.variants.len())?;
+                sheet.variants.push(variant);
             }
             (PART, body) => {
                 let part = reader.sequence(body, format!("part-{}", sheet.parts.len()))?;
@@ -176,10 +275,7 @@ pub fn read(data: &[u8]) -> Result<Sheet, FormFault> {
             (NEXT, _) => ends.push(sheet.parts.len()),
             _ if reader.place < data.len() => return Err(FormFault { number: 25, place: reader.place }),
             _ => {
-                if !ends.is_empty() {
-                    ends.push(sheet.parts.len());
-                }
-                sheet.haplotypes = ends.into_iter().enumerate().map(|(place, end)| Haplotype { name: format!("hap-{place}"), end }).collect();
+                sheet.haplotypes = haplotypes(ends, sheet.parts.len());
                 return Ok(sheet);
             }
         }

@@ -44,7 +44,7 @@ fn status(cli: Cli) -> u8 {
             over(&sheets, &sink, |_, data, how| asked::check_path(data, how, &written))
         }
         Command::Draw { sheets, rows, into } => {
-            let sink = Sink::Files { folder: into.into, ending: "svg" };
+            let sink = Sink::files(into.into, "svg");
             over(&sheets, &sink, |file, data, how| asked::draw(file, data, how, rows.as_deref()))
         }
         Command::Deeper { sheets, time } => over_shown(&sheets, &Sink::Output { first: vec![], titled: true }, |file, data, how, bar| {
@@ -55,19 +55,23 @@ fn status(cli: Cli) -> u8 {
             batch::run(&batch::Asked { files, list, out, jobs: jobs.map(usize::from), sort, deeper })
         }
         Command::Job { sheets, into } => {
-            let sink = Sink::Files { folder: into.into, ending: "job" };
+            let sink = Sink::files(into.into, "job");
             over(&sheets, &sink, |_, data, how| asked::job(data, how))
         }
         Command::Show { files, into } => {
-            let sink = Sink::Files { folder: into.into, ending: "tsv" };
+            let sink = Sink::new_files(into.into, "tsv");
             run(&files, &sink, |_, data| asked::show(data).unwrap_or_else(Told::from))
         }
+        Command::Move { files, edition, into } => {
+            let sink = Sink::new_files(into.into, "job");
+            run(&files, &sink, |_, data| asked::move_job(data, edition).unwrap_or_else(Told::from))
+        }
         Command::Bed { sheets, name, into } => {
-            let sink = Sink::Files { folder: into.into, ending: "bed" };
+            let sink = Sink::files(into.into, "bed");
             over(&sheets, &sink, |_, data, how| asked::bed(data, how, &name))
         }
         Command::FromBed { files, into } => {
-            let sink = Sink::Files { folder: into.into, ending: "tsv" };
+            let sink = Sink::new_files(into.into, "tsv");
             run(&files, &sink, |_, data| asked::from_bed(data).unwrap_or_else(Told::from))
         }
         Command::Book { asked } => book::status(&asked),

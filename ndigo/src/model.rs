@@ -150,7 +150,7 @@ impl Sequence {
 pub struct Variant {
     pub start: u64,
     pub end: u64,
-    /// Its record's number at the station: all variants of a sheet have one, or none has.
+    /// Its record's number at the station: all variants of a numbered sheet have one, and no other has.
     pub record: Option<u32>,
     pub sequence: Sequence,
 }
@@ -180,6 +180,8 @@ pub struct Sheet {
     pub parts: Vec<Sequence>,
     /// None where the sheet names none: all parts are of one haplotype then.
     pub haplotypes: Vec<Haplotype>,
+    /// Whether it has a column `record`, as a job of edition 2 has, without any variant too.
+    pub numbered: bool,
 }
 
 impl Sheet {
@@ -197,7 +199,7 @@ impl Sheet {
         let lists = self.part_lists();
         lists.iter().enumerate().map(|(place, parts)| {
             let name = self.haplotypes.get(place).map(|haplotype| Haplotype { name: haplotype.name.clone(), end: parts.len() });
-            Sheet { settings: self.settings.clone(), variants: self.variants.clone(), parts: parts.to_vec(), haplotypes: name.into_iter().collect() }
+            Sheet { parts: parts.to_vec(), haplotypes: name.into_iter().collect(), ..self.without_parts() }
         }).collect()
     }
 
@@ -208,17 +210,13 @@ impl Sheet {
 
     /// The table alone: what refuses it refuses every haplotype.
     pub fn without_parts(&self) -> Sheet {
-        Sheet { settings: self.settings.clone(), variants: self.variants.clone(), ..Sheet::default() }
+        Sheet { settings: self.settings.clone(), variants: self.variants.clone(), numbered: self.numbered, ..Sheet::default() }
     }
 
     /// Whether each row is tried alone: asked for, or more rows than maxnodes.
     pub fn one_to_one(&self) -> bool {
         let settings = self.settings.to_library();
         settings.one_to_one || self.variants.len() as u64 > u64::from(settings.maxnodes)
-    }
-
-    pub fn has_records(&self) -> bool {
-        self.variants.iter().any(|variant| variant.record.is_some())
     }
 
     /// What tells a row beside its name: its record number, or else its row number.

@@ -1,6 +1,7 @@
 //! Refusals that can be told before running, each with its line. The library decides; this says why in the sheet's own words.
-use crate::job::{HAPLOTYPES_LIMIT, LETTERS_LIMIT};
+use crate::job::{Edition, HAPLOTYPES_LIMIT, LETTERS_LIMIT};
 use crate::model::{counted, place_of, Sequence, Sheet, Variant, K, LETTERS, SETTINGS};
+use std::collections::HashMap;
 
 /// Document 01's table: number, name and words of each refusal, parted by tabs.
 const TABLE: &str = include_str!("../../docs/refusals.tsv");
@@ -68,7 +69,7 @@ pub fn long_sequences(sheet: &Sheet) -> Vec<Refusal> {
 }
 
 /// A setting that is refused, with its line where the sheet names it.
-pub fn of_setting(sheet: &Sheet, number: u32, place: usize, limit: &str) -> Refusal {
+fn of_setting(sheet: &Sheet, number: u32, place: usize, limit: &str) -> Refusal {
     let reason = format!("{} is {}, {limit}", SETTINGS[place].name, sheet.settings.text(place));
     Refusal { number, reason, line: sheet.settings.lines[place], haplotype: None }
 }
@@ -78,22 +79,28 @@ fn bad_k(sheet: &Sheet) -> Vec<Refusal> {
     if good { vec![] } else { vec![of_setting(sheet, 1, K, "it must be 1 to 6")] }
 }
 
-/// A reading of letters that there is not.
-fn bad_letters(sheet: &Sheet) -> Vec<Refusal> {
+/// A reading of letters that there is not: a 3 of the library, and a 24 where the form has it as a flag.
+pub fn bad_letters(sheet: &Sheet, number: u32) -> Vec<Refusal> {
     let good = sheet.settings.words[LETTERS] <= 1;
-    if good { vec![] } else { vec![of_setting(sheet, 3, LETTERS, "it must be 0 or 1")] }
+    if good { vec![] } else { vec![of_setting(sheet, number, LETTERS, "it must be 0 or 1")] }
+}
+
+/// What the job form cannot say of a sheet, front to back.
+pub fn of_form(sheet: &Sheet) -> Vec<Refusal> {
+    [bad_letters(sheet, 24), long_sequences(sheet)].concat()
 }
 
 /// What is asked before the table, in the library's order. Letters are counted before a search begins, and the counter looks at k, at the
 /// reading and at how many they are; where there is nothing to count, the search itself looks at the reading, last of the settings.
 fn before_the_table(sheet: &Sheet) -> Vec<Refusal> {
-    let (first, last) = if sheet.sequences().next().is_some() { (bad_letters(sheet), vec![]) } else { (vec![], bad_letters(sheet)) };
+    let letters = bad_letters(sheet, 3);
+    let (first, last) = if sheet.sequences().next().is_some() { (letters, vec![]) } else { (vec![], letters) };
     [bad_k(sheet), first, long_sequences(sheet), bad_settings(sheet), last].concat()
 }
 
 /// What the settings alone are refused by.
 pub fn of_settings(sheet: &Sheet) -> Vec<Refusal> {
-    [bad_k(sheet), bad_settings(sheet), bad_letters(sheet)].concat()
+    [bad_k(sheet), bad_settings(sheet), bad_letters(sheet, 3)].concat()
 }
 
 fn bad_settings(sheet: &Sheet) -> Vec<Refusal> {
@@ -117,6 +124,27 @@ fn over(count: usize, thing: &str, first_over: Option<usize>) -> Option<Refusal>
     first_over.map(|line| at(5, line, format!("{}, the limit is {TABLE_LIMIT}", counted(count, thing))))
 }
 
+/// Another row than the one that is told of; the rows of a job have no lines.
+fn with_line(variant: &Variant) -> String {
+    let place = if variant.line() > 0 { format!(" on line {}", variant.line()) } else { String::new() };
+    format!("\"{}\"{place}", variant.name())
+}
+
+/// Each row whose record number an earlier row has. Row numbers are never repeated.
+fn repeated_numbers(variants: &[Variant]) -> Vec<Refusal> {
+    let mut first: HashMap<u32, &Variant> = HashMap::new();
+    let mut found = Vec::new();
+    for (v, number) in variants.iter().filter_map(|v| Some((v, v.record?))) {
+        if let Some(earlier) = first.get(&number) {
+            let reason = format!("\"{}\" has record {number}, and so has {}; write a number that no other variant has", v.name(), with_line(earlier));
+            found.push(at(14, v.line(), reason));
+        } else {
+            first.insert(number, v);
+        }
+    }
+    found
+}
+
 fn bad_table(sheet: &Sheet) -> Vec<Refusal> {
     let mut found = Vec::new();
     if sheet.variants.is_empty() {
@@ -132,14 +160,10 @@ fn bad_table(sheet: &Sheet) -> Vec<Refusal> {
     }
     for pair in sheet.variants.windows(2).filter(|pair| pair[1].start < pair[0].start) {
         let (before, v) = (&pair[0], &pair[1]);
-        // the rows of a job have no lines
-        let place = if before.line() > 0 { format!(" on line {}", before.line()) } else { String::new() };
-        let reason = format!(
-            "\"{}\" starts at {}, but \"{}\"{place} starts at {}; sort the rows by start, or call with --sort",
-            v.name(), v.start, before.name(), before.start
-        );
+        let reason = format!("\"{}\" starts at {}, but {} starts at {}; sort the rows by start, or call with --sort", v.name(), v.start, with_line(before), before.start);
         found.push(at(8, v.line(), reason));
     }
+    found.extend(repeated_numbers(&sheet.variants));
     found.extend(large_sizes(sheet.sequences()));
     let (k, letters) = (sheet.settings.words[K], sheet.settings.words[LETTERS]);
     found.extend(sheet.variants.iter().filter_map(|variant| no_window(variant, k, letters)));
@@ -185,8 +209,28 @@ fn large_sizes<'a>(sequences: impl Iterator<Item = &'a Sequence>) -> Vec<Refusal
     large.map(|s| at(9, s.line, format!("\"{}\" has size {}, the limit is {SIZE_LIMIT}", s.name, s.size))).collect()
 }
 
-/// All that a sheet can bring on itself, in the order in which the library asks. Not here: 6, 11 and 12 (fitting room is lent), 10 (letters within 13 give rows within 10), 14 (a
-/// repeated record number is a fault of the sheet).
+/// Why a job is not moved to an edition: it is of that one already, or the first has no place for what it says.
+pub fn of_move(job: &Sheet, asked: Edition) -> Vec<Refusal> {
+    let edition = asked.number();
+    if Edition::of(job) == asked {
+        return vec![at(22, 0, format!("it is of edition {edition} already; take it as it is, or write --edition {}", 3 - edition))];
+    }
+    let instead = "leave the job in edition 2, or make a sheet of it with `ndigo show` and take the column record and the setting letters out";
+    let mut found = Vec::new();
+    let others: Vec<usize> = (0..job.variants.len()).filter(|&row| job.number(row) != row as u64).collect();
+    if let Some(&row) = others.first() {
+        let such = if others.len() > 1 { format!(", the first of {} such rows", others.len()) } else { String::new() };
+        let lost = "edition 1 has no place for record numbers and takes each row's own number";
+        found.push(at(28, 0, format!("row {row} has record {}{such}; {lost}: {instead}", job.number(row))));
+    }
+    if job.settings.words[LETTERS] == 1 {
+        let lost = "edition 1 has no place for letters and counts each letter other than A, G, C and T as A";
+        found.push(at(29, 0, format!("windows that hold an unread letter are left out; {lost}: {instead}")));
+    }
+    found
+}
+
+/// All that a sheet can bring on itself, in the order in which the library asks. Not here: 6, 11 and 12 (fitting room is lent), 10 (letters within 13 give rows within 10).
 pub fn of(sheet: &Sheet) -> Vec<Refusal> {
     [before_the_table(sheet), bad_table(sheet)].concat()
 }

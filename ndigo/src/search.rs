@@ -46,7 +46,7 @@ fn asked(sheet: &Sheet) -> Result<Vec<Result<Answer, ndigomarr::Refusal>>, ndigo
 }
 
 /// The library's own refusal first, then what else is told of the sheet.
-fn with_first(refusal: ndigomarr::Refusal, mut reasons: Vec<Refusal>) -> Vec<Refusal> {
+pub fn with_first(refusal: ndigomarr::Refusal, mut reasons: Vec<Refusal>) -> Vec<Refusal> {
     if reasons.first().map(|reason| reason.number) != Some(refusal.number()) {
         reasons.insert(0, Refusal::of_number(refusal.number()));
     }

@@ -33,8 +33,20 @@ impl From<Failure> for Told {
 pub enum Sink {
     /// All to standard output, after these first bytes; `titled` puts each file's name above its text where there are several.
     Output { first: Vec<u8>, titled: bool },
-    /// One file, or files in a folder under their own names with this ending.
-    Files { folder: Option<PathBuf>, ending: &'static str },
+    /// One file, or files in a folder under their own names with this ending; `new` overwrites none.
+    Files { folder: Option<PathBuf>, ending: &'static str, new: bool },
+}
+
+impl Sink {
+    /// What is made from a sheet, and can be made again.
+    pub fn files(folder: Option<PathBuf>, ending: &'static str) -> Self {
+        Self::Files { folder, ending, new: false }
+    }
+
+    /// Sheets, and jobs of the same names as those they are made from: each may be somebody's work.
+    pub fn new_files(folder: Option<PathBuf>, ending: &'static str) -> Self {
+        Self::Files { folder, ending, new: true }
+    }
 }
 
 /// How many files are worked on before the first of them is written.
@@ -75,10 +87,10 @@ fn objection(files: &[String], sink: &Sink) -> Option<String> {
         return Some("standard input (-) can be read once only".into());
     }
     match sink {
-        Sink::Files { folder: None, ending } if files.len() > 1 => {
+        Sink::Files { folder: None, ending, .. } if files.len() > 1 => {
             Some(format!("several .{ending} files cannot be told apart on standard output; name a folder with --into"))
         }
-        Sink::Files { folder: Some(folder), ending } => {
+        Sink::Files { folder: Some(folder), ending, .. } => {
             let mut seen = HashSet::new();
             let twice = files.iter().map(|file| target(folder, file, ending)).find(|path| !seen.insert(path.clone()));
             twice.map(|path| format!("two files would be written as {}; ask for them one at a time", path.display()))
@@ -97,11 +109,10 @@ fn target(folder: &Path, file: &str, ending: &str) -> PathBuf {
 
 fn write(file: &str, told: &Told, sink: &Sink, several: bool) -> Result<(), (String, Failure)> {
     match sink {
-        Sink::Files { folder: Some(folder), ending } if !told.out.is_empty() => {
+        Sink::Files { folder: Some(folder), ending, new } if !told.out.is_empty() => {
             let path = target(folder, file, ending);
-            // a sheet may be somebody's work and is never overwritten; jobs and pictures are made from one
             let mut how = std::fs::OpenOptions::new();
-            let how = if *ending == "tsv" { how.write(true).create_new(true) } else { how.write(true).create(true).truncate(true) };
+            let how = if *new { how.write(true).create_new(true) } else { how.write(true).create(true).truncate(true) };
             let written = std::fs::create_dir_all(folder).and_then(|()| how.open(&path)?.write_all(&told.out));
             written.map_err(|fault| (path.display().to_string(), Failure::Unwritable(fault)))
         }

@@ -16,7 +16,7 @@ numbers of the :class:`Table` handed over, from 0; its records are those rows' r
 ([0], 1.0, 4, True)
 """
 from ._book import Book
-from ._library import Bed, Companions, Refused, answer, count_chains, read_bed, seq_to_kmer, seqsim, sizesim, write_bed
+from ._library import Bed, Companions, Refused, answer, count_chains, move_job, read_bed, seq_to_kmer, seqsim, sizesim, write_bed
 from ._meta import HaplotypeMeta
 from ._search import Answer, apply_haplotype, apply_haplotypes, check_path
 from ._settings import Settings
@@ -24,6 +24,6 @@ from ._table import Haplotype, Table
 
 __all__ = [
     "Answer", "Bed", "Book", "Companions", "Haplotype", "HaplotypeMeta", "Refused", "Settings", "Table", "answer", "apply_haplotype", "apply_haplotypes",
-    "check_path", "count_chains", "read_bed", "seq_to_kmer", "seqsim", "sizesim", "write_bed",
+    "check_path", "count_chains", "move_job", "read_bed", "seq_to_kmer", "seqsim", "sizesim", "write_bed",
 ]
 __version__ = "0.1.0"

@@ -225,3 +225,12 @@ def declare(library: ctypes.CDLL) -> None:
         ctypes.c_uint32,
         ctypes.POINTER(ctypes.c_uint32),
     ]
+    library.nd_move_job.restype = ctypes.c_uint32
+    library.nd_move_job.argtypes = [
+        ctypes.POINTER(ctypes.c_uint8),
+        ctypes.c_size_t,
+        ctypes.c_uint32,
+        ctypes.POINTER(ctypes.c_uint8),
+        ctypes.c_size_t,
+        ctypes.POINTER(ctypes.c_uint64),
+    ]

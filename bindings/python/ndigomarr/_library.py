@@ -145,6 +145,23 @@ def write_bed(bed: Bed, rows: Numbers) -> bytes:
     return bytes(text[:written.value])
 
 
+def move_job(job: bytes, edition: int) -> bytes:
+    """A job's bytes in the edition of the form asked for, 1 or 2; there and back gives the first bytes.
+
+    Refused by the form's first fault, then by 22 (already in that edition, or no such edition), 28 (a record number is not its row), 29 (letters is 1).
+
+    >>> job = bytes([1] + 41 * [0])
+    >>> second = move_job(job, 2)
+    >>> second[0], len(second), move_job(second, 1) == job
+    (17, 43, True)
+    """
+    given = text_of(job)
+    # a variant of at least 26 bytes grows by 4, and the settings by 1
+    out, written = (ctypes.c_uint8 * (len(given) + 1 + 4 * (len(given) // 26)))(), ctypes.c_uint64()
+    accepted(LIBRARY.nd_move_job(given, len(given), edition, out, len(out), ctypes.byref(written)))
+    return bytes(out[:written.value])
+
+
 class Companions:
     """Which variants can go together: a table of up to 64 rows, and for every row the later rows that it does not overlap.
 

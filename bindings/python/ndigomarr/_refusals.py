@@ -25,6 +25,8 @@ TABLE: Dict[int, Tuple[str, str]] = {
     25: ("BYTES_AFTER_END", "bytes after 0x00"),
     26: ("TOO_LARGE", "over the program's own limits"),
     27: ("TOO_MANY_HAPLOTYPES", "not 1 to 16 haplotypes"),
+    28: ("NUMBER_NOT_ROW", "a record number is not its row"),
+    29: ("LETTERS_ONE", "letters is 1"),
     30: ("LITTLE_ROOM", "too little room"),
     40: ("BAD_LINE", "a bad line of BED, or a bad name to write"),
     41: ("SECOND_NAME", "a second name in BED"),

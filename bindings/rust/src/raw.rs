@@ -88,6 +88,7 @@ mod archive {
         pub fn nd_book_save(book: *mut u8, book_len: usize, settings: *const [u8; 41], version: *mut u32) -> u32;
         pub fn nd_book_read(book: *const u8, book_len: usize, version: u32, settings: *mut [u8; 41]) -> u32;
         pub fn nd_book_restore(book: *mut u8, book_len: usize, version: u32, added: *mut u32) -> u32;
+        pub fn nd_move_job(job: *const u8, job_len: usize, edition: u32, out: *mut u8, out_len: usize, written: *mut u64) -> u32;
         pub fn nd_apply_haplotype(
             settings: *const [u32; 14],
             starts: *const u64,
@@ -199,6 +200,10 @@ pub fn write_bed(name: &[u8], starts: &[u64], ends: &[u64], rows: &[u32], text: 
             written,
         )
     }
+}
+
+pub fn move_job(job: &[u8], edition: u32, out: &mut [u8], written: &mut u64) -> u32 {
+    unsafe { archive::nd_move_job(job.as_ptr(), job.len(), edition, out.as_mut_ptr(), out.len(), written) }
 }
 
 pub fn meta_new(index: u64, samples: u64, meta: &mut [u64; 28]) -> u32 {

@@ -50,6 +50,10 @@ pub enum Refusal {
     TooLarge,
     /// 27: not 1 to 16 haplotypes
     TooManyHaplotypes,
+    /// 28: a record number is not its row
+    NumberNotRow,
+    /// 29: letters is 1
+    LettersOne,
     /// 30: too little room
     LittleRoom,
     /// 40: a bad line of BED, or a bad name to write
@@ -87,7 +91,7 @@ pub enum Refusal {
 }
 
 /// Number, case and words of each.
-pub(crate) const TABLE: [(u32, Refusal, &str); 39] = [
+pub(crate) const TABLE: [(u32, Refusal, &str); 41] = [
     (1, Refusal::BadK, "k not 1 to 6"),
     (2, Refusal::BadFloat, "a float setting is NaN or outside its range"),
     (3, Refusal::BadNumber, "a whole-number setting over its limit"),
@@ -111,6 +115,8 @@ pub(crate) const TABLE: [(u32, Refusal, &str); 39] = [
     (25, Refusal::BytesAfterEnd, "bytes after 0x00"),
     (26, Refusal::TooLarge, "over the program's own limits"),
     (27, Refusal::TooManyHaplotypes, "not 1 to 16 haplotypes"),
+    (28, Refusal::NumberNotRow, "a record number is not its row"),
+    (29, Refusal::LettersOne, "letters is 1"),
     (30, Refusal::LittleRoom, "too little room"),
     (40, Refusal::BadLine, "a bad line of BED, or a bad name to write"),
     (41, Refusal::SecondName, "a second name in BED"),

@@ -12,4 +12,5 @@ pub mod AnchorsLaws
 pub mod EdgesLaws
 pub mod NoAnchorLaws
 pub mod CompanionsTogetherLaws
+pub mod EditionsLaws
 pub mod UniqueLaws

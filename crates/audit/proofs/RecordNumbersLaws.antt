@@ -1,5 +1,5 @@
 -- Where the three rows that the record numbers add to the table of refusals are not given, it is document 01's table, and so are answer and rows. A list of
--- rows that gives 0 gives none of its rows, so an accepted call is of this kind; so is a job in the present form, whose row numbers are all different.
+-- rows that gives 0 gives none of its rows, so an accepted call is of this kind; so is a job of edition 1, whose row numbers are all different.
 -- Only the row of 14 has that number, and its test is found exactly where two rows have one number. Records are the rows mapped, one by one. Assumes nothing.
 use Prim.Native.Nat.{ℕ, zero, suc, _^_, _≤_, _<_}
 use native.Mathlib.Omega.{arith}
@@ -19,9 +19,12 @@ use Rattle.params.proofs.CheckLaws.{Passed, none-given, goes-on, given, any-her
 use Rattle.kplib.specs.Answer.{answerWith, inSearchMode, foundAfter, answerOf, rowsOf, searches}
 use Rattle.dive.specs.Numbered.{Numbered, repeatedNumber, numberedRules, numberedFault, numberedAnswer, numberedRows, recordsAt, recordsOf, numberedSearches}
 use Rattle.dive.proofs.RowLaws.{rows-in-table}
-use Rattle.desk.specs.Desk.{rowNumbers, numberedByRow}
-use Rattle.desk.proofs.AnswerLaws.{row-count}
-use Rattle.audit.specs.RecordNumbers.{Shared, upToEight, RecordNumbers}
+use Rattle.form.specs.declared.records.Edition.{Edition}
+use Rattle.form.specs.declared.records.Edition.the-variants.{One}
+use Rattle.form.specs.Job.{Job, Variant, Held, readJob, jobOf, editionOf, rowNumbers, numbersBy, numbersOf}
+use Rattle.form.proofs.NumberLaws.{held-job, long-rows}
+use Rattle.desk.specs.Desk.{tableOfJob}
+use Rattle.audit.specs.RecordNumbers.{Shared, upToEight, numberedByRow, RecordNumbers}
 use Rattle.audit.proofs.Demand3Laws.{demand3-holds}
 
 -- ---- two rows with one number
@@ -182,7 +185,7 @@ module _ (n : Numbered) where
       let e = accepted-as n (eqb-true (numberedFault n) 0 (both .0)) in
       rw (← e) h
 
--- ---- a job in the present form
+-- ---- a job of edition 1
 row-number : (v r : ℕ) → r < v → getD (rowNumbers v) r 0 ≡ r
 unfolding rowNumbers
 row-number zero r h = absurd (omega arith)
@@ -191,10 +194,10 @@ row-number (suc v) r h = go (ltb r v) refl (λ k. row-number v r k)
     go : (t : Bool) → ltb r v ≡ t → (r < v → getD (rowNumbers v) r 0 ≡ r) → getD (rowNumbers v ++ (v ∷ [])) r 0 ≡ r
     go true e earlier =
         let l = ltb-true r v e in
-        List·getD-append (rowNumbers v) (v ∷ []) 0 r (omega (arith, row-count v)) ∙ earlier l
+        List·getD-append (rowNumbers v) (v ∷ []) 0 r (omega (arith, long-rows v)) ∙ earlier l
     go false e earlier =
-        let q : r ≡ length (rowNumbers v) = omega (arith, row-count v, ltb-false r v e) in
-        ap (λ (k : ℕ). getD (rowNumbers v ++ (v ∷ [])) k 0) q ∙ getD-append-seam (rowNumbers v) v [] 0 ∙ omega (arith, row-count v)
+        let q : r ≡ length (rowNumbers v) = omega (arith, long-rows v, ltb-false r v e) in
+        ap (λ (k : ℕ). getD (rowNumbers v ++ (v ∷ [])) k 0) q ∙ getD-append-seam (rowNumbers v) v [] 0 ∙ omega (arith, long-rows v)
 
 rows-recorded : (v : ℕ) (rows : List ℕ) → All (λ r. r < v) rows → map (λ r. getD (rowNumbers v) r 0) rows ≡ rows
 rows-recorded v [] a = refl
@@ -202,6 +205,13 @@ rows-recorded v (r ∷ rows) a =
     let here = row-number v r (a .0) in
     let later = rows-recorded v rows (a .1) in
     rw (here, later)
+
+first-numbers : (s : List ℕ) (job : Job) → readJob s ≡ Held job → editionOf s ≡ One → numbersOf s ≡ rowNumbers (length (tableOfJob job .starts))
+unfolding numbersBy jobOf tableOfJob
+first-numbers s job held first =
+    ap (λ (e : Edition). numbersBy e s) first
+    ∙ ap (λ (j : Job). rowNumbers (length (j .variants))) (held-job s held)
+    ∙ ap rowNumbers (sym (length-map (job .variants) (λ (x : Variant). x .start)))
 
 module _ (c : Call) (few : length (c .table .starts) ≤ 16) where
   abbrev v : ℕ
@@ -213,13 +223,13 @@ module _ (c : Call) (few : length (c .table .starts) ≤ 16) where
       go : (t : Bool) → repeatedNumber (rowNumbers v) ≡ t → t ≡ false
       go true e =
           let h = repeated-shared (rowNumbers v) e in
-          let s : h .1 < v = omega (arith, h .3, row-count v) in
+          let s : h .1 < v = omega (arith, h .3, long-rows v) in
           absurd (omega (arith, h .2, h .4, row-number v (h .0) (omega (arith, h .2, s)), row-number v (h .1) s))
       go false e = refl
 
   present-fault : numberedFault (numberedByRow c) ≡ firstFault c
   present-fault =
-      same-fault (numberedByRow c) (ap not (eq-eqb (length (rowNumbers v)) v (row-count v))) all-different (le-ltb 16 v few)
+      same-fault (numberedByRow c) (ap not (eq-eqb (length (rowNumbers v)) v (long-rows v))) all-different (le-ltb 16 v few)
 
   present-records : recordsOf (numberedByRow c) ≡ rowsOf c
   unfolding recordsAt
@@ -239,5 +249,6 @@ record-numbers = record {
   as-many = all-recorded;
   in-order = λ n e i h. (in-table n e i h, recorded n i h);
   unchanged = none-recorded;
+  first-edition = first-numbers;
   present = λ c few. (same-answer (numberedByRow c) (present-fault c few), (same-rows (numberedByRow c) (present-fault c few), present-records c few));
 }

@@ -1,10 +1,12 @@
 -- A promise that is an equation fixes its result; where a slice's equation speaks of the value, the values agree first, and where it holds under a condition, the condition is given.
 use mathlib.Core.Path.{_≡_, sym, ap, _∙_}
 use mathlib.Core.Bool.{Bool, false}
-use mathlib.Core.List.{List}
+use mathlib.Core.List.{List, []}
 use Prim.Native.Nat.{ℕ}
 use Rattle.metrics.specs.Letters.{countsBy, rowAfter}
 use Rattle.form.specs.Job.{jobBytes}
+use Rattle.form.specs.declared.records.Edition.the-variants.{One, Two}
+use Rattle.editions.specs.Moving.{movedOver, outAfter as movedAfter}
 use Rattle.writer.specs.Writing.{jobFrom, outAfter}
 use Rattle.text.specs.Written.{Written}
 use Rattle.companions.specs.Companions.{Companions, lentOf}
@@ -123,11 +125,17 @@ unique = record {
   record-at = λ s at. one;
   read-settings = λ b. one;
   read-settings41 = λ b. one;
+  settings-by = λ e b. one;
   settings41-fault = λ b. one;
   write-settings = λ out at s. one;
+  write-settings41 = λ out at s. one;
+  edition-of = λ s. one;
   scan = λ bytes. one;
   read-job = λ bytes t. two;
-  write-job = λ s t out. through (λ r. outAfter r (jobBytes (jobFrom s t)) out);
+  write-job = λ s t out. through (λ r. outAfter r (jobBytes One [] (jobFrom s t)) out);
+  write-numbered-job = λ s numbers t out. through (λ r. outAfter r (jobBytes Two numbers (jobFrom s t)) out);
+  read-numbers = λ bytes numbers. two;
+  move-job = λ job edition out. through (λ r. movedAfter r (movedOver job) out);
   put-bytes = λ out at src. stored;
   put-digits = λ out at n left. stored;
   put-refused = λ out at n. stored;
@@ -154,6 +162,7 @@ unique = record {
       agree x y (recorded-both (x .says) p) (recorded-both (y .says) q);
   nd-read-bed = λ text starts ends name counts x y u v p q. filled x y u v (both u p) (both v q);
   nd-write-bed = λ name starts ends rows text written x y u v p q. two x y u v (both u p) (both v q);
+  nd-move-job = λ job edition out written x y u v p q. two x y u v (both u p) (both v q);
   nd-companions-add = λ starts ends sheet rows start end. two;
   nd-companions-remove = λ starts ends sheet rows. removed;
   nd-companions-together = λ starts ends sheet rows a b word. two;

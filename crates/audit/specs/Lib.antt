@@ -11,4 +11,5 @@ pub mod Anchors
 pub mod Edges
 pub mod NoAnchor
 pub mod CompanionsTogether
+pub mod Editions
 pub mod Unique

@@ -1,4 +1,4 @@
--- Document 02, P3: what the record numbers of a call decide, and what they leave as document 01 has it. An accepted call is one with the number 0.
+-- Document 02, P3 and P7: what the record numbers of a call decide, and what they leave as document 01 has it. An accepted call is one with the number 0.
 use Prim.Native.Nat.{ℕ, _^_, _≤_, _<_}
 use mathlib.Core.Path.{_≡_}
 use mathlib.Core.Bool.{true}
@@ -8,7 +8,9 @@ use Rattle.metrics.specs.Placed.{placed}
 use Rattle.params.specs.Numbers.{Call, Rule, rule, firstOf, disagrees, settingsRules, lengthRules, boundRules}
 use Rattle.kplib.specs.Answer.{answerOf, rowsOf}
 use Rattle.dive.specs.Numbered.{Numbered, numberedFault, numberedAnswer, numberedRows, recordsOf, numberedSearches}
-use Rattle.desk.specs.Desk.{numberedByRow}
+use Rattle.form.specs.declared.records.Edition.the-variants.{One}
+use Rattle.form.specs.Job.{Job, Held, readJob, editionOf, rowNumbers, numbersOf}
+use Rattle.desk.specs.Desk.{tableOfJob, numberedWith}
 use Rattle.audit.specs.Demand3.{Demand3}
 
 -- two rows have one number
@@ -23,6 +25,10 @@ upToEight n =
     ++ (lengthRules (4 ^ c .settings .k) (c .table) (c .parts)
     ++ (rule 6 (disagrees (length (n .numbers)) (length (c .table .starts)))
     ∷ boundRules (c .table .starts) (c .table .ends)))
+
+-- the call of a job of edition 1
+abbrev pub numberedByRow : Call → Numbered
+numberedByRow c = numberedWith (rowNumbers (length (c .table .starts))) c
 
 pub record RecordNumbers : Type 0 where
   -- an accepted call has document 01's answer and rows,
@@ -46,6 +52,8 @@ pub record RecordNumbers : Type 0 where
       → (getD (numberedRows n) i 0 < length (n .call .table .starts)) × (getD (recordsOf n) i 0 ≡ getD (n .numbers) (getD (numberedRows n) i 0) 0)
   -- a refused call leaves the second buffer as it is
   pub unchanged : (n : Numbered) → (numberedFault n ≡ 0 → ⊥) → (records : List ℕ) → placed records (recordsOf n) ≡ records
-  -- a job in the present form, of at most the program's 16 variants, is answered or refused as before, and its records are its rows
+  -- a job of edition 1 has its row numbers as record numbers,
+  pub first-edition : (s : List ℕ) (job : Job) → readJob s ≡ Held job → editionOf s ≡ One → numbersOf s ≡ rowNumbers (length (tableOfJob job .starts))
+  -- and one of at most the program's 16 variants is answered or refused as before, and its records are its rows
   pub present : (c : Call) → length (c .table .starts) ≤ 16
       → (numberedAnswer (numberedByRow c) ≡ answerOf c) × ((numberedRows (numberedByRow c) ≡ rowsOf c) × (recordsOf (numberedByRow c) ≡ rowsOf c))

@@ -29,16 +29,21 @@ use Rattle.meta.specs.declared.HaplotypeMeta.{HaplotypeMeta}
 use Rattle.meta.specs.declared.Made.{Made}
 use Rattle.meta.specs.declared.Combined.{Combined}
 use Rattle.meta.specs.Promises.{NewPromise, NewBlankPromise, CombinePromise, MetaOfWordsPromise, WordsOfMetaPromise, CombineAllPromise}
+use Rattle.form.specs.declared.records.Edition.{Edition}
 use Rattle.form.specs.declared.records.Kind.{Kind}
 use Rattle.form.specs.declared.records.Record.{Record}
 use Rattle.form.specs.declared.records.Scan.{Scan}
 use Rattle.reader.specs.declared.Reading.{Reading}
+use Rattle.reader.specs.declared.numbers.Numbering.{Numbering}
 use Rattle.writer.specs.declared.Writing.{Writing}
+use Rattle.editions.specs.declared.Moving.{Moving}
+use Rattle.editions.specs.Promises.{MoveJobPromise}
 use Rattle.form.specs.Lent.{Lent}
 use Rattle.fields.specs.Promises.{U8AtPromise, U32AtPromise, U64AtPromise, I32OfPromise, U32OfPromise, FloatOfPromise, PutU8Promise, PutU32Promise, PutU64Promise}
 use Rattle.form.specs.Promises.{ScanPromise, KindOfPromise, BodyLenPromise, RecordAtPromise, ReadSettingsPromise, ReadSettings41Promise, Settings41FaultPromise, WriteSettingsPromise}
-use Rattle.reader.specs.Promises.{ReadJobPromise}
-use Rattle.writer.specs.Promises.{WriteJobPromise}
+use Rattle.form.specs.Promises.{EditionOfPromise, SettingsByPromise, WriteSettings41Promise}
+use Rattle.reader.specs.Promises.{ReadJobPromise, ReadNumbersPromise}
+use Rattle.writer.specs.Promises.{WriteJobPromise, WriteNumberedJobPromise}
 use Rattle.text.specs.Promises.{PutBytesPromise, PutDigitsPromise, PutRefusedPromise, PutHapPromise, PutAnswerPromise}
 use Rattle.bed.specs.declared.BedRead.{BedRead}
 use Rattle.bed.specs.declared.BedWritten.{BedWritten}
@@ -55,7 +60,7 @@ use Rattle.capi.specs.Promises.{NdSeqToKmerPromise, NdSeqsimPromise, NdSizesimP
 use Rattle.capi.specs.Promises.{NdReadBedPromise, NdWriteBedPromise, NdCheckPathPromise}
 use Rattle.capi.specs.Promises.{NdCompanionsAddPromise, NdCompanionsRemovePromise, NdCompanionsTogetherPromise, NdCompanionsCountPromise}
 use Rattle.capi.specs.Promises.{NdMetaNewPromise, NdMetaBlankPromise, NdMetaCombinePromise}
-use Rattle.capi.specs.Promises.{NdBookSavePromise, NdBookReadPromise, NdBookRestorePromise}
+use Rattle.capi.specs.Promises.{NdBookSavePromise, NdBookReadPromise, NdBookRestorePromise, NdMoveJobPromise}
 
 -- at most one result meets a promise of a value, and at most one pair a promise of what a slice holds at exit and a value
 abbrev pub One : (A : Type 0) → (A → Type 0) → Type 0
@@ -164,12 +169,19 @@ pub record Unique : Type 0 where
   pub record-at : (s : List ℕ) (at : ℕ) → One Record (RecordAtPromise s at)
   pub read-settings : (b : List ℕ) → One Settings (ReadSettingsPromise b)
   pub read-settings41 : (b : List ℕ) → One Settings (ReadSettings41Promise b)
+  pub settings-by : (e : Edition) (b : List ℕ) → One Settings (SettingsByPromise e b)
   pub settings41-fault : (b : List ℕ) → One ℕ (Settings41FaultPromise b)
   pub write-settings : (out : List ℕ) (at : ℕ) (s : Settings) → One (List ℕ) (WriteSettingsPromise out at s)
+  pub write-settings41 : (out : List ℕ) (at : ℕ) (s : Settings) → One (List ℕ) (WriteSettings41Promise out at s)
+  pub edition-of : (s : List ℕ) → One Edition (EditionOfPromise s)
   pub scan : (bytes : List ℕ) → One Scan (ScanPromise bytes)
   pub read-job : (bytes : List ℕ) (t : Lent) → Two Lent Reading (ReadsInto bytes t)
   pub write-job : (s : Settings) (t : Lent) (out : List ℕ)
       → Two (List ℕ) Writing (WriteJobPromise s (t .starts) (t .ends) (t .sizes) (t .negatives) (t .counts) (t .partSizes) (t .partNegatives) (t .partCounts) (t .breaks) (t .letters) out)
+  pub write-numbered-job : (s : Settings) (numbers : List ℕ) (t : Lent) (out : List ℕ)
+      → Two (List ℕ) Writing (WriteNumberedJobPromise s numbers (t .starts) (t .ends) (t .sizes) (t .negatives) (t .counts) (t .partSizes) (t .partNegatives) (t .partCounts) (t .breaks) (t .letters) out)
+  pub read-numbers : (bytes numbers : List ℕ) → Two (List ℕ) Numbering (ReadNumbersPromise bytes numbers)
+  pub move-job : (job : List ℕ) (edition : ℕ) (out : List ℕ) → Two (List ℕ) Moving (MoveJobPromise job edition out)
   pub put-bytes : (out : List ℕ) (at : ℕ) (src : List ℕ) → Two (List ℕ) ℕ (PutBytesPromise out at src)
   pub put-digits : (out : List ℕ) (at n left : ℕ) → Two (List ℕ) ℕ (PutDigitsPromise out at n left)
   pub put-refused : (out : List ℕ) (at n : ℕ) → Two (List ℕ) ℕ (PutRefusedPromise out at n)
@@ -205,6 +217,7 @@ pub record Unique : Type 0 where
       (λ x u. NdReadBedPromise text starts ends name counts (x .starts) (x .ends) (x .name) (u .0) (u .1))
   pub nd-write-bed : (name starts ends rows text : List ℕ) (written : ℕ) → Two (List ℕ) (ℕ × ℕ)
       (λ x u. NdWriteBedPromise name starts ends rows text written x (u .0) (u .1))
+  pub nd-move-job : (job : List ℕ) (edition : ℕ) (out : List ℕ) (written : ℕ) → Two (List ℕ) (ℕ × ℕ) (λ x u. NdMoveJobPromise job edition out written x (u .0) (u .1))
   pub nd-companions-add : (starts ends : List ℕ) (sheet : List Bool) (rows start end : ℕ)
       → Two Companions ℕ (λ x. NdCompanionsAddPromise starts ends sheet rows start end (x .starts) (x .ends) (x .sheet) (x .rows))
   pub nd-companions-remove : (starts ends : List ℕ) (sheet : List Bool) (rows : ℕ) → Two (List Bool × ℕ) ℕ (λ x. NdCompanionsRemovePromise starts ends sheet rows (x .0) (x .1))

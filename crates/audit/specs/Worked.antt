@@ -1,4 +1,4 @@
--- Document 01, "Job form and program": its worked job, and that the definitions give for it what document 01 prints.
+-- Document 01, "Job form and program", and document 02, P7: its worked job in both editions, and that the definitions give for it what document 01 prints.
 use Prim.Native.Nat.{ℕ}
 use mathlib.Core.Path.{_≡_}
 use mathlib.Core.Bool.{true, false}
@@ -12,6 +12,7 @@ use Rattle.kplib.specs.Score.{chainScore}
 use Rattle.kplib.specs.Search.{scoredIn}
 use Rattle.kplib.specs.Answer.{answerOf, rowsOf}
 use Rattle.dive.specs.Numbered.{Numbered, recordsOf}
+use Rattle.form.specs.declared.records.Edition.the-variants.{One, Two}
 use Rattle.form.specs.Job.{Job, jobBytes}
 use Rattle.text.specs.Text.{bytesOf}
 use Rattle.desk.specs.Desk.{deskText}
@@ -70,16 +71,19 @@ twoHaplotypes = record {
 }
 
 -- the lines that document 01 prints, and document 02's `records` (P3) after `rows`
-abbrev pub lines : List ℕ
-lines =
+abbrev pub linesWith : List ℕ → List ℕ
+linesWith records =
     bytesOf "rows 0\n"
-    ++ bytesOf "records 0\n"
+    ++ records
     ++ bytesOf "score 3f800000\n"
     ++ bytesOf "sizesim 3f800000\n"
     ++ bytesOf "seqsim 3f800000\n"
     ++ bytesOf "full yes\n"
     ++ bytesOf "scored 4\n"
     ++ bytesOf "complete yes\n"
+
+abbrev pub lines : List ℕ
+lines = linesWith (bytesOf "records 0\n")
 
 -- the job as a call with just the room that it needs: 1 + (maxpaths + 1) × V queue entries and V rows
 abbrev pub call : Call
@@ -101,7 +105,9 @@ pub record Worked : Type 0 where
   pub rows : rowsOf call ≡ 0 ∷ []
   -- the record of row 0
   pub records : recordsOf numbered ≡ 40 ∷ []
-  -- the program, given the job's bytes, prints these lines
-  pub printed : deskText (jobBytes job) ≡ lines
+  -- the program, given the job's bytes of edition 1, prints these lines
+  pub printed : deskText (jobBytes One [] job) ≡ lines
+  -- and given those of edition 2, with the record numbers 40 and 7, the record of row 0
+  pub second-edition : deskText (jobBytes Two (40 ∷ (7 ∷ [])) job) ≡ linesWith (bytesOf "records 40\n")
   -- of two haplotypes the first has the same lines, and the second is refused by itself
-  pub several : deskText (jobBytes twoHaplotypes) ≡ bytesOf "hap 0\n" ++ lines ++ bytesOf "hap 1\n" ++ bytesOf "refused 9\n"
+  pub several : deskText (jobBytes One [] twoHaplotypes) ≡ bytesOf "hap 0\n" ++ lines ++ bytesOf "hap 1\n" ++ bytesOf "refused 9\n"

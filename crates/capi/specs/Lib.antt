@@ -1,3 +1,4 @@
 pub mod Words
 pub mod Held
+pub mod Moved
 pub mod Promises

@@ -26,6 +26,8 @@ use Rattle.meta.specs.Meta.{newMade, blankMade, combinedTwo}
 use Rattle.meta.specs.Words.{metaOfWords, wordsOfMeta}
 use Rattle.book.specs.Changes.{savedOf, afterSave, restoredOf, afterRestore, savedNumber, savedVersion}
 use Rattle.book.specs.Promises.{ReadPromise}
+use Rattle.editions.specs.Moving.{movedOver, movingOf, outAfter}
+use Rattle.capi.specs.Moved.{movingNumber, movingBytes}
 use Rattle.capi.specs.Words.{settingsOfWords, wordsUnless}
 
 abbrev pub NdSeqToKmerPromise : List ℕ → ℕ → Bool → ℕ → List ℤ → List ℤ → ℕ → Type 0
@@ -122,3 +124,8 @@ abbrev pub NdBookRestorePromise : List ℕ → ℕ → ℕ → List ℕ → ℕ 
 NdBookRestorePromise book version added book' added' r =
     let told = restoredOf book version in
     (r ≡ savedNumber told) × ((added' ≡ savedVersion told) × (book' ≡ afterRestore book version))
+
+abbrev pub NdMoveJobPromise : List ℕ → ℕ → List ℕ → ℕ → List ℕ → ℕ → ℕ → Type 0
+NdMoveJobPromise job edition out written out' written' r =
+    let moving = movingOf edition job (length out) in
+    (r ≡ movingNumber moving) × ((written' ≡ movingBytes moving) × (out' ≡ outAfter moving (movedOver job) out))

@@ -5,6 +5,7 @@ ghost use Rattle.capi.specs.Promises.{NdApplyHaplotypePromise, NdApplyHa
 ghost use Rattle.capi.specs.Promises.{NdCompanionsAddPromise, NdCompanionsRemovePromise, NdCompanionsTogetherPromise, NdCompanionsCountPromise};
 ghost use Rattle.capi.specs.Promises.{NdMetaNewPromise, NdMetaBlankPromise, NdMetaCombinePromise};
 ghost use Rattle.capi.specs.Promises.{NdBookSavePromise, NdBookReadPromise, NdBookRestorePromise};
+ghost use Rattle.capi.specs.Promises.{NdMoveJobPromise};
 use crate::words::length_word;
 use crate::words::settings_of_words;
 use crate::words::word_of_flag;
@@ -13,6 +14,7 @@ use bed::BedWritten;
 use book::Saved;
 use companions::Later;
 use companions::Paired;
+use editions::Moving;
 use kplib::checkpath::PathCheck;
 use kplib::report::put_report;
 use kplib::vargraph::ChainCount;
@@ -446,6 +448,24 @@ pub extern "C" fn nd_book_restore(book: &mut [u8], version: u32, added: &mut u32
         }
         Saved::Refused(n) => {
             *added = 0;
+            n
+        }
+    }
+}
+
+// A job's bytes in the edition asked for, 1 or 2. How many are written; 0 on a refusal.
+#[no_mangle]
+pub extern "C" fn nd_move_job(job: &[u8], edition: u32, out: &mut [u8], written: &mut u64) -> u32
+    ensures { λ r. ⌜ NdMoveJobPromise (now (job .entry)) edition (now (out .entry)) (now (written .entry)) (now (out .exit)) (now (written .exit)) r ⌝ }
+{
+    let moved = editions::move_job(job, edition, out);
+    match moved {
+        Moving::Wrote(bytes) => {
+            *written = bytes as u64;
+            ACCEPTED
+        }
+        Moving::Refused(n) => {
+            *written = 0u64;
             n
         }
     }

@@ -1,24 +1,20 @@
--- What the desk asks of a numbered answer: k 0 is refused by 1, a table's row numbers stand at the front of all, and rows and records are no more than the room that
--- they were placed in.
-use Prim.Native.Nat.{ℕ, zero, suc, _≤_}
+-- What the desk asks of a numbered answer: k 0 is refused by 1, and rows and records are no more than the room that they were placed in.
+use Prim.Native.Nat.{ℕ, _≤_}
 use native.Mathlib.Omega.{arith}
-use mathlib.Core.Path.{_≡_, refl, sym, ap, _∙_}
-use mathlib.Core.Bool.{Bool, true, false}
-use mathlib.Core.List.{List, [], _∷_, _++_}
-use lib.Dec.{ltb}
+use mathlib.Core.Path.{_≡_, sym, ap, _∙_}
+use mathlib.Core.List.{List, _++_}
 use lib.ListN.{length, getD, take, drop, length-append, length-drop, length-map}
-use lib.Seq.{take-at, take-all, take-append-le}
-use borrow.Author.Tests.{ltb-true, ltb-false}
+use lib.Seq.{take-at}
 use Rattle.params.specs.declared.Settings.{Settings}
 use Rattle.kplib.specs.declared.traverse.Answer.{Answer}
-use Rattle.params.specs.Numbers.{Table, Parts, partsOf, callOf, badK}
+use Rattle.params.specs.Numbers.{Table, Parts, callOf, badK}
 use Rattle.kplib.specs.Answer.{queueRoom}
 use Rattle.dive.specs.Numbered.{Numbered, numberedFault, numberedAnswer, numberedRows, recordsAt, recordsOf}
 use Rattle.metrics.specs.Placed.{placed}
 use Rattle.text.specs.Text.{answerText}
 use Rattle.text.specs.Written.{Written}
 use Rattle.text.proofs.TextLaws.{answer-short}
-use Rattle.desk.specs.Desk.{rowNumbers, askedOf, haplotypeText, wholeFault}
+use Rattle.desk.specs.Desk.{askedOf, haplotypeText}
 use Rattle.desk.specs.Memory.{Printed, mostOfOne}
 use Rattle.desk.proofs.DeskLaws.{printed-as}
 
@@ -29,42 +25,6 @@ fault-k-zero n e = rw e
 pub refused-k-zero : (n : Numbered) → n .call .settings .k ≡ 0 → numberedAnswer n .refusal ≡ 1
 unfolding numberedAnswer
 refused-k-zero n e = fault-k-zero n e
-
--- n row numbers, and the first v of them
-pub row-count : (n : ℕ) → length (rowNumbers n) ≡ n
-unfolding rowNumbers
-row-count zero = refl
-row-count (suc n) = let h = row-count n in simp length-append (omega arith)
-
-front-numbers : (v n : ℕ) → v ≤ n → take v (rowNumbers n) ≡ rowNumbers v
-unfolding rowNumbers
-front-numbers zero zero h = refl
-front-numbers (suc v) zero h = let z : ⊥ = omega arith in absurd z
-front-numbers v (suc n) h = go (ltb n v) refl (front-numbers v n)
-  where
-    go : (t : Bool) → ltb n v ≡ t → (v ≤ n → take v (rowNumbers n) ≡ rowNumbers v) → take v (rowNumbers n ++ (n ∷ [])) ≡ rowNumbers v
-    go true f before =
-        let a = ltb-true n v f in
-        let e : v ≡ suc n = omega arith in
-        let c = row-count (suc n) in
-        rw e (take-all (suc n) (rowNumbers (suc n)) (omega arith))
-    go false f before =
-        let c = row-count n in
-        let a = ltb-false n v f in
-        take-append-le v (rowNumbers n) (n ∷ []) (omega arith) ∙ before a
-
--- what is lent of the program's 16 numbers
-pub lent-by-row : {xs : List ℕ} (v : ℕ) → xs ≡ rowNumbers 16 → v ≤ 16 → take v xs ≡ rowNumbers v
-lent-by-row v e h = rw e (front-numbers v 16 h)
-
-pub lent-count : {xs : List ℕ} (v : ℕ) → xs ≡ rowNumbers 16 → v ≤ 16 → v ≡ length (take v xs)
-lent-count v e h = sym (ap length (lent-by-row v e h) ∙ row-count v)
-
--- the call without parts, by the program's own numbers
-pub whole-asked : (s : Settings) (t : Table) (numbers : List ℕ) → numbers ≡ rowNumbers (length (t .starts)) →
-    {r : ℕ} → r ≡ numberedFault (record { call = callOf s t (partsOf [] []) 1025 16; numbers = numbers; recordRoom = 16 }) → r ≡ wholeFault s t
-unfolding wholeFault
-whole-asked s t numbers by-row e = rw (← by-row) e
 
 -- rows that were placed in a buffer, which kept its length, are no more than it has
 placed-few : (old rows new : List ℕ) → new ≡ placed old rows → length new ≡ length old → length rows ≤ length old
@@ -88,12 +48,12 @@ module _ (s : Settings) (t : Table) (p : Parts) (numbers links keys rows records
   asked = record { call = callOf s t p (queueRoom links keys) (length rows); numbers = numbers; recordRoom = length records }
 
   abbrev held : Numbered
-  held = askedOf s t p
+  held = askedOf s t numbers p
 
-  module _ (by-row : numbers ≡ rowNumbers (length (t .starts))) (link-room : 1025 ≡ length links) (key-room : 1025 ≡ length keys)
+  module _ (link-room : 1025 ≡ length links) (key-room : 1025 ≡ length keys)
       (row-room : length rows ≡ 16) (record-room : length records ≡ 16) where
     asked-is : asked ≡ held
-    asked-is = rw (by-row, sym link-room, sym key-room, row-room, record-room)
+    asked-is = rw (sym link-room, sym key-room, row-room, record-room)
 
     module _ (a : Answer) (is : a ≡ numberedAnswer asked) (rows' : List ℕ) (stands : rows' ≡ placed rows (numberedRows asked))
         (records' : List ℕ) (records-stand : records' ≡ placed records (recordsOf asked)) where
@@ -110,7 +70,7 @@ module _ (s : Settings) (t : Table) (p : Parts) (numbers links keys rows records
       records-taken : take (a .rows) records' ≡ recordsOf asked
       records-taken = rw records-stand (take-placed records (recordsOf asked) (a .rows) (sym records-are))
 
-      answer-text : answerText a (take (a .rows) rows') (take (a .rows) records') ≡ haplotypeText s t p
+      answer-text : answerText a (take (a .rows) rows') (take (a .rows) records') ≡ haplotypeText s t numbers p
       unfolding haplotypeText
       answer-text =
           ap (λ (xs : List ℕ). answerText a xs (take (a .rows) records')) rows-taken
@@ -119,7 +79,7 @@ module _ (s : Settings) (t : Table) (p : Parts) (numbers links keys rows records
           ∙ ap (λ (n : Numbered). answerText (numberedAnswer n) (numberedRows n) (recordsOf n)) asked-is
 
       pub answer-printed : length rows' ≡ 16 → {out out' : List ℕ} {at r : ℕ} → Written out at (answerText a (take (a .rows) rows') (take (a .rows) records')) out' r
-          → Printed mostOfOne out at (haplotypeText s t p) out' r
+          → Printed mostOfOne out at (haplotypeText s t numbers p) out' r
       answer-printed l w =
           let e : length (take (a .rows) rows') ≡ length (numberedRows asked) = ap length rows-taken in
           let f : length (take (a .rows) records') ≡ length (numberedRows asked) = ap length records-taken ∙ as-many-records numbers (numberedRows asked) in

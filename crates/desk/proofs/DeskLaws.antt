@@ -7,7 +7,7 @@ use mathlib.Core.List.{List, _++_}
 use lib.ListN.{length, drop, length-append}
 use lib.Seq.{sets-eq}
 use borrow.Author.Tests.{lt-ltb, le-ltb}
-use Rattle.form.specs.Job.{readJob}
+use Rattle.form.specs.Job.{readJob, numbersOf}
 use Rattle.metrics.specs.Placed.{placed}
 use Rattle.text.specs.Text.{refusedText}
 use Rattle.text.specs.Written.{Written}
@@ -48,6 +48,6 @@ module _ (input : List ℕ) where
   unfolding deskText
   desk-long h = simp (lt-ltb _ _ h)
 
-  pub desk-read : length input ≤ 32768 → readText (readJob input) ≡ deskText input
+  pub desk-read : length input ≤ 32768 → readText (numbersOf input) (readJob input) ≡ deskText input
   unfolding deskText
   desk-read h = simp (le-ltb _ _ h)

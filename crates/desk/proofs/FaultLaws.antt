@@ -1,7 +1,7 @@
--- No fault of the form has the number 30: a reader that gives it has found the form good and its room too small. A form in good order has 1 to 16 haplotypes, and settings whose letters are 0.
+-- No fault of the form has the number 30: a reader that gives it has found the form good and its room too small. A form in good order has 1 to 16 haplotypes.
 use Prim.Native.Nat.{ℕ, zero, suc, _+_, _≤_, _<_}
 use native.Mathlib.Omega.{arith}
-use mathlib.Core.Path.{_≡_, refl, ap, subst, _∙_}
+use mathlib.Core.Path.{_≡_, refl, subst}
 use mathlib.Core.Bool.{Bool, true, false, cond, not, _&&_}
 use mathlib.Core.List.{List, [], _∷_}
 use lib.Dec.{ltb, leb, eqb}
@@ -12,10 +12,9 @@ use Rattle.form.specs.declared.records.Scan.{Scan}
 use Rattle.form.specs.declared.records.Scan.the-variants.{Good, Refused}
 use Rattle.form.specs.declared.records.Kind.{Kind}
 use Rattle.form.specs.Form.{kindOf, isEnd, isNext, isUnknown, bodyLen, inPlace, flagsOk, countOf, padOk, tooMany, faultOf, after, outset, counted, judge, run}
-use Rattle.form.specs.Settings40.{settingsIn}
 use Rattle.form.specs.Job.{Job, Read, Faulty, Held, readOf, jobOf, readJob}
-use Rattle.form.specs.Lent.{breaksOf, jobCounts, scanOf}
-use Rattle.form.proofs.CountLaws.{scan-is}
+use Rattle.form.specs.Lent.{breaksOf, jobCounts}
+use Rattle.form.proofs.NumberLaws.{held-good, held-job}
 use Rattle.form.proofs.HaplotypeLaws.{some-haplotype}
 
 abbrev Low : Scan → Type 0
@@ -87,25 +86,11 @@ job-low input = read-low (run input 0 outset) (jobOf input) (run-low input 0 out
 pub form-fault : (input : List ℕ) (n : ℕ) → readJob input ≡ Faulty n → n < 30
 form-fault input n e = subst LowRead e (job-low input)
 
--- the first pass over a job that was read
 module _ (input : List ℕ) (job : Job) (held : readJob input ≡ Held job) where
-  passed : run input 0 outset ≡ Good (jobCounts job)
-  unfolding scanOf
-  passed = scan-is input ∙ ap scanOf held
-
   pub few-breaks : length (breaksOf (job .haplotypes)) ≤ 15
   unfolding jobCounts
-  few-breaks = subst Low passed (run-low input 0 outset (omega arith))
-
-  job-is : jobOf input ≡ job
-  unfolding readJob
-  job-is = let e : readOf (Good (jobCounts job)) (jobOf input) ≡ Held job = rw passed at held in cc
+  few-breaks = subst Low (held-good input held) (run-low input 0 outset (omega arith))
 
   pub some-held : 1 ≤ length (job .haplotypes)
   unfolding jobOf
-  some-held = subst (λ (j : Job). 1 ≤ length (j .haplotypes)) job-is (some-haplotype input 0)
-
-  -- a reading that the counter knows
-  pub known-held : job .settings .letters ≤ 1
-  unfolding jobOf settingsIn
-  known-held = subst (λ (j : Job). j .settings .letters ≤ 1) job-is (omega arith)
+  some-held = subst (λ (j : Job). 1 ≤ length (j .haplotypes)) (held-job input held) (some-haplotype input 0)

@@ -57,17 +57,14 @@ module _ (reading k width : ℕ) (t : Lent) (fits : Fits reading t) (low : 1 ≤
       record { known = fits .known; k-low = low; k-high = high; width-is = power-is; alike = fits .part-alike; letters-end = omega arith; few = fits .few; table-end = omega arith }
 
   -- what is counted of the parts fits the blocks
-  pub blocks-fit : (features part-new : List ℤ) → length part-new ≡ 32768 →
-      BlocksFit width (tableOf (t .starts) (t .ends) (t .sizes) features) (partsOf (t .partSizes) (take (length (t .partCounts) * width) part-new)) (t .breaks)
-  blocks-fit features part-new e =
+  pub blocks-fit : (part-new : List ℤ) → length part-new ≡ 32768 →
+      BlocksFit width (partsOf (t .partSizes) (take (length (t .partCounts) * width) part-new)) (t .breaks)
+  blocks-fit part-new e =
       let a = parts-end in
-      let v = fits .starts-alike in
-      let w = fits .variants in
       let q = fits .sizes-alike in
       let r = fits .parts in
       let n : length (take (length (t .partCounts) * width) part-new) ≡ length (t .partCounts) * width = length-take-le (length (t .partCounts) * width) part-new (omega arith) in
       record {
-        variants = omega arith;
         parts = omega arith;
         haplotypes = fits .haplotypes;
         rising = fits .rising;
@@ -113,11 +110,11 @@ pub within-limits : (s : Settings) (long : Bool) (fault : ℕ) → fault ≡ lim
 unfolding limitFault
 within-limits s long fault is e = limits-pass s long (ltb 4 (s .k)) (ltb 63 (s .maxpaths)) (ltb (s .k) 1) refl refl (sym is ∙ e)
 
-module _ (s : Settings) (t : Lent) (long : Bool) (lengths : long ≡ overlong 0 (lentEnds t)) (fault : ℕ) (is : fault ≡ limitFault long s) where
+module _ (s : Settings) (numbers : List ℕ) (t : Lent) (long : Bool) (lengths : long ≡ overlong 0 (lentEnds t)) (fault : ℕ) (is : fault ≡ limitFault long s) where
   fault-held : fault ≡ heldFault s t
   fault-held = is ∙ ap (λ (l : Bool). limitFault l s) lengths
 
-  pub limit-text : (fault ≡ 0 → ⊥) → refusedText fault ≡ heldText s t
+  pub limit-text : (fault ≡ 0 → ⊥) → refusedText fault ≡ heldText s numbers t
   unfolding heldText
   limit-text h = rw (← fault-held) (simp (ne-eqb fault 0 h))
 
@@ -125,8 +122,8 @@ module _ (s : Settings) (t : Lent) (long : Bool) (lengths : long ≡ overlong 0 
   pub counted-text : (width next end : ℕ) (old new part-old part-new : List ℤ) → width ≡ 4 ^ s .k → fault ≡ 0 →
       RowsCounted (s .letters) (s .k) width (t .negatives) (t .counts) (t .letters) 0 next old new →
       RowsCounted (s .letters) (s .k) width (t .partNegatives) (t .partCounts) (t .letters) next end part-old part-new →
-      haplotypesText s (tableOf (t .starts) (t .ends) (t .sizes) (take (length (t .counts) * width) new))
-      (stretches width 0 (lentEnds t) (partsOf (t .partSizes) (take (length (t .partCounts) * width) part-new))) ≡ heldText s t
+      haplotypesText s (tableOf (t .starts) (t .ends) (t .sizes) (take (length (t .counts) * width) new)) numbers
+      (stretches width 0 (lentEnds t) (partsOf (t .partSizes) (take (length (t .partCounts) * width) part-new))) ≡ heldText s numbers t
   unfolding heldText
   counted-text width next end old new part-old part-new wide none a b =
       let n : next ≡ sum (t .counts) = a .next ∙ zero-add (sum (t .counts)) in
@@ -182,17 +179,17 @@ part-sum [] = refl
 part-sum (x ∷ xs) = rw (part-sum xs, length-append)
 
 -- k 0 is refused by 1, whether one haplotype is asked for or several
-zero-haplotypes : (s : Settings) (t : Table) (ps : List Parts) → s .k ≡ 0 → 1 ≤ length ps → refusedText 1 ≡ haplotypesText s t ps
+zero-haplotypes : (s : Settings) (t : Table) (numbers : List ℕ) (ps : List Parts) → s .k ≡ 0 → 1 ≤ length ps → refusedText 1 ≡ haplotypesText s t numbers ps
 unfolding haplotypesText haplotypeText wholeFault answerText
-zero-haplotypes s t [] e h = let z : ⊥ = omega arith in absurd z
-zero-haplotypes s t (p ∷ []) e h = rw (refused-k-zero (askedOf s t p) e)
-zero-haplotypes s t (p ∷ (q ∷ ps)) e h = rw (fault-k-zero (askedOf s t (partsOf [] [])) e)
+zero-haplotypes s t numbers [] e h = let z : ⊥ = omega arith in absurd z
+zero-haplotypes s t numbers (p ∷ []) e h = rw (refused-k-zero (askedOf s t numbers p) e)
+zero-haplotypes s t numbers (p ∷ (q ∷ ps)) e h = rw (fault-k-zero (askedOf s t numbers (partsOf [] [])) e)
 
-zero-text : (job : Job) → 1 ≤ length (job .haplotypes) → job .settings .k < 1 → refusedText 1 ≡ jobText job
+zero-text : (numbers : List ℕ) (job : Job) → 1 ≤ length (job .haplotypes) → job .settings .k < 1 → refusedText 1 ≡ jobText numbers job
 unfolding jobText
-zero-text job some h =
+zero-text numbers job some h =
     let e : job .settings .k ≡ 0 = omega arith in
-    zero-haplotypes (job .settings) (tableOfJob job) (map (partsOfHaplotype (job .settings .letters) (job .settings .k)) (job .haplotypes)) e (simp length-map some)
+    zero-haplotypes (job .settings) (tableOfJob job) numbers (map (partsOfHaplotype (job .settings .letters) (job .settings .k)) (job .haplotypes)) e (simp length-map some)
 
 -- the limits, as the program tests them and as its definition lists them
 by-limits : (long k-over paths-over k-zero : Bool) (found job : List ℕ) → (k-zero ≡ true → refusedText 1 ≡ job) → found ≡ job →
@@ -232,18 +229,19 @@ module _ (job : Job) (more : List ℕ) where
         ≡ map (partsOfHaplotype (job .settings .letters) (job .settings .k)) (job .haplotypes)
     stretches-held = rw (ends-held, parts-held) (stretches-are (job .settings .letters) (job .settings .k) (job .haplotypes) some)
 
-    found-held : haplotypesText (job .settings) (tableFrom (job .settings .letters) (job .settings .k) (heldIn job more))
-        (stretches (4 ^ job .settings .k) 0 (lentEnds (heldIn job more)) (partsFrom (job .settings .letters) (job .settings .k) (heldIn job more))) ≡ jobText job
+    found-held : (numbers : List ℕ) → haplotypesText (job .settings) (tableFrom (job .settings .letters) (job .settings .k) (heldIn job more)) numbers
+        (stretches (4 ^ job .settings .k) 0 (lentEnds (heldIn job more)) (partsFrom (job .settings .letters) (job .settings .k) (heldIn job more))) ≡ jobText numbers job
     unfolding jobText
-    found-held = rw (stretches-held, table-held)
+    found-held numbers = rw (stretches-held, table-held)
 
     module _ (v : length (job .variants) ≤ 16) where
-      pub text-held : heldText (job .settings) (heldIn job more) ≡ readText (Held job)
+      pub text-held : (numbers : List ℕ) → heldText (job .settings) numbers (heldIn job more) ≡ readText numbers (Held job)
       unfolding heldText limitFault readText tooLarge
-      text-held =
+      text-held numbers =
           let k = job .settings .k in
           rw (long-held, le-ltb 16 (length (job .variants)) v)
-          (by-limits (manyParts (job .haplotypes)) (ltb 4 k) (ltb 63 (job .settings .maxpaths)) (ltb k 1) _ (jobText job) (λ h. zero-text job some (ltb-true k 1 h)) found-held)
+          (by-limits (manyParts (job .haplotypes)) (ltb 4 k) (ltb 63 (job .settings .maxpaths)) (ltb k 1) _ (jobText numbers job)
+          (λ h. zero-text numbers job some (ltb-true k 1 h)) (found-held numbers))
 
       pub fits-held : length (allParts job) ≤ 128 → length (breaksOf (job .haplotypes)) ≤ 15 → length (lettersOf job ++ more) ≤ 32768 → {reading : ℕ} → reading ≤ 1 → Fits reading (heldIn job more)
       unfolding heldIn
@@ -256,7 +254,6 @@ module _ (job : Job) (more : List ℕ) where
             parts = simp length-map p;
             haplotypes = b;
             rising = rw length-map (rising-is (job .haplotypes) some);
-            starts-alike = simp length-map;
             alike = simp length-map;
             part-alike = simp length-map;
             sizes-alike = simp length-map;

@@ -1,12 +1,12 @@
 -- What reading into the program's arrays answers. A form of at most 32,768 bytes has fewer letters, and 16 haplotypes of at most 8 parts have at most 128, so
 -- the room is too small only for over 16 variants or over 8 parts in a haplotype: the reader's 30 is the program's 26. Any other job is read whole, and the fronts of the arrays are its lists.
-use Prim.Native.Nat.{ℕ, _≤_}
+use Prim.Native.Nat.{ℕ, _^_, _≤_}
 use native.Mathlib.Omega.{arith}
 use mathlib.Core.Path.{_≡_, refl, sym, ap, subst, _∙_}
 use mathlib.Core.Bool.{Bool, true, false, cond}
 use mathlib.Core.List.{List, _++_, map}
 use lib.IntN.{pos}
-use lib.ListN.{length, drop, replicate, length-append, length-map, length-drop}
+use lib.ListN.{length, take, drop, replicate, length-append, length-map, length-drop}
 use borrow.Author.Tests.{ltb-false, leb-true, le-leb, ne-eqb}
 use Rattle.params.specs.declared.Settings.{Settings}
 use Rattle.paths.proofs.BooleanLaws.{and-both}
@@ -14,17 +14,18 @@ use Rattle.params.proofs.CheckLaws.{or-no}
 use Rattle.form.specs.declared.records.Counts.{Counts}
 use Rattle.reader.specs.declared.Reading.{Reading}
 use Rattle.reader.specs.declared.Reading.the-variants.{Refused as Declined, Job as Given}
-use Rattle.form.specs.Job.{Variant, Part, Job, allParts, Read, Faulty, Held, readJob}
+use Rattle.form.specs.Job.{Variant, Part, Job, allParts, Read, Faulty, Held, readJob, numbersOf}
 use Rattle.metrics.specs.Placed.{placed}
 use Rattle.form.specs.Lent.{Lent, lent, lettersOf, breaksOf, jobCounts}
-use Rattle.reader.specs.Reading.{five, three, hasRoom, lentWith, readingOf, lentAfter}
+use Rattle.reader.specs.Reading.{five, three, hasRoom, lentWith, readingOf, lentAfter, numbersAfter}
 use Rattle.form.proofs.LetterLaws.{letters-within}
+use Rattle.form.proofs.NumberLaws.{letters-known, numbers-known}
 use Rattle.form.proofs.HaplotypeLaws.{long-breaks}
 use Rattle.text.specs.Text.{refusedText}
 use Rattle.desk.specs.Desk.{tooLarge, jobText, readText}
-use Rattle.desk.specs.Memory.{heldText, cut, toldAs, readingText, Fits, Front, Loaded}
+use Rattle.desk.specs.Memory.{heldText, cut, toldAs, readingText, numbersHeld, Fits, Front, Loaded}
 use Rattle.desk.proofs.AnswerLaws.{take-placed}
-use Rattle.desk.proofs.FaultLaws.{form-fault, few-breaks, some-held, known-held}
+use Rattle.desk.proofs.FaultLaws.{form-fault, few-breaks, some-held}
 use Rattle.desk.proofs.StretchLaws.{few-parts}
 use Rattle.desk.proofs.MemoryLaws.{heldIn, text-held, fits-held}
 
@@ -58,18 +59,18 @@ unfolding toldAs
 told-other n h = simp (ne-eqb n 30 h)
 
 -- which text what the reader said has, and what it says of the slices
-module _ {read : Reading} (t : Lent) where
-  pub declined-reading : {n : ℕ} → read ≡ Declined n → refusedText (toldAs n) ≡ readingText read t
+module _ {read : Reading} (numbers : List ℕ) (t : Lent) where
+  pub declined-reading : {n : ℕ} → read ≡ Declined n → refusedText (toldAs n) ≡ readingText read numbers t
   unfolding readingText
   declined-reading e = rw e
 
   module _ {s : Settings} {c : Counts} (e : read ≡ Given s c) where
-    pub given-reading : heldText s (cut (c .variants) (c .parts) (c .breaks) t) ≡ readingText read t
+    pub given-reading : heldText s (take (c .variants) numbers) (cut (c .variants) (c .parts) (c .breaks) t) ≡ readingText read numbers t
     unfolding readingText
     given-reading = rw e
 
-    pub given-loaded : Loaded read t → Front (s .letters) (c .variants) (c .parts) (c .breaks) t
-    given-loaded l = subst (λ (x : Reading). Loaded x t) e l
+    pub given-loaded : Loaded read numbers t → Front (s .letters) (c .variants) (c .parts) (c .breaks) numbers t
+    given-loaded l = subst (λ (x : Reading). Loaded x numbers t) e l
 
 placed-long : {A : Type 0} (old new : List A) (n : ℕ) → n ≡ length new → n ≤ length (placed old new)
 placed-long old new n e = rw length-append (omega arith)
@@ -125,7 +126,7 @@ module _ (input : List ℕ) (short : length input ≤ 32768) (t : Lent) (room : 
         absurd n
 
     declined-held : (n : ℕ) (fits : Bool) → hasRoom (jobCounts job) t ≡ fits → Declined n ≡ cond fits (Given (job .settings) (jobCounts job)) (Declined 30)
-        → refusedText (toldAs n) ≡ cond (tooLarge job) (refusedText 26) (jobText job)
+        → refusedText (toldAs n) ≡ cond (tooLarge job) (refusedText 26) (jobText (numbersOf input) job)
     declined-held n true r e = let z : _≡_ {A = ℕ} 0 1 = cc in let w : ⊥ = omega arith in absurd w
     declined-held n false r e =
         let m : n ≡ 30 = cc in
@@ -135,7 +136,7 @@ module _ (input : List ℕ) (short : length input ≤ 32768) (t : Lent) (room : 
     given-held s c true r e = record { job = job; held = held; enough = r; settings-are = cc; counts-are = cc }
     given-held s c false r e = let z : _≡_ {A = ℕ} 0 1 = cc in let w : ⊥ = omega arith in absurd w
 
-  declined-as : (q : Read) → readJob input ≡ q → (n : ℕ) → Declined n ≡ readingOf q t → refusedText (toldAs n) ≡ readText q
+  declined-as : (q : Read) → readJob input ≡ q → (n : ℕ) → Declined n ≡ readingOf q t → refusedText (toldAs n) ≡ readText (numbersOf input) q
   unfolding readingOf readText
   declined-as (Faulty m) r n e = let z : n ≡ m = cc in let h = form-fault input m r in rw z (ap refusedText (sym (told-other m (λ i. omega arith))))
   declined-as (Held job) r n e = declined-held job r n (hasRoom (jobCounts job) t) refl e
@@ -170,6 +171,21 @@ module _ (input : List ℕ) (short : length input ≤ 32768) (t : Lent) (room : 
     part-length : {A : Type 0} (f : Part → A) → length (map f (allParts theJob)) ≡ c .parts
     part-length f = length-map (allParts theJob) f ∙ sym parts-are
 
+    -- as many numbers as variants, so they are placed at the front of their array
+    numbers-many : length (numbersOf input) ≡ c .variants
+    numbers-many = numbers-known input (holds .held) ∙ sym variants-are
+
+    numbers-placed : numbersHeld input ≡ placed (replicate 16 0) (numbersOf input)
+    unfolding numbersAfter
+    numbers-placed =
+        let n = numbers-many in
+        let v = variants-are in
+        let f = few-rows .0 in
+        rw (holds .held) (simp (le-leb (length (numbersOf input)) 16 (omega arith), le-leb (length (numbersOf input)) (2 ^ 32) (omega arith)))
+
+    numbers-front : take (c .variants) (numbersHeld input) ≡ numbersOf input
+    numbers-front = rw numbers-placed (take-placed (replicate 16 0) (numbersOf input) (c .variants) numbers-many)
+
     abbrev rest : List ℕ
     rest = drop (length (lettersOf theJob)) (t .letters)
 
@@ -202,17 +218,19 @@ module _ (input : List ℕ) (short : length input ≤ 32768) (t : Lent) (room : 
       cut-is : cut (c .variants) (c .parts) (c .breaks) u ≡ heldIn theJob rest
       cut-is = ap (cut (c .variants) (c .parts) (c .breaks)) u-is ∙ cut-with
 
-      given-front : Front (s .letters) (c .variants) (c .parts) (c .breaks) u
+      given-front : Front (s .letters) (c .variants) (c .parts) (c .breaks) (numbersHeld input) u
       unfolding lentWith
       given-front =
           let v = variants-are in
           let p = parts-are in
           let some = some-held input theJob (holds .held) in
           let few = few-breaks input theJob (holds .held) in
-          let known : s .letters ≤ 1 = rw (holds .settings-are) (known-held input theJob (holds .held)) in
+          let known : s .letters ≤ 1 = rw (holds .settings-are) (letters-known input (holds .held)) in
           let f : Fits (s .letters) (cut (c .variants) (c .parts) (c .breaks) (lentWith theJob t)) =
           rw cut-with (fits-held theJob rest some (few-rows .0) (few-rows .1) few letters-few known) in
+          let n : c .variants ≤ length (numbersHeld input) = rw numbers-placed (placed-long (replicate 16 0) (numbersOf input) (c .variants) (sym numbers-many)) in
           rw u-is record {
+            numbered = n;
             starts = placed-long (t .starts) (map (λ (x : Variant). x .start) (theJob .variants)) (c .variants) (simp length-map v);
             ends = placed-long (t .ends) (map (λ (x : Variant). x .end) (theJob .variants)) (c .variants) (simp length-map v);
             sizes = placed-long (t .sizes) (map (λ (x : Variant). x .size) (theJob .variants)) (c .variants) (simp length-map v);
@@ -225,18 +243,20 @@ module _ (input : List ℕ) (short : length input ≤ 32768) (t : Lent) (room : 
             fits = f;
           }
 
-      given-text : heldText s (cut (c .variants) (c .parts) (c .breaks) u) ≡ readText (readJob input)
+      given-text : heldText s (take (c .variants) (numbersHeld input)) (cut (c .variants) (c .parts) (c .breaks) u) ≡ readText (numbersOf input) (readJob input)
       given-text =
-          ap (heldText s) cut-is ∙ ap (λ (x : Settings). heldText x (heldIn theJob rest)) (holds .settings-are)
-          ∙ text-held theJob rest (some-held input theJob (holds .held)) (few-rows .0) ∙ ap readText (sym (holds .held))
+          rw (numbers-front, cut-is)
+          (ap (λ (x : Settings). heldText x (numbersOf input) (heldIn theJob rest)) (holds .settings-are)
+          ∙ text-held theJob rest (some-held input theJob (holds .held)) (few-rows .0) (numbersOf input)
+          ∙ ap (readText (numbersOf input)) (sym (holds .held)))
 
   -- what the reader said, either way
-  module _ (u : Lent) (after : u ≡ lentAfter (readJob input) t) where
-    pub reading-loaded : (read : Reading) → read ≡ readingOf (readJob input) t → Loaded read u
+  module _ (u : Lent) (after : u ≡ lentAfter (readJob input) t) {numbers : List ℕ} (stand : numbers ≡ numbersHeld input) where
+    pub reading-loaded : (read : Reading) → read ≡ readingOf (readJob input) t → Loaded read numbers u
     reading-loaded (Declined n) e = tt
-    reading-loaded (Given s c) e = given-front s c (given-as (readJob input) refl s c e) u after
+    reading-loaded (Given s c) e = rw stand (given-front s c (given-as (readJob input) refl s c e) u after)
 
-    pub reading-text : (read : Reading) → read ≡ readingOf (readJob input) t → readingText read u ≡ readText (readJob input)
+    pub reading-text : (read : Reading) → read ≡ readingOf (readJob input) t → readingText read numbers u ≡ readText (numbersOf input) (readJob input)
     unfolding readingText
     reading-text (Declined n) e = declined-as (readJob input) refl n e
-    reading-text (Given s c) e = given-text s c (given-as (readJob input) refl s c e) u after
+    reading-text (Given s c) e = rw stand (given-text s c (given-as (readJob input) refl s c e) u after)

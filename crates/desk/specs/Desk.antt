@@ -1,5 +1,5 @@
--- Document 01, "Job form and program", and document 02, P1: the text that the program prints for the bytes that it is given.
-use Prim.Native.Nat.{ℕ, zero, suc}
+-- Document 01, "Job form and program", and document 02, P1, P3 and P7: the text that the program prints for the bytes that it is given.
+use Prim.Native.Nat.{ℕ, suc}
 use mathlib.Core.Bool.{Bool, false, _||_, cond}
 use mathlib.Core.List.{List, [], _∷_, _++_, map}
 use lib.Dec.{ltb, eqb}
@@ -9,7 +9,7 @@ use Rattle.metrics.specs.Letters.{countsBy}
 use Rattle.params.specs.Numbers.{Table, Parts, Call, tableOf, partsOf, callOf}
 use Rattle.params.specs.declared.Settings.{Settings}
 use Rattle.dive.specs.Numbered.{Numbered, numberedFault, numberedAnswer, numberedRows, recordsOf}
-use Rattle.form.specs.Job.{Variant, Part, Job, Read, Faulty, Held, readJob}
+use Rattle.form.specs.Job.{Variant, Part, Job, Read, Faulty, Held, readJob, numbersOf}
 use Rattle.text.specs.Text.{refusedText, hapText, answerText}
 
 -- the feature rows of the variants one behind the other, and of the parts, by a reading
@@ -41,44 +41,42 @@ unfoldable pub tooLarge : Job → Bool
 tooLarge job =
     ltb 16 (length (job .variants)) || (manyParts (job .haplotypes) || (ltb 4 (job .settings .k) || ltb 63 (job .settings .maxpaths)))
 
--- the numbers from 0 up to and without n
-unfoldable pub rowNumbers : ℕ → List ℕ
-rowNumbers zero = []
-rowNumbers (suc n) = rowNumbers n ++ (n ∷ [])
-
--- document 02, P3: a job in the present form gets its row numbers as record numbers; there is room for 16 records
-abbrev pub numberedByRow : Call → Numbered
-numberedByRow c = record { call = c; numbers = rowNumbers (length (c .table .starts)); recordRoom = 16 }
+-- document 02, P3: the variants' record numbers; there is room for 16 records
+abbrev pub numberedWith : List ℕ → Call → Numbered
+numberedWith numbers c = record { call = c; numbers = numbers; recordRoom = 16 }
 
 -- what is asked for one haplotype: the search has room for 1,025 queue entries and 16 rows
-abbrev pub askedOf : Settings → Table → Parts → Numbered
-askedOf s t p = numberedByRow (callOf s t p 1025 16)
+abbrev pub askedOf : Settings → Table → List ℕ → Parts → Numbered
+askedOf s t numbers p = numberedWith numbers (callOf s t p 1025 16)
 
 -- one haplotype's lines, those of a job of its own
-unfoldable pub haplotypeText : Settings → Table → Parts → List ℕ
-haplotypeText s t p = let n = askedOf s t p in answerText (numberedAnswer n) (numberedRows n) (recordsOf n)
+unfoldable pub haplotypeText : Settings → Table → List ℕ → Parts → List ℕ
+haplotypeText s t numbers p = let n = askedOf s t numbers p in answerText (numberedAnswer n) (numberedRows n) (recordsOf n)
 
 -- document 02, P1: settings, table and room refuse a whole job of several; they refuse it without parts
-unfoldable pub wholeFault : Settings → Table → ℕ
-wholeFault s t = numberedFault (askedOf s t (partsOf [] []))
+unfoldable pub wholeFault : Settings → Table → List ℕ → ℕ
+wholeFault s t numbers = numberedFault (askedOf s t numbers (partsOf [] []))
 
 -- each block of lines follows a line `hap` and its number, from i on
-unfoldable pub blocksText : Settings → Table → ℕ → List Parts → List ℕ
-blocksText s t i [] = []
-blocksText s t i (p ∷ ps) = hapText i ++ (haplotypeText s t p ++ blocksText s t (suc i) ps)
+unfoldable pub blocksText : Settings → Table → List ℕ → ℕ → List Parts → List ℕ
+blocksText s t numbers i [] = []
+blocksText s t numbers i (p ∷ ps) = hapText i ++ (haplotypeText s t numbers p ++ blocksText s t numbers (suc i) ps)
 
 -- one haplotype keeps document 01's lines; a job has at least one
-unfoldable pub haplotypesText : Settings → Table → List Parts → List ℕ
-haplotypesText s t [] = []
-haplotypesText s t (p ∷ []) = haplotypeText s t p
-haplotypesText s t (p ∷ (q ∷ ps)) = cond (eqb (wholeFault s t) 0) (blocksText s t 0 (p ∷ (q ∷ ps))) (refusedText (wholeFault s t))
+unfoldable pub haplotypesText : Settings → Table → List ℕ → List Parts → List ℕ
+haplotypesText s t numbers [] = []
+haplotypesText s t numbers (p ∷ []) = haplotypeText s t numbers p
+haplotypesText s t numbers (p ∷ (q ∷ ps)) =
+    cond (eqb (wholeFault s t numbers) 0) (blocksText s t numbers 0 (p ∷ (q ∷ ps))) (refusedText (wholeFault s t numbers))
 
-unfoldable pub jobText : Job → List ℕ
-jobText job = haplotypesText (job .settings) (tableOfJob job) (map (partsOfHaplotype (job .settings .letters) (job .settings .k)) (job .haplotypes))
+unfoldable pub jobText : List ℕ → Job → List ℕ
+jobText numbers job =
+    haplotypesText (job .settings) (tableOfJob job) numbers (map (partsOfHaplotype (job .settings .letters) (job .settings .k)) (job .haplotypes))
 
-unfoldable pub readText : Read → List ℕ
-readText (Faulty n) = refusedText n
-readText (Held job) = cond (tooLarge job) (refusedText 26) (jobText job)
+unfoldable pub readText : List ℕ → Read → List ℕ
+readText numbers (Faulty n) = refusedText n
+readText numbers (Held job) = cond (tooLarge job) (refusedText 26) (jobText numbers job)
 
+-- document 02, P7: either edition; the record numbers of edition 1 are the row numbers
 unfoldable pub deskText : List ℕ → List ℕ
-deskText input = cond (ltb 32768 (length input)) (refusedText 26) (readText (readJob input))
+deskText input = cond (ltb 32768 (length input)) (refusedText 26) (readText (numbersOf input) (readJob input))

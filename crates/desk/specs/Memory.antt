@@ -4,11 +4,13 @@ use mathlib.Core.Path.{_≡_}
 use mathlib.Core.Bool.{Bool, false, cond, _||_}
 use mathlib.Core.List.{List, [], _∷_, _++_}
 use lib.Dec.{ltb, eqb}
-use lib.ListN.{length, take, drop}
+use lib.ListN.{length, take, drop, replicate}
 use Rattle.params.specs.declared.Settings.{Settings}
 use Rattle.params.specs.Numbers.{Table, Parts, tableOf, partsOf}
 use Rattle.reader.specs.declared.Reading.{Reading}
 use Rattle.reader.specs.declared.Reading.the-variants.{Refused as Declined, Job as Given}
+use Rattle.reader.specs.Reading.{numbersAfter}
+use Rattle.form.specs.Job.{readJob, numbersOf}
 use Rattle.form.specs.Lent.{Lent, lent}
 use Rattle.form.specs.Lent.{sum}
 use Rattle.text.specs.Text.{refusedText, hapText}
@@ -50,17 +52,16 @@ abbrev pub stretch : ℕ → ℕ → ℕ → Parts → Parts
 stretch e from to p = partsOf (take (to - from) (drop from (p .sizes))) (take (to * e - from * e) (drop (from * e) (p .features)))
 
 -- one block: the `hap` line and the haplotype's lines
-abbrev pub blockText : Settings → Table → ℕ → Parts → List ℕ
-blockText s t i p = hapText i ++ haplotypeText s t p
+abbrev pub blockText : Settings → Table → List ℕ → ℕ → Parts → List ℕ
+blockText s t numbers i p = hapText i ++ haplotypeText s t numbers p
 
 -- each haplotype's own parts
 unfoldable pub stretches : ℕ → ℕ → List ℕ → Parts → List Parts
 stretches e from [] p = []
 stretches e from (to ∷ ends) p = stretch e from to p ∷ stretches e to ends p
 
--- slices that hold the parts of up to 16 haplotypes, for a table of up to 16 variants
-pub record BlocksFit (e : ℕ) (t : Table) (p : Parts) (breaks : List ℕ) : Type 0 where
-  pub variants : length (t .starts) ≤ 16
+-- slices that hold the parts of up to 16 haplotypes
+pub record BlocksFit (e : ℕ) (p : Parts) (breaks : List ℕ) : Type 0 where
   pub parts : length (p .sizes) ≤ 128
   pub haplotypes : length breaks ≤ 15
   pub rising : Rising (length (p .sizes)) 0 (endsOf breaks (length (p .sizes)))
@@ -84,10 +85,10 @@ lentEnds t = endsOf (t .breaks) (length (t .partSizes))
 abbrev pub heldFault : Settings → Lent → ℕ
 heldFault s t = limitFault (overlong 0 (lentEnds t)) s
 
-unfoldable pub heldText : Settings → Lent → List ℕ
-heldText s t =
+unfoldable pub heldText : Settings → List ℕ → Lent → List ℕ
+heldText s numbers t =
     cond (eqb (heldFault s t) 0)
-    (haplotypesText s (tableFrom (s .letters) (s .k) t) (stretches (4 ^ s .k) 0 (lentEnds t) (partsFrom (s .letters) (s .k) t)))
+    (haplotypesText s (tableFrom (s .letters) (s .k) t) numbers (stretches (4 ^ s .k) 0 (lentEnds t) (partsFrom (s .letters) (s .k) t)))
     (refusedText (heldFault s t))
 
 -- slices that fit the program's tables, to be counted by a reading that the counter knows
@@ -97,7 +98,6 @@ pub record Fits (reading : ℕ) (t : Lent) : Type 0 where
   pub parts : length (t .partCounts) ≤ 128
   pub haplotypes : length (t .breaks) ≤ 15
   pub rising : Rising (length (t .partSizes)) 0 (lentEnds t)
-  pub starts-alike : length (t .starts) ≡ length (t .counts)
   pub alike : length (t .negatives) ≡ length (t .counts)
   pub part-alike : length (t .partNegatives) ≡ length (t .partCounts)
   pub sizes-alike : length (t .partSizes) ≡ length (t .partCounts)
@@ -109,8 +109,13 @@ abbrev pub cut : ℕ → ℕ → ℕ → Lent → Lent
 cut v m b t = lent (take v (t .starts)) (take v (t .ends)) (take v (t .sizes)) (take v (t .negatives)) (take v (t .counts))
     (take m (t .partSizes)) (take m (t .partNegatives)) (take m (t .partCounts)) (take b (t .breaks)) (t .letters)
 
--- that they stand there, and fit
-pub record Front (reading v m b : ℕ) (t : Lent) : Type 0 where
+-- the record numbers in their array; zeros where there is no job, and where it has over 16
+abbrev pub numbersHeld : List ℕ → List ℕ
+numbersHeld input = numbersAfter (readJob input) (numbersOf input) (replicate 16 0)
+
+-- that they stand there, a record number for each variant, and fit
+pub record Front (reading v m b : ℕ) (numbers : List ℕ) (t : Lent) : Type 0 where
+  pub numbered : v ≤ length numbers
   pub starts : v ≤ length (t .starts)
   pub ends : v ≤ length (t .ends)
   pub sizes : v ≤ length (t .sizes)
@@ -127,10 +132,10 @@ unfoldable pub toldAs : ℕ → ℕ
 toldAs n = cond (eqb n 30) 26 n
 
 -- what the reader said, and the slices that it filled
-abbrev pub Loaded : Reading → Lent → Type 0
-Loaded (Declined n) t = Unit {0}
-Loaded (Given s c) t = Front (s .letters) (c .variants) (c .parts) (c .breaks) t
+abbrev pub Loaded : Reading → List ℕ → Lent → Type 0
+Loaded (Declined n) numbers t = Unit {0}
+Loaded (Given s c) numbers t = Front (s .letters) (c .variants) (c .parts) (c .breaks) numbers t
 
-unfoldable pub readingText : Reading → Lent → List ℕ
-readingText (Declined n) t = refusedText (toldAs n)
-readingText (Given s c) t = heldText s (cut (c .variants) (c .parts) (c .breaks) t)
+unfoldable pub readingText : Reading → List ℕ → Lent → List ℕ
+readingText (Declined n) numbers t = refusedText (toldAs n)
+readingText (Given s c) numbers t = heldText s (take (c .variants) numbers) (cut (c .variants) (c .parts) (c .breaks) t)

@@ -1,7 +1,6 @@
 // The text of a job's haplotypes: the lines of one, or a block of lines for each of several, one behind the other.
 use crate::room::key_room;
 use crate::room::link_room;
-use crate::room::row_numbers;
 use crate::stretches::stretch_end;
 use dive::apply_numbered;
 use dive::numbered_fault;
@@ -11,41 +10,39 @@ use text::put_answer;
 use text::put_hap;
 use text::put_refused;
 ghost use mathlib.Core.Path.{_≡_};
-ghost use Prim.Native.Nat.{_≤_};
 ghost use lib.ListN.{length};
 ghost use Rattle.params.specs.Numbers.{tableOf, partsOf};
 ghost use Rattle.desk.specs.Desk.{haplotypeText, wholeFault, blocksText, haplotypesText};
 ghost use Rattle.desk.specs.Memory.{Printed, mostOfOne, mostOfBlock, mostOfAll, BlocksFit, blockText, endsOf, stretches};
 
-// The answer to one haplotype's call. A job's record numbers are its row numbers.
+// The answer to one haplotype's call.
 pub(crate) fn put_search(
     s: Settings,
     starts: &[u64],
     ends: &[u64],
     sizes: &[i32],
     features: &[i32],
+    numbers: &[u32],
     part_sizes: &[i32],
     part_features: &[i32],
     out: &mut [u8],
     at: usize,
 ) -> usize
-    requires { ⌜ length (now starts) ≤ 16 ⌝ }
     ensures { λ r. ⌜ Printed mostOfOne (now (out .entry)) at (haplotypeText s
         (tableOf (now (starts .entry)) (now (ends .entry)) (now (sizes .entry)) (now (features .entry)))
-        (partsOf (now («part_sizes» .entry)) (now («part_features» .entry)))) (now (out .exit)) r ⌝ }
+        (now (numbers .entry)) (partsOf (now («part_sizes» .entry)) (now («part_features» .entry)))) (now (out .exit)) r ⌝ }
 {
     let mut links = link_room();
     let mut keys = key_room();
     let mut rows = [0u32; 16];
     let mut records = [0u32; 16];
-    let numbers = row_numbers();
     let a = apply_numbered(
         s,
         starts,
         ends,
         sizes,
         features,
-        &numbers[..starts.len()],
+        numbers,
         part_sizes,
         part_features,
         &mut links,
@@ -63,16 +60,16 @@ fn put_block(
     ends: &[u64],
     sizes: &[i32],
     features: &[i32],
+    numbers: &[u32],
     part_sizes: &[i32],
     part_features: &[i32],
     i: u32,
     out: &mut [u8],
     at: usize,
 ) -> usize
-    requires { ⌜ length (now starts) ≤ 16 ⌝ }
     ensures { λ r. ⌜ Printed mostOfBlock (now (out .entry)) at (blockText s
         (tableOf (now (starts .entry)) (now (ends .entry)) (now (sizes .entry)) (now (features .entry)))
-        i (partsOf (now («part_sizes» .entry)) (now («part_features» .entry)))) (now (out .exit)) r ⌝ }
+        (now (numbers .entry)) i (partsOf (now («part_sizes» .entry)) (now («part_features» .entry)))) (now (out .exit)) r ⌝ }
 {
     let behind = put_hap(out, at, i);
     put_search(
@@ -81,6 +78,7 @@ fn put_block(
         ends,
         sizes,
         features,
+        numbers,
         part_sizes,
         part_features,
         out,
@@ -95,15 +93,16 @@ fn put_blocks(
     ends: &[u64],
     sizes: &[i32],
     features: &[i32],
+    numbers: &[u32],
     part_sizes: &[i32],
     part_features: &[i32],
     breaks: &[u64],
     width: usize,
     out: &mut [u8],
 ) -> usize
-    requires { ⌜ BlocksFit width (tableOf (now starts) (now ends) (now sizes) (now features)) (partsOf (now «part_sizes») (now «part_features»)) (now breaks) ⌝ }
+    requires { ⌜ BlocksFit width (partsOf (now «part_sizes») (now «part_features»)) (now breaks) ⌝ }
     ensures { λ r. ⌜ Printed mostOfAll (now (out .entry)) 0 (blocksText s
-        (tableOf (now (starts .entry)) (now (ends .entry)) (now (sizes .entry)) (now (features .entry))) 0
+        (tableOf (now (starts .entry)) (now (ends .entry)) (now (sizes .entry)) (now (features .entry))) (now (numbers .entry)) 0
         (stretches width 0 (endsOf (now (breaks .entry)) (length (now («part_sizes» .entry))))
         (partsOf (now («part_sizes» .entry)) (now («part_features» .entry))))) (now (out .exit)) r ⌝ }
 {
@@ -118,6 +117,7 @@ fn put_blocks(
             ends,
             sizes,
             features,
+            numbers,
             &part_sizes[from..to],
             &part_features[from * width..to * width],
             i as u32,
@@ -131,18 +131,23 @@ fn put_blocks(
 }
 
 // What refuses a whole job of several haplotypes: settings, table and room. The room is that of a search of one.
-fn whole_fault(s: Settings, starts: &[u64], ends: &[u64], sizes: &[i32], features: &[i32]) -> u32
-    requires { ⌜ length (now starts) ≤ 16 ⌝ }
-    ensures { λ r. ⌜ r ≡ wholeFault s (tableOf (now (starts .entry)) (now (ends .entry)) (now (sizes .entry)) (now (features .entry))) ⌝ }
+fn whole_fault(
+    s: Settings,
+    starts: &[u64],
+    ends: &[u64],
+    sizes: &[i32],
+    features: &[i32],
+    numbers: &[u32],
+) -> u32
+    ensures { λ r. ⌜ r ≡ wholeFault s (tableOf (now (starts .entry)) (now (ends .entry)) (now (sizes .entry)) (now (features .entry))) (now (numbers .entry)) ⌝ }
 {
-    let numbers = row_numbers();
     numbered_fault(
         s,
         starts,
         ends,
         sizes,
         features,
-        &numbers[..starts.len()],
+        numbers,
         &sizes[..0],
         &features[..0],
         1025,
@@ -158,15 +163,16 @@ pub(crate) fn put_haplotypes(
     ends: &[u64],
     sizes: &[i32],
     features: &[i32],
+    numbers: &[u32],
     part_sizes: &[i32],
     part_features: &[i32],
     breaks: &[u64],
     width: usize,
     out: &mut [u8],
 ) -> usize
-    requires { ⌜ BlocksFit width (tableOf (now starts) (now ends) (now sizes) (now features)) (partsOf (now «part_sizes») (now «part_features»)) (now breaks) ⌝ }
+    requires { ⌜ BlocksFit width (partsOf (now «part_sizes») (now «part_features»)) (now breaks) ⌝ }
     ensures { λ r. ⌜ Printed mostOfAll (now (out .entry)) 0 (haplotypesText s
-        (tableOf (now (starts .entry)) (now (ends .entry)) (now (sizes .entry)) (now (features .entry)))
+        (tableOf (now (starts .entry)) (now (ends .entry)) (now (sizes .entry)) (now (features .entry))) (now (numbers .entry))
         (stretches width 0 (endsOf (now (breaks .entry)) (length (now («part_sizes» .entry))))
         (partsOf (now («part_sizes» .entry)) (now («part_features» .entry))))) (now (out .exit)) r ⌝ }
 {
@@ -177,13 +183,14 @@ pub(crate) fn put_haplotypes(
             ends,
             sizes,
             features,
+            numbers,
             part_sizes,
             part_features,
             out,
             0,
         );
     }
-    let fault = whole_fault(s, starts, ends, sizes, features);
+    let fault = whole_fault(s, starts, ends, sizes, features, numbers);
     if fault != ACCEPTED {
         return put_refused(out, 0, fault);
     }
@@ -193,6 +200,7 @@ pub(crate) fn put_haplotypes(
         ends,
         sizes,
         features,
+        numbers,
         part_sizes,
         part_features,
         breaks,

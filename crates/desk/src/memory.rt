@@ -11,15 +11,16 @@ use metrics::refusals::LITTLE_ROOM;
 use metrics::refusals::TOO_LARGE;
 use params::Settings;
 use reader::Reading;
+use reader::numbers::read_numbers;
 use reader::read_job;
 use text::put_refused;
 ghost use mathlib.Core.Path.{_≡_};
 ghost use Prim.Native.Nat.{_≤_};
 ghost use lib.ListN.{length};
-ghost use Rattle.form.specs.Job.{readJob};
+ghost use Rattle.form.specs.Job.{readJob, numbersOf};
 ghost use Rattle.form.specs.Lent.{lent};
 ghost use Rattle.desk.specs.Desk.{readText};
-ghost use Rattle.desk.specs.Memory.{limitFault, heldText, toldAs, readingText, Fits, Loaded, Printed, mostOfAll};
+ghost use Rattle.desk.specs.Memory.{limitFault, heldText, toldAs, readingText, numbersHeld, Fits, Loaded, Printed, mostOfAll};
 
 // The program's own limits, `long` where a haplotype has too many parts. k 0 has no features to count: 1 is the first row of the table of refusals.
 fn limit_fault(s: Settings, long: bool) -> u32
@@ -48,6 +49,7 @@ fn answer_held(
     sizes: &[i32],
     negatives: &[bool],
     counts: &[u32],
+    numbers: &[u32],
     part_sizes: &[i32],
     part_negatives: &[bool],
     part_counts: &[u32],
@@ -57,7 +59,7 @@ fn answer_held(
 ) -> usize
     requires { ⌜ Fits (s .letters) (lent (now starts) (now ends) (now sizes) (now negatives) (now counts) (now «part_sizes») (now «part_negatives»)
         (now «part_counts») (now breaks) (now letters)) ⌝ }
-    ensures { λ r. ⌜ Printed mostOfAll (now (out .entry)) 0 (heldText s
+    ensures { λ r. ⌜ Printed mostOfAll (now (out .entry)) 0 (heldText s (now (numbers .entry))
         (lent (now (starts .entry)) (now (ends .entry)) (now (sizes .entry)) (now (negatives .entry)) (now (counts .entry))
         (now («part_sizes» .entry)) (now («part_negatives» .entry)) (now («part_counts» .entry)) (now (breaks .entry)) (now (letters .entry)))) (now (out .exit)) r ⌝ }
 {
@@ -97,6 +99,7 @@ fn answer_held(
         ends,
         sizes,
         &features[..v],
+        numbers,
         part_sizes,
         &part_features[..m],
         breaks,
@@ -120,6 +123,7 @@ fn answer_reading(
     sizes: &[i32],
     negatives: &[bool],
     counts: &[u32],
+    numbers: &[u32],
     part_sizes: &[i32],
     part_negatives: &[bool],
     part_counts: &[u32],
@@ -127,9 +131,9 @@ fn answer_reading(
     letters: &[u8],
     out: &mut [u8],
 ) -> usize
-    requires { ⌜ Loaded read (lent (now starts) (now ends) (now sizes) (now negatives) (now counts) (now «part_sizes») (now «part_negatives»)
+    requires { ⌜ Loaded read (now numbers) (lent (now starts) (now ends) (now sizes) (now negatives) (now counts) (now «part_sizes») (now «part_negatives»)
         (now «part_counts») (now breaks) (now letters)) ⌝ }
-    ensures { λ r. ⌜ Printed mostOfAll (now (out .entry)) 0 (readingText read
+    ensures { λ r. ⌜ Printed mostOfAll (now (out .entry)) 0 (readingText read (now (numbers .entry))
         (lent (now (starts .entry)) (now (ends .entry)) (now (sizes .entry)) (now (negatives .entry)) (now (counts .entry))
         (now («part_sizes» .entry)) (now («part_negatives» .entry)) (now («part_counts» .entry)) (now (breaks .entry)) (now (letters .entry)))) (now (out .exit)) r ⌝ }
 {
@@ -142,6 +146,7 @@ fn answer_reading(
             &sizes[..c.variants],
             &negatives[..c.variants],
             &counts[..c.variants],
+            &numbers[..c.variants],
             &part_sizes[..c.parts],
             &part_negatives[..c.parts],
             &part_counts[..c.parts],
@@ -152,10 +157,19 @@ fn answer_reading(
     }
 }
 
-// Reads a job, and answers it.
+// The record numbers of a job. If it was read into the program's arrays there is room for them too: they are as many as its variants.
+fn record_numbers(input: &[u8]) -> [u32; 16]
+    ensures { λ r. ⌜ r ≡ numbersHeld (now (input .entry)) ⌝ }
+{
+    let mut numbers = [0u32; 16];
+    read_numbers(input, &mut numbers);
+    numbers
+}
+
+// Reads a job and its record numbers, and answers it.
 pub(crate) fn answer_read(input: &[u8], out: &mut [u8]) -> usize
     requires { ⌜ length (now input) ≤ 32768 ⌝ }
-    ensures { λ r. ⌜ Printed mostOfAll (now (out .entry)) 0 (readText (readJob (now (input .entry)))) (now (out .exit)) r ⌝ }
+    ensures { λ r. ⌜ Printed mostOfAll (now (out .entry)) 0 (readText (numbersOf (now (input .entry))) (readJob (now (input .entry)))) (now (out .exit)) r ⌝ }
 {
     let mut starts = [0u64; 16];
     let mut ends = [0u64; 16];
@@ -180,6 +194,7 @@ pub(crate) fn answer_read(input: &[u8], out: &mut [u8]) -> usize
         &mut breaks,
         &mut letters,
     );
+    let numbers = record_numbers(input);
     answer_reading(
         read,
         &starts,
@@ -187,6 +202,7 @@ pub(crate) fn answer_read(input: &[u8], out: &mut [u8]) -> usize
         &sizes,
         &negatives,
         &counts,
+        &numbers,
         &part_sizes,
         &part_negatives,
         &part_counts,

@@ -1,7 +1,6 @@
-// The program's own memory, of fixed size. Each array but the row numbers comes from a function that promises only its length: what it holds at first is never read.
+// The program's own memory, of fixed size. Each array comes from a function that promises only its length: what it holds at first is never read.
 ghost use mathlib.Core.Path.{_≡_};
 ghost use lib.ListN.{length};
-ghost use Rattle.desk.specs.Desk.{rowNumbers};
 
 // The feature rows of 16 variants at k 4.
 pub(crate) fn variant_table() -> [i32; 4096]
@@ -35,11 +34,4 @@ pub(crate) fn key_room() -> [u64; 1025]
     ensures { λ r. ⌜ 1025 ≡ length r ⌝ }
 {
     [0u64; 1025]
-}
-
-// The record numbers of a job in the present form: 16 row numbers.
-pub(crate) fn row_numbers() -> [u32; 16]
-    ensures { λ r. ⌜ r ≡ rowNumbers 16 ⌝ }
-{
-    [0, 1, 2, 3, 4, 5, 6, 7, 8, 9, 10, 11, 12, 13, 14, 15]
 }

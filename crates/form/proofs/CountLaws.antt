@@ -11,7 +11,7 @@ use lib.Dec.{ltb, leb, eqb}
 use lib.ListN.{length, length-append}
 use borrow.Author.Tests.{le-ltb, leb-false, ltb-false, eqb-true}
 use Rattle.form.specs.declared.records.Kind.{Kind}
-use Rattle.form.specs.declared.records.Kind.the-variants.{End, Settings, Variant as VariantRecord, Part as PartRecord, Letters, Next, Unknown}
+use Rattle.form.specs.declared.records.Kind.the-variants.{End, Settings, Variant as VariantRecord, Part as PartRecord, Letters, Next, Settings2, Variant2, Unknown}
 use Rattle.form.specs.declared.records.State.{State}
 use Rattle.form.specs.declared.records.Counts.{Counts}
 use Rattle.form.specs.declared.records.Scan.{Scan}
@@ -49,12 +49,12 @@ clear false false false false false false true h z = absurd (never z)
 clear false false false false false false false true z = absurd (never z)
 clear false false false false false false false false z = record { known = refl; whole = refl; placed = refl; within = refl; flags = refl; few = refl; padded = refl; last = refl }
 
-not-back : (t : Bool) → not t ≡ false → t ≡ true
+pub not-back : (t : Bool) → not t ≡ false → t ≡ true
 not-back true e = refl
 not-back false e = let z : _≡_ {A = ℕ} 1 0 = cc in absurd (never z)
 
 module _ (st : State) (kind : Kind) (b : List ℕ) (none : faultOf st kind b ≡ 0) where
-  tests : Clear (isUnknown kind) (ltb (length b) (bodyLen kind)) (not (inPlace st kind)) (tooMany st kind) (not (flagsOk kind b)) (ltb 131072 (countOf kind b)) (not (padOk st kind b)) (isEnd kind && ltb 0 (length b))
+  pub tests : Clear (isUnknown kind) (ltb (length b) (bodyLen kind)) (not (inPlace st kind)) (tooMany st kind) (not (flagsOk kind b)) (ltb 131072 (countOf kind b)) (not (padOk st kind b)) (isEnd kind && ltb 0 (length b))
   unfolding faultOf
   tests = clear _ _ _ _ _ _ _ _ none
 
@@ -63,6 +63,9 @@ module _ (st : State) (kind : Kind) (b : List ℕ) (none : faultOf st kind b ≡
 
   pub none-whole : bodyLen kind ≤ length b
   none-whole = ltb-false _ _ (tests .whole)
+
+  pub none-flags : flagsOk kind b ≡ true
+  none-flags = not-back _ (tests .flags)
 
   pub none-last : isEnd kind ≡ true → length b ≤ 0
   none-last e = ltb-false 0 (length b) (go (ltb 0 (length b)) (subst (λ (t : Bool). t && ltb 0 (length b) ≡ false) e (tests .last)))
@@ -80,6 +83,8 @@ owed-none st VariantRecord h other = eqb-true _ _ (both _ _ h .0)
 owed-none st PartRecord h other = eqb-true _ _ (both _ _ h .0)
 owed-none st Letters h other = mixed other
 owed-none st Next h other = eqb-true _ _ (both _ _ h .0)
+owed-none st Settings2 h other = eqb-true _ _ (both _ _ h .0)
+owed-none st Variant2 h other = eqb-true _ _ (both _ _ h .0)
 owed-none st Unknown h other = mixed (sym h)
 
 -- ---- one record
@@ -88,12 +93,13 @@ record Turn (st : State) (kind : Kind) (b : List ℕ) : Type 0 where
   parts : after st kind b .parts ≡ st .parts + length (partHere kind b)
   letters : after st kind b .letters + after st kind b .left ≡ st .letters + st .left + (length (variantLettersHere kind b) + length (partLettersHere kind b))
 
-turn-variant : (st : State) (b : List ℕ) → 25 ≤ length b → st .left ≡ 0 → Turn st VariantRecord b
-unfolding after variantHere partHere variantLettersHere partLettersHere lettersAfter bodyLen countOf
-turn-variant st b h e = record {
-  variants = rw (le-ltb (length b) 25 h);
-  parts = sym (add-zero (st .parts));
-  letters = rw (le-ltb (length b) 25 h, long-letters) (omega arith);
+-- of either edition
+turn-variant : (st : State) (kind : Kind) (b : List ℕ) → isVariant kind ≡ true → isPart kind ≡ false → isLetters kind ≡ false → bodyLen kind ≤ length b → st .left ≡ 0 → Turn st kind b
+unfolding after variantHere partHere variantLettersHere partLettersHere lettersAfter
+turn-variant st kind b v p l h e = record {
+  variants = rw (v, le-ltb (length b) (bodyLen kind) h);
+  parts = rw p (sym (add-zero (st .parts)));
+  letters = rw (v, p, l, le-ltb (length b) (bodyLen kind) h, long-letters) (omega arith);
 }
 
 turn-part : (st : State) (b : List ℕ) → 9 ≤ length b → st .left ≡ 0 → Turn st PartRecord b
@@ -126,10 +132,12 @@ turn : (st : State) (kind : Kind) (b : List ℕ) → faultOf st kind b ≡ 0 →
 unfolding bodyLen
 turn st End b f = turn-rest st End b refl refl refl (owed-none st End (none-placed st End b f) refl)
 turn st Settings b f = turn-rest st Settings b refl refl refl (owed-none st Settings (none-placed st Settings b f) refl)
-turn st VariantRecord b f = turn-variant st b (none-whole st VariantRecord b f) (owed-none st VariantRecord (none-placed st VariantRecord b f) refl)
+turn st VariantRecord b f = turn-variant st VariantRecord b refl refl refl (none-whole st VariantRecord b f) (owed-none st VariantRecord (none-placed st VariantRecord b f) refl)
 turn st PartRecord b f = turn-part st b (none-whole st PartRecord b f) (owed-none st PartRecord (none-placed st PartRecord b f) refl)
 turn st Letters b f = turn-letters st b
 turn st Next b f = turn-rest st Next b refl refl refl (owed-none st Next (none-placed st Next b f) refl)
+turn st Settings2 b f = turn-rest st Settings2 b refl refl refl (owed-none st Settings2 (none-placed st Settings2 b f) refl)
+turn st Variant2 b f = turn-variant st Variant2 b refl refl refl (none-whole st Variant2 b f) (owed-none st Variant2 (none-placed st Variant2 b f) refl)
 turn st Unknown b f = turn-rest st Unknown b refl refl refl (owed-none st Unknown (none-placed st Unknown b f) refl)
 
 -- a record that begins a haplotype is one break more, and one haplotype more
@@ -202,12 +210,12 @@ part-letters-append [] ys = refl
 part-letters-append (x ∷ xs) ys = ap (λ (l : List ℕ). x .letters ++ l) (part-letters-append xs ys) ∙ sym (append-assoc (x .letters) (partLetters xs) (partLetters ys))
 
 variant-letters-here : (kind : Kind) (b : List ℕ) → variantLetters (variantHere kind b) ≡ variantLettersHere kind b
-unfolding variantLetters variantHere variantOf variantLettersHere bodyLen
-variant-letters-here kind b = go (isVariant kind) (ltb (length b) 25)
+unfolding variantLetters variantHere variantOf variantLettersHere
+variant-letters-here kind b = go (isVariant kind) (ltb (length b) (bodyLen kind))
   where
-    go : (t u : Bool) → variantLetters (cond t (cond u [] (variantOf b ∷ [])) []) ≡ cond t (cond u [] (lettersAfter VariantRecord b)) []
+    go : (t u : Bool) → variantLetters (cond t (cond u [] (variantOf kind b ∷ [])) []) ≡ cond t (cond u [] (lettersAfter kind b)) []
     go true true = refl
-    go true false = append-nil (lettersAfter VariantRecord b)
+    go true false = append-nil (lettersAfter kind b)
     go false u = refl
 
 part-letters-here : (kind : Kind) (b : List ℕ) → partLetters (partHere kind b) ≡ partLettersHere kind b

@@ -17,10 +17,12 @@ use lib.ListN.{drop-of-length-le}
 use Rattle.form.specs.declared.records.Scan.{Scan}
 use Rattle.form.specs.declared.records.Scan.the-variants.{Good, Refused}
 use Rattle.form.specs.declared.records.Kind.{Kind}
-use Rattle.form.specs.declared.records.Kind.the-variants.{End, Settings, Variant, Part, Letters, Next, Unknown}
+use Rattle.form.specs.declared.records.Kind.the-variants.{End, Settings, Variant, Part, Letters, Next, Settings2, Variant2, Unknown}
 use Rattle.form.specs.declared.records.Record.{Record}
-use Rattle.form.specs.Form.{kindOf, isEnd, isVariant, isPart, isLetters, isNext, isUnknown, shapeOf, bodyLen, inPlace, areFlags, flagsOk, countOf, recordOf, recordAt, padOk, allZero, tooMany, faultOf, after, run, judge, counted}
+use Rattle.form.specs.Form.{kindOf, isEnd, isVariant, isPart, isLetters, isNext, isSecond, isUnknown, shapeOf, bodyLen, inPlace, areFlags, flagsOk, countOf, recordOf, recordAt, padOk, allZero, tooMany, faultOf, after, run, judge, counted}
 use Rattle.form.specs.Steps.{Follows}
+use Rattle.form.specs.Job.{editionOf}
+use Rattle.form.specs.declared.records.Edition.the-variants.{One, Two}
 use Rattle.fields.specs.Fields.{le4}
 use Rattle.form.specs.declared.records.Shape.{Shape}
 use Rattle.form.specs.declared.records.State.{State}
@@ -40,9 +42,9 @@ pub mixed : {A : Type 0} → true ≡ false → A
 mixed e = let z : _≡_ {A = ℕ} 0 1 = cc in let w : ⊥ = omega arith in absurd w
 
 -- ---- the kind of a byte
-pub kind-rest : (k : ℕ) → (k ≡ 0 → ⊥) → (k ≡ 1 → ⊥) → (k ≡ 2 → ⊥) → (k ≡ 3 → ⊥) → (k ≡ 4 → ⊥) → (k ≡ 5 → ⊥) → Unknown ≡ kindOf k
+pub kind-rest : (k : ℕ) → (k ≡ 0 → ⊥) → (k ≡ 1 → ⊥) → (k ≡ 2 → ⊥) → (k ≡ 3 → ⊥) → (k ≡ 4 → ⊥) → (k ≡ 5 → ⊥) → (k ≡ 17 → ⊥) → (k ≡ 18 → ⊥) → Unknown ≡ kindOf k
 unfolding kindOf
-kind-rest k o p q r t u = sym (rw (ne-eqb k 0 o, ne-eqb k 1 p, ne-eqb k 2 q, ne-eqb k 3 r, ne-eqb k 4 t, ne-eqb k 5 u))
+kind-rest k o p q r t u v w = sym (rw (ne-eqb k 0 o, ne-eqb k 1 p, ne-eqb k 2 q, ne-eqb k 3 r, ne-eqb k 4 t, ne-eqb k 5 u, ne-eqb k 17 v, ne-eqb k 18 w))
 
 -- ---- the place of a record: none but letters while letters are owed
 pub none-owed : {x : Bool} (left : ℕ) → left ≡ 0 → x ≡ eqb left 0 && x
@@ -50,6 +52,13 @@ none-owed left h = sym (rw (eq-eqb left 0 h))
 
 pub some-owed : (x : Bool) (left : ℕ) → (left ≡ 0 → ⊥) → eqb left 0 ≡ eqb left 0 && x
 some-owed x left h = rw (ne-eqb left 0 h)
+
+-- ---- the edition
+pub edition-two : (s : List ℕ) → isSecond (kindOf (getD s 0 0)) ≡ true → Two ≡ editionOf s
+edition-two s e = sym (rw e)
+
+pub edition-one : (s : List ℕ) → isSecond (kindOf (getD s 0 0)) ≡ false → One ≡ editionOf s
+edition-one s e = sym (rw e)
 
 -- ---- lengths and counts by the kind
 pub count-is : (b : List ℕ) {n : ℕ} {j k : Kind} → j ≡ k → n ≡ countOf j b → n ≡ countOf k b
@@ -68,6 +77,8 @@ letters-kind Variant e = mixed (sym e)
 letters-kind Part e = mixed (sym e)
 letters-kind Letters e = refl
 letters-kind Next e = mixed (sym e)
+letters-kind Settings2 e = mixed (sym e)
+letters-kind Variant2 e = mixed (sym e)
 letters-kind Unknown e = mixed (sym e)
 
 pub end-kind : (kind : Kind) → isEnd kind ≡ true → kind ≡ End
@@ -77,9 +88,11 @@ end-kind Variant e = mixed (sym e)
 end-kind Part e = mixed (sym e)
 end-kind Letters e = mixed (sym e)
 end-kind Next e = mixed (sym e)
+end-kind Settings2 e = mixed (sym e)
+end-kind Variant2 e = mixed (sym e)
 end-kind Unknown e = mixed (sym e)
 
-pub short-body : (kind : Kind) → bodyLen kind ≤ 40
+pub short-body : (kind : Kind) → bodyLen kind ≤ 41
 unfolding bodyLen
 short-body End = omega arith
 short-body Settings = omega arith
@@ -87,6 +100,8 @@ short-body Variant = omega arith
 short-body Part = omega arith
 short-body Letters = omega arith
 short-body Next = omega arith
+short-body Settings2 = omega arith
+short-body Variant2 = omega arith
 short-body Unknown = omega arith
 
 few-flags : (kind : Kind) → shapeOf kind .flags + shapeOf kind .«flag_count» ≤ 64
@@ -96,7 +111,20 @@ few-flags Variant = omega arith
 few-flags Part = omega arith
 few-flags Letters = omega arith
 few-flags Next = omega arith
+few-flags Settings2 = omega arith
+few-flags Variant2 = omega arith
 few-flags Unknown = omega arith
+
+few-late : (kind : Kind) → 40 + shapeOf kind .«late_flags» ≤ 64
+few-late End = omega arith
+few-late Settings = omega arith
+few-late Variant = omega arith
+few-late Part = omega arith
+few-late Letters = omega arith
+few-late Next = omega arith
+few-late Settings2 = omega arith
+few-late Variant2 = omega arith
+few-late Unknown = omega arith
 
 pub count-rest : (kind : Kind) (b : List ℕ) → isVariant kind ≡ false → isPart kind ≡ false → countOf kind b ≡ 0
 unfolding countOf
@@ -106,6 +134,8 @@ count-rest Variant b p q = mixed p
 count-rest Part b p q = mixed q
 count-rest Letters b p q = refl
 count-rest Next b p q = refl
+count-rest Settings2 b p q = refl
+count-rest Variant2 b p q = mixed p
 count-rest Unknown b p q = refl
 
 -- s is the shape that the table gives
@@ -121,9 +151,18 @@ module _ (s : Shape) (kind : Kind) (b : List ℕ) (is : s ≡ shapeOf kind) wher
   pub flags-there : s .flags + s .«flag_count» ≤ 64
   flags-there = subst (λ (x : Shape). x .flags + x .«flag_count» ≤ 64) (sym is) (few-flags kind)
 
-  pub flags-are : areFlags b (s .flags) (s .«flag_count») ≡ flagsOk kind b
+  pub late-there : 40 + s .«late_flags» ≤ 64
+  late-there = subst (λ (x : Shape). 40 + x .«late_flags» ≤ 64) (sym is) (few-late kind)
+
+  flags-are : areFlags b (s .flags) (s .«flag_count») && areFlags b 40 (s .«late_flags») ≡ flagsOk kind b
   unfolding flagsOk
-  flags-are = ap (λ (x : Shape). areFlags b (x .flags) (x .«flag_count»)) is
+  flags-are = ap (λ (x : Shape). areFlags b (x .flags) (x .«flag_count») && areFlags b 40 (x .«late_flags»)) is
+
+  pub flags-broken : areFlags b (s .flags) (s .«flag_count») ≡ false → false ≡ flagsOk kind b
+  flags-broken e = sym (rw e) ∙ flags-are
+
+  pub flags-late : areFlags b (s .flags) (s .«flag_count») ≡ true → areFlags b 40 (s .«late_flags») ≡ flagsOk kind b
+  flags-late e = sym (rw e) ∙ flags-are
 
 -- ---- flags, one by one
 module _ (b : List ℕ) (from n : ℕ) where
@@ -265,6 +304,14 @@ module _ (st : State) (b : List ℕ) where
   pub follows-next : (n : ℕ) → n ≡ countOf Next b → Follows st Next b (record { phase = 2; left = n; variants = st .variants; parts = st .parts; breaks = st .breaks + 1; letters = st .letters })
   unfolding after
   follows-next n e = record { is = rw e; variants-grow = omega arith; parts-grow = omega arith; breaks-grow = omega arith; letters-grow = omega arith }
+
+  pub follows-settings2 : (n : ℕ) → n ≡ countOf Settings2 b → Follows st Settings2 b (record { phase = 3; left = n; variants = st .variants; parts = st .parts; breaks = st .breaks; letters = st .letters })
+  unfolding after
+  follows-settings2 n e = record { is = rw e; variants-grow = omega arith; parts-grow = omega arith; breaks-grow = omega arith; letters-grow = omega arith }
+
+  pub follows-variant2 : (n : ℕ) → n ≡ countOf Variant2 b → Follows st Variant2 b (record { phase = st .phase; left = n; variants = st .variants + 1; parts = st .parts; breaks = st .breaks; letters = st .letters })
+  unfolding after
+  follows-variant2 n e = record { is = rw e; variants-grow = omega arith; parts-grow = omega arith; breaks-grow = omega arith; letters-grow = omega arith }
 
   pub follows-end : (n : ℕ) → n ≡ countOf End b → Follows st End b (record { phase = st .phase; left = n; variants = st .variants; parts = st .parts; breaks = st .breaks; letters = st .letters })
   unfolding after

@@ -9,7 +9,7 @@ use mathlib.Core.Logic.{⊎-elim}
 use lib.ListN.{length, drop, length-append}
 use lib.Seq.{drop-nil, drop-at}
 use Rattle.form.specs.declared.records.Kind.{Kind}
-use Rattle.form.specs.declared.records.Kind.the-variants.{End, Settings, Variant, Part as PartRecord, Letters, Next, Unknown}
+use Rattle.form.specs.declared.records.Kind.the-variants.{End, Settings, Variant, Part as PartRecord, Letters, Next, Settings2, Variant2, Unknown}
 use Rattle.form.specs.Form.{kindOf, isNext, bodyLen}
 use Rattle.form.specs.Job.{Part, partHere, gather, toFirst, haplotypesHere, haplotypesIn}
 use Rattle.form.specs.Lent.{breaksFrom, breaksOf}
@@ -23,6 +23,8 @@ next-kind Variant e = mixed (sym e)
 next-kind PartRecord e = mixed (sym e)
 next-kind Letters e = mixed (sym e)
 next-kind Next e = refl
+next-kind Settings2 e = mixed (sym e)
+next-kind Variant2 e = mixed (sym e)
 next-kind Unknown e = mixed (sym e)
 
 -- a record that begins a haplotype adds no part

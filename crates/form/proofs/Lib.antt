@@ -5,5 +5,6 @@ pub mod HaplotypeLaws
 pub mod CountLaws
 pub mod OrderLaws
 pub mod LetterLaws
+pub mod NumberLaws
 pub mod SettingsLaws
 pub mod Settings41Laws

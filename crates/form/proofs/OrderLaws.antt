@@ -12,7 +12,7 @@ use lib.ListN.{length, getD, drop}
 use lib.Seq.{getD-drop}
 use borrow.Author.Tests.{le-ltb, leb-false, eqb-true}
 use Rattle.form.specs.declared.records.Kind.{Kind}
-use Rattle.form.specs.declared.records.Kind.the-variants.{End, Settings, Variant, Part, Letters, Next, Unknown}
+use Rattle.form.specs.declared.records.Kind.the-variants.{End, Settings, Variant, Part, Letters, Next, Settings2, Variant2, Unknown}
 use Rattle.form.specs.declared.records.State.{State}
 use Rattle.form.specs.declared.records.Counts.{Counts}
 use Rattle.form.specs.declared.records.Scan.{Scan}
@@ -54,7 +54,7 @@ in-record b left = ⊎-elim
     (split (leb left 16))
 
 -- ---- a form in good order, one record at a time
-sound : (st : State) (kind : Kind) (b : List ℕ) (c : Counts) (rest : Scan) → judge (faultOf st kind b) kind st rest ≡ Good c
+pub sound : (st : State) (kind : Kind) (b : List ℕ) (c : Counts) (rest : Scan) → judge (faultOf st kind b) kind st rest ≡ Good c
     → (faultOf st kind b ≡ 0) × ((isEnd kind ≡ true) ⊎ (rest ≡ Good c))
 sound st kind b c rest e = ⊎-elim
     (λ (f : eqb (faultOf st kind b) 0 ≡ true). (
@@ -79,6 +79,8 @@ module _ (st : State) (late : st .phase ≡ 2) where
   late-kind Part h = (refl, refl)
   late-kind Letters h = (refl, refl)
   late-kind Next h = (refl, refl)
+  late-kind Settings2 h = let p : eqb (st .phase) 0 ≡ true = both (eqb (st .left) 0) _ h .1 in let e : false ≡ true = rw late at p in mixed (sym e)
+  late-kind Variant2 h = let p : eqb (st .phase) 3 ≡ true = both (eqb (st .left) 0) _ h .1 in let e : false ≡ true = rw late at p in mixed (sym e)
   late-kind Unknown h = (refl, refl)
 
   module _ (kind : Kind) (b : List ℕ) (none : faultOf st kind b ≡ 0) where
@@ -127,12 +129,14 @@ module _ (st : State) (b : List ℕ) (G2 G3 : List ℕ) where
   unfolding variantLettersHere partLettersHere bodyLen countOf
   turn-letters f w g = grown (lettersIn (4 ∷ b) 0 (lettersGiven Letters (st .left))) (lettersIn (drop 16 b) 0 (owed Letters)) (G2 ++ G3) _ (lettersIn (4 ∷ b) 0 (st .left)) w (in-record b (st .left))
 
-  turn-variant : Turn Variant
-  unfolding variantLettersHere partLettersHere lettersAfter lettersGiven lettersOwed lettersIn bodyLen
-  turn-variant f w g =
-      let none : st .left ≡ 0 = owed-none st Variant (none-placed st Variant b f) refl in
-      let whole : 25 ≤ length b = none-whole st Variant b f in
-      rw (none, le-ltb (length b) 25 whole) (w ∙ sym (append-assoc (lettersIn (drop 25 b) 0 (countOf Variant b)) G2 G3))
+  -- of either edition
+  turn-variant : (kind : Kind) → isVariant kind ≡ true → isPart kind ≡ false → isLetters kind ≡ false → Turn kind
+  unfolding variantLettersHere partLettersHere lettersAfter lettersGiven lettersOwed lettersIn
+  turn-variant kind v p l f w g =
+      let none : st .left ≡ 0 = owed-none st kind (none-placed st kind b f) l in
+      let whole : bodyLen kind ≤ length b = none-whole st kind b f in
+      let w′ : lettersWalk b (bodyLen kind) (countOf kind b) ≡ lettersIn (drop (bodyLen kind) b) 0 (countOf kind b) ++ (G2 ++ G3) = rw l at w in
+      rw (v, p, l, none, le-ltb (length b) (bodyLen kind) whole) (w′ ∙ sym (append-assoc (lettersIn (drop (bodyLen kind) b) 0 (countOf kind b)) G2 G3))
 
   turn-part : Turn Part
   unfolding variantLettersHere partLettersHere lettersAfter lettersGiven lettersOwed lettersIn bodyLen
@@ -152,10 +156,12 @@ module _ (st : State) (b : List ℕ) (G2 G3 : List ℕ) where
   turn : (kind : Kind) → Turn kind
   turn End = turn-rest End refl refl refl
   turn Settings = turn-rest Settings refl refl refl
-  turn Variant = turn-variant
+  turn Variant = turn-variant Variant refl refl refl
   turn Part = turn-part
   turn Letters = turn-letters
   turn Next = turn-rest Next refl refl refl
+  turn Settings2 = turn-rest Settings2 refl refl refl
+  turn Variant2 = turn-variant Variant2 refl refl refl
   turn Unknown = turn-rest Unknown refl refl refl
 
 at-end : (st : State) (k : ℕ) → kindOf k ≡ End → st .left ≡ 0

@@ -4,8 +4,8 @@ use mathlib.Core.Path.{_≡_}
 use mathlib.Core.Bool.{true, false}
 use mathlib.Core.List.{List}
 use Rattle.params.specs.Numbers.{firstOf, settingsRules}
-use Rattle.form.specs.Form.{areFlags}
-use Rattle.form.specs.Settings41.{lettersPlace, settings41In, settings41Fault}
+use Rattle.form.specs.Form.{areFlags, lettersPlace}
+use Rattle.form.specs.Settings41.{settings41In, settings41Fault}
 
 pub flags-first : (b : List ℕ) → areFlags b 1 3 ≡ false → 24 ≡ settings41Fault b
 unfolding settings41Fault

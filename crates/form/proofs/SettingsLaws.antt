@@ -1,4 +1,4 @@
--- The fields of the settings stored one behind the other are their 40 bytes. Assumes nothing.
+-- The fields of the settings stored one behind the other are their 40 bytes, and `letters` behind them edition 2's 41. Assumes nothing.
 use Prim.Native.Nat.{ℕ, _+_}
 use native.Mathlib.Omega.{arith}
 use mathlib.Core.Path.{_≡_, refl, ap, _∙_}
@@ -12,6 +12,7 @@ use Rattle.params.specs.declared.Settings.{Settings}
 use Rattle.fields.specs.Fields.{bytes4, bytes2}
 use Rattle.form.specs.Settings40.{flag}
 use Rattle.form.specs.Settings40.{numberBytes, floatBytes, settingsBytes}
+use Rattle.form.specs.Settings41.{settings41Bytes}
 use Rattle.fields.proofs.FieldLaws.{join, join4}
 
 module _ (i : ℕ) (s : Settings) where
@@ -44,6 +45,14 @@ module _ (i : ℕ) (s : Settings) where
       (join b c f (i + 2) (i + 3) (flag (s .«one_to_one») ∷ []) (flag (s .full) ∷ rest) (omega arith) (r ∙ ap (λ (n : ℕ). sets b (i + 2) (n ∷ [])) hy)
       (join c d f (i + 3) (i + 4) (flag (s .full) ∷ []) rest (omega arith) (t ∙ ap (λ (n : ℕ). sets c (i + 3) (n ∷ [])) hz)
       (join d e f (i + 4) (i + 24) (numberBytes s) (floatBytes s) (rw long-numbers (omega arith)) u v))))
+
+  pub long-settings : length (settingsBytes s) ≡ 40
+  unfolding settingsBytes numberBytes floatBytes bytes4 bytes2
+  long-settings = refl
+
+  pub letters-stored : (l a b : List ℕ) → a ≡ sets l i (settingsBytes s) → b ≡ sets a (i + 40) (s .letters ∷ []) → b ≡ sets l i (settings41Bytes s)
+  unfolding settings41Bytes
+  letters-stored l a b p q = join l a b i (i + 40) (settingsBytes s) (s .letters ∷ []) (rw long-settings) p q
 
 pub flag-back : (t : Bool) → eqb (flag t) 1 ≡ t
 flag-back true = refl

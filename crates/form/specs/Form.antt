@@ -1,4 +1,4 @@
--- Document 01, "Job form", and change request P1: records of one byte of kind and a body, and the first fault, front to back.
+-- Document 01, "Job form", and change requests P1 and P7: records of one byte of kind and a body, and the first fault, front to back.
 use Prim.Native.Nat.{ℕ, zero, suc, _+_, _-_}
 use mathlib.Core.List.{List, [], _∷_}
 use mathlib.Core.Bool.{Bool, true, false, cond, not, _&&_}
@@ -6,7 +6,7 @@ use lib.ListN.{getD, length, take, drop}
 use lib.Dec.{ltb, leb, eqb}
 use Rattle.fields.specs.Fields.{le4}
 use Rattle.form.specs.declared.records.Kind.{Kind}
-use Rattle.form.specs.declared.records.Kind.the-variants.{End, Settings, Variant, Part, Letters, Next, Unknown}
+use Rattle.form.specs.declared.records.Kind.the-variants.{End, Settings, Variant, Part, Letters, Next, Settings2, Variant2, Unknown}
 use Rattle.form.specs.declared.records.Record.{Record}
 use Rattle.form.specs.declared.records.Shape.{Shape}
 use Rattle.form.specs.declared.records.State.{State}
@@ -34,6 +34,13 @@ lettersKind = 4
 abbrev pub nextKind : ℕ
 nextKind = 5
 
+-- edition 2's settings and its variant
+abbrev pub settings2Kind : ℕ
+settings2Kind = 17
+
+abbrev pub variant2Kind : ℕ
+variant2Kind = 18
+
 unfoldable pub kindOf : ℕ → Kind
 kindOf byte =
     cond (eqb byte endKind) End
@@ -41,40 +48,49 @@ kindOf byte =
     (cond (eqb byte variantKind) Variant
     (cond (eqb byte partKind) Part
     (cond (eqb byte lettersKind) Letters
-    (cond (eqb byte nextKind) Next Unknown)))))
+    (cond (eqb byte nextKind) Next
+    (cond (eqb byte settings2Kind) Settings2
+    (cond (eqb byte variant2Kind) Variant2 Unknown)))))))
 
 -- one value for each kind
-abbrev pub byKind : {A : Type 0} → A → A → A → A → A → A → A → Kind → A
-byKind end settings variant part letters next unknown End = end
-byKind end settings variant part letters next unknown Settings = settings
-byKind end settings variant part letters next unknown Variant = variant
-byKind end settings variant part letters next unknown Part = part
-byKind end settings variant part letters next unknown Letters = letters
-byKind end settings variant part letters next unknown Next = next
-byKind end settings variant part letters next unknown Unknown = unknown
+abbrev pub byKind : {A : Type 0} → A → A → A → A → A → A → A → A → A → Kind → A
+byKind end settings variant part letters next settings2 variant2 unknown End = end
+byKind end settings variant part letters next settings2 variant2 unknown Settings = settings
+byKind end settings variant part letters next settings2 variant2 unknown Variant = variant
+byKind end settings variant part letters next settings2 variant2 unknown Part = part
+byKind end settings variant part letters next settings2 variant2 unknown Letters = letters
+byKind end settings variant part letters next settings2 variant2 unknown Next = next
+byKind end settings variant part letters next settings2 variant2 unknown Settings2 = settings2
+byKind end settings variant part letters next settings2 variant2 unknown Variant2 = variant2
+byKind end settings variant part letters next settings2 variant2 unknown Unknown = unknown
 
 abbrev pub isEnd : Kind → Bool
-isEnd kind = byKind true false false false false false false kind
+isEnd kind = byKind true false false false false false false false false kind
 
+-- of either edition
 abbrev pub isSettings : Kind → Bool
-isSettings kind = byKind false true false false false false false kind
+isSettings kind = byKind false true false false false false true false false kind
 
 abbrev pub isVariant : Kind → Bool
-isVariant kind = byKind false false true false false false false kind
+isVariant kind = byKind false false true false false false false true false kind
 
 abbrev pub isPart : Kind → Bool
-isPart kind = byKind false false false true false false false kind
+isPart kind = byKind false false false true false false false false false kind
 
 abbrev pub isLetters : Kind → Bool
-isLetters kind = byKind false false false false true false false kind
+isLetters kind = byKind false false false false true false false false false kind
 
 abbrev pub isNext : Kind → Bool
-isNext kind = byKind false false false false false true false kind
+isNext kind = byKind false false false false false true false false false kind
+
+-- of edition 2 alone
+abbrev pub isSecond : Kind → Bool
+isSecond kind = byKind false false false false false false true true false kind
 
 abbrev pub isUnknown : Kind → Bool
-isUnknown kind = byKind false false false false false false true kind
+isUnknown kind = byKind false false false false false false false false true kind
 
--- how long the bodies of settings, variant, part and letters are
+-- how long the bodies of settings, variant, part and letters are, and edition 2's of settings and variant
 abbrev pub settingsLen : ℕ
 settingsLen = 40
 
@@ -87,28 +103,46 @@ partLen = 9
 abbrev pub lettersLen : ℕ
 lettersLen = 16
 
--- A kind's shape: how long its body is, from which byte on how many are flags, and where the letter count stands, 0 where it has none.
-abbrev pub shape : ℕ → ℕ → ℕ → ℕ → Shape
-shape body flags flagCount count = record { body = body; flags = flags; «flag_count» = flagCount; count = count }
+abbrev pub settings2Len : ℕ
+settings2Len = 41
+
+abbrev pub variant2Len : ℕ
+variant2Len = 29
+
+-- where edition 2's settings have `letters`, a flag, and its variant the record number: behind the old bytes
+abbrev pub lettersPlace : ℕ
+lettersPlace = settingsLen
+
+abbrev pub numberPlace : ℕ
+numberPlace = variantLen
+
+-- A kind's shape: how long its body is, from which byte on how many are flags, where the letter count stands, 0 where it has none, and how many flags stand at `lettersPlace`.
+abbrev pub shape : ℕ → ℕ → ℕ → ℕ → ℕ → Shape
+shape body flags flagCount count late = record { body = body; flags = flags; «flag_count» = flagCount; count = count; «late_flags» = late }
 
 -- the one table of kinds
 abbrev pub shapeOf : Kind → Shape
-shapeOf End = shape 0 0 0 0
-shapeOf Settings = shape settingsLen 1 3 0
-shapeOf Variant = shape variantLen 20 1 21
-shapeOf Part = shape partLen 4 1 5
-shapeOf Letters = shape lettersLen 0 0 0
-shapeOf Next = shape 0 0 0 0
-shapeOf Unknown = shape 0 0 0 0
+shapeOf End = shape 0 0 0 0 0
+shapeOf Settings = shape settingsLen 1 3 0 0
+shapeOf Variant = shape variantLen 20 1 21 0
+shapeOf Part = shape partLen 4 1 5 0
+shapeOf Letters = shape lettersLen 0 0 0 0
+shapeOf Next = shape 0 0 0 0 0
+shapeOf Settings2 = shape settings2Len 1 3 0 1
+shapeOf Variant2 = shape variant2Len 20 1 21 0
+shapeOf Unknown = shape 0 0 0 0 0
 
 unfoldable pub bodyLen : Kind → ℕ
 bodyLen kind = shapeOf kind .body
 
--- While letters are owed, only they may follow. Phase 0: settings; 1: variants, parts, the next haplotype and the end; 2: the same without variants.
+-- While letters are owed, only they may follow. Phase 0: settings of either edition, which decide the job's. Phases 1 and 3: variants of edition 1, of edition 2,
+-- and parts, the next haplotype and the end. Phase 2: the same without variants.
 unfoldable pub inPlace : State → Kind → Bool
 inPlace st Letters = ltb 0 (st .left)
 inPlace st Settings = eqb (st .left) 0 && eqb (st .phase) 0
 inPlace st Variant = eqb (st .left) 0 && eqb (st .phase) 1
+inPlace st Settings2 = eqb (st .left) 0 && eqb (st .phase) 0
+inPlace st Variant2 = eqb (st .left) 0 && eqb (st .phase) 3
 inPlace st Part = eqb (st .left) 0 && ltb 0 (st .phase)
 inPlace st End = eqb (st .left) 0 && ltb 0 (st .phase)
 inPlace st Next = eqb (st .left) 0 && ltb 0 (st .phase)
@@ -120,7 +154,7 @@ areFlags b i zero = true
 areFlags b i (suc n) = ltb (getD b i 0) 2 && areFlags b (suc i) n
 
 unfoldable pub flagsOk : Kind → List ℕ → Bool
-flagsOk kind b = areFlags b (shapeOf kind .flags) (shapeOf kind .«flag_count»)
+flagsOk kind b = areFlags b (shapeOf kind .flags) (shapeOf kind .«flag_count») && areFlags b lettersPlace (shapeOf kind .«late_flags»)
 
 -- how many letters a record announces
 unfoldable pub countOf : Kind → List ℕ → ℕ
@@ -163,7 +197,7 @@ faultOf st kind b =
 -- what is known after a record with no fault
 unfoldable pub after : State → Kind → List ℕ → State
 after st kind b = record {
-  phase = cond (isPart kind) 2 (cond (isNext kind) 2 (cond (isSettings kind) 1 (st .phase)));
+  phase = cond (isPart kind) 2 (cond (isNext kind) 2 (cond (isSettings kind) (cond (isSecond kind) 3 1) (st .phase)));
   left = cond (isLetters kind) (cond (leb (st .left) lettersLen) 0 (st .left - lettersLen)) (countOf kind b);
   variants = cond (isVariant kind) (st .variants + 1) (st .variants);
   parts = cond (isPart kind) (st .parts + 1) (st .parts);

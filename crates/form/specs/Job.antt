@@ -1,5 +1,5 @@
--- Document 01, "Job form", and change request P1: a job is its settings, its variants with their letters, and its haplotypes, each the list of its parts with their letters.
--- What bytes in good form hold, and the bytes of a job.
+-- Document 01, "Job form", and change requests P1 and P7: a job is its settings, its variants with their letters, and its haplotypes, each the list of its parts with their letters.
+-- What bytes in good form hold, in either edition, and the bytes of a job in each. Record numbers stand beside the job.
 use Prim.Native.Nat.{ℕ, zero, suc, _+_, _/_}
 use mathlib.Core.List.{List, [], _∷_, _++_, flatten}
 use mathlib.Core.Bool.{Bool, cond}
@@ -9,8 +9,11 @@ use lib.Dec.{ltb, eqb}
 use Rattle.params.specs.declared.Settings.{Settings}
 use Rattle.fields.specs.Fields.{le4, le8, signedOf, bytes4, bytes8, wordOf}
 use Rattle.form.specs.Settings40.{settingsIn, settingsBytes, flag}
-use Rattle.form.specs.Form.{endKind, settingsKind, variantKind, partKind, lettersKind, nextKind, variantLen, partLen, lettersLen}
-use Rattle.form.specs.Form.{kindOf, isVariant, isPart, isNext, shapeOf, bodyLen, countOf, run, outset}
+use Rattle.form.specs.Settings41.{settings41In, settings41Bytes}
+use Rattle.form.specs.Form.{endKind, settingsKind, variantKind, partKind, lettersKind, nextKind, settings2Kind, variant2Kind, partLen, lettersLen, numberPlace}
+use Rattle.form.specs.Form.{kindOf, isVariant, isPart, isNext, isSecond, shapeOf, bodyLen, countOf, run, outset}
+use Rattle.form.specs.declared.records.Edition.{Edition}
+use Rattle.form.specs.declared.records.Edition.the-variants.{One, Two}
 use Rattle.form.specs.declared.records.Kind.{Kind}
 use Rattle.form.specs.declared.records.Kind.the-variants.{Variant as VariantRecord, Part as PartRecord}
 use Rattle.form.specs.declared.records.Scan.{Scan}
@@ -46,13 +49,14 @@ lettersIn b i (suc n) = getD b (1 + i + i / lettersLen) 0 ∷ lettersIn b (suc i
 unfoldable pub lettersAfter : Kind → List ℕ → List ℕ
 lettersAfter kind b = lettersIn (drop (bodyLen kind) b) 0 (countOf kind b)
 
-unfoldable pub variantOf : List ℕ → Variant
-variantOf b = record {
+-- a variant of either edition: its fields stand where edition 1 has them
+unfoldable pub variantOf : Kind → List ℕ → Variant
+variantOf kind b = record {
   start = le8 b 0;
   end = le8 b 8;
   size = signedOf (le4 b 16);
   negative = eqb (getD b (shapeOf VariantRecord .flags) 0) 1;
-  letters = lettersAfter VariantRecord b;
+  letters = lettersAfter kind b;
 }
 
 unfoldable pub partOf : List ℕ → Part
@@ -64,7 +68,7 @@ partOf b = record {
 
 -- what a whole record adds to the variants, and to the parts
 unfoldable pub variantHere : Kind → List ℕ → List Variant
-variantHere kind b = cond (isVariant kind) (cond (ltb (length b) variantLen) [] (variantOf b ∷ [])) []
+variantHere kind b = cond (isVariant kind) (cond (ltb (length b) (bodyLen kind)) [] (variantOf kind b ∷ [])) []
 
 unfoldable pub partHere : Kind → List ℕ → List Part
 partHere kind b = cond (isPart kind) (cond (ltb (length b) partLen) [] (partOf b ∷ [])) []
@@ -90,8 +94,33 @@ haplotypesIn [] n = [] ∷ []
 haplotypesIn (k ∷ b) (suc n) = haplotypesIn b n
 haplotypesIn (k ∷ b) zero = haplotypesHere (kindOf k) b (haplotypesIn b (bodyLen (kindOf k)))
 
+-- the first record decides the edition
+abbrev pub editionOf : List ℕ → Edition
+editionOf s = cond (isSecond (kindOf (getD s 0 0))) Two One
+
+unfoldable pub settingsBy : Edition → List ℕ → Settings
+settingsBy One b = settingsIn b
+settingsBy Two b = settings41In b
+
 unfoldable pub jobOf : List ℕ → Job
-jobOf s = record { settings = settingsIn (drop 1 s); variants = gather variantHere s 0; haplotypes = haplotypesIn s 0 }
+jobOf s = record { settings = settingsBy (editionOf s) (drop 1 s); variants = gather variantHere s 0; haplotypes = haplotypesIn s 0 }
+
+-- the record number of a variant of edition 2
+unfoldable pub numberHere : Kind → List ℕ → List ℕ
+numberHere kind b = cond (isVariant kind) (cond (isSecond kind) (cond (ltb (length b) (bodyLen kind)) [] (le4 b numberPlace ∷ [])) []) []
+
+-- the numbers from 0 up to and without n
+unfoldable pub rowNumbers : ℕ → List ℕ
+rowNumbers zero = []
+rowNumbers (suc n) = rowNumbers n ++ (n ∷ [])
+
+-- the record numbers of the variants; edition 1 has none of its own, and they are the row numbers
+unfoldable pub numbersBy : Edition → List ℕ → List ℕ
+numbersBy One s = rowNumbers (length (gather variantHere s 0))
+numbersBy Two s = gather numberHere s 0
+
+abbrev pub numbersOf : List ℕ → List ℕ
+numbersOf s = numbersBy (editionOf s) s
 
 -- the number of the first fault, or the job
 pub data Read : Type 0 where
@@ -128,15 +157,25 @@ partBody size negative count = bytes4 (wordOf size) ++ (flag negative ∷ bytes4
 unfoldable pub variantBody : ℕ → ℕ → ℤ → Bool → ℕ → List ℕ
 variantBody first last size negative count = bytes8 first ++ (bytes8 last ++ partBody size negative count)
 
-unfoldable pub variantBytes : Variant → List ℕ
-variantBytes x = variantKind ∷ (variantBody (x .start) (x .end) (x .size) (x .negative) (length (x .letters)) ++ sequenceBytes (x .letters))
+-- the record of settings, and of a variant with its record number, which edition 1 has no place for
+unfoldable pub settingsRecord : Edition → Settings → List ℕ
+settingsRecord One s = settingsKind ∷ settingsBytes s
+settingsRecord Two s = settings2Kind ∷ settings41Bytes s
+
+unfoldable pub variantRecord : Edition → ℕ → ℕ → ℕ → ℤ → Bool → ℕ → List ℕ
+variantRecord One number first last size negative count = variantKind ∷ variantBody first last size negative count
+variantRecord Two number first last size negative count = variant2Kind ∷ (variantBody first last size negative count ++ bytes4 number)
+
+unfoldable pub variantBytes : Edition → ℕ → Variant → List ℕ
+variantBytes e number x = variantRecord e number (x .start) (x .end) (x .size) (x .negative) (length (x .letters)) ++ sequenceBytes (x .letters)
 
 unfoldable pub partBytes : Part → List ℕ
 partBytes x = partKind ∷ (partBody (x .size) (x .negative) (length (x .letters)) ++ sequenceBytes (x .letters))
 
-unfoldable pub variantsBytes : List Variant → List ℕ
-variantsBytes [] = []
-variantsBytes (x ∷ xs) = variantBytes x ++ variantsBytes xs
+-- each variant with the record number in its place
+unfoldable pub variantsBytes : Edition → List ℕ → List Variant → List ℕ
+variantsBytes e numbers [] = []
+variantsBytes e numbers (x ∷ xs) = variantBytes e (getD numbers 0 0) x ++ variantsBytes e (drop 1 numbers) xs
 
 unfoldable pub partsBytes : List Part → List ℕ
 partsBytes [] = []
@@ -151,5 +190,6 @@ unfoldable pub haplotypesBytes : List (List Part) → List ℕ
 haplotypesBytes [] = []
 haplotypesBytes (first ∷ rest) = partsBytes first ++ furtherBytes rest
 
-unfoldable pub jobBytes : Job → List ℕ
-jobBytes job = settingsKind ∷ (settingsBytes (job .settings) ++ (variantsBytes (job .variants) ++ (haplotypesBytes (job .haplotypes) ++ (endKind ∷ []))))
+unfoldable pub jobBytes : Edition → List ℕ → Job → List ℕ
+jobBytes e numbers job =
+    settingsRecord e (job .settings) ++ (variantsBytes e numbers (job .variants) ++ (haplotypesBytes (job .haplotypes) ++ (endKind ∷ [])))

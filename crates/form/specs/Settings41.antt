@@ -1,16 +1,12 @@
 -- Document 02, P7: the body of edition 2's settings, the old 40 bytes and then `letters`; and what such bytes are refused by.
 use Prim.Native.Nat.{ℕ}
-use mathlib.Core.List.{List, _∷_}
+use mathlib.Core.List.{List, [], _∷_, _++_}
 use mathlib.Core.Bool.{Bool, not, _&&_}
 use lib.ListN.{getD}
 use Rattle.params.specs.declared.Settings.{Settings}
 use Rattle.params.specs.Numbers.{Rule, rule, firstOf, settingsRules}
-use Rattle.form.specs.Form.{areFlags, settingsLen}
-use Rattle.form.specs.Settings40.{settingsIn}
-
--- where `letters` stands, behind the old bytes
-abbrev pub lettersPlace : ℕ
-lettersPlace = settingsLen
+use Rattle.form.specs.Form.{areFlags, lettersPlace}
+use Rattle.form.specs.Settings40.{settingsIn, settingsBytes}
 
 unfoldable pub settings41In : List ℕ → Settings
 settings41In b =
@@ -31,6 +27,9 @@ settings41In b =
       fpenalty = old .fpenalty;
       gpenalty = old .gpenalty;
     }
+
+unfoldable pub settings41Bytes : Settings → List ℕ
+settings41Bytes s = settingsBytes s ++ (s .letters ∷ [])
 
 -- 24: a flag not 0 or 1: squish, one_to_one and full from the second byte on, and `letters`
 abbrev pub badFlags41 : List ℕ → Bool

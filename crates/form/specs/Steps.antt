@@ -8,7 +8,7 @@ use lib.Dec.{ltb, leb}
 use Rattle.form.specs.Form.{lettersKind, lettersLen, kindOf, isVariant, isPart, isLetters, isNext, bodyLen, countOf, after}
 use Rattle.form.specs.Job.{lettersIn, lettersAfter, partHere}
 use Rattle.form.specs.declared.records.Kind.{Kind}
-use Rattle.form.specs.declared.records.Kind.the-variants.{Variant, Part}
+use Rattle.form.specs.declared.records.Kind.the-variants.{Part}
 use Rattle.form.specs.declared.records.State.{State}
 
 -- a state that a record with no fault leads to, with bounds that keep the counts within the input's length
@@ -25,7 +25,7 @@ Small st n = (st .variants ≤ n) × ((st .parts ≤ n) × ((st .breaks ≤ n) �
 
 -- the letters behind a variant, and behind a part
 unfoldable pub variantLettersHere : Kind → List ℕ → List ℕ
-variantLettersHere kind b = cond (isVariant kind) (cond (ltb (length b) (bodyLen Variant)) [] (lettersAfter Variant b)) []
+variantLettersHere kind b = cond (isVariant kind) (cond (ltb (length b) (bodyLen kind)) [] (lettersAfter kind b)) []
 
 unfoldable pub partLettersHere : Kind → List ℕ → List ℕ
 partLettersHere kind b = cond (isPart kind) (cond (ltb (length b) (bodyLen Part)) [] (lettersAfter Part b)) []

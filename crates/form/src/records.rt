@@ -13,10 +13,10 @@ ghost use mathlib.Core.Path.{_≡_};
 ghost use mathlib.Core.List.{[]};
 ghost use Prim.Native.Nat.{_≤_, _+_, _^_};
 ghost use lib.ListN.{length, drop, take};
-ghost use Rattle.form.specs.Form.{isEnd, isLetters, isNext, isUnknown, shapeOf, bodyLen, inPlace, areFlags, flagsOk, countOf, allZero, padOk, tooMany, faultOf, outset, run};
+ghost use Rattle.form.specs.Form.{isEnd, isLetters, isNext, isSecond, isUnknown, shapeOf, bodyLen, inPlace, areFlags, flagsOk, countOf, allZero, padOk, tooMany, faultOf, outset, run};
 ghost use Rattle.form.specs.declared.records.Kind.the-variants.{Letters};
 ghost use Rattle.form.specs.Steps.{Follows, Small};
-ghost use Rattle.form.specs.Promises.{KindOfPromise, BodyLenPromise, RecordAtPromise};
+ghost use Rattle.form.specs.Promises.{KindOfPromise, BodyLenPromise, RecordAtPromise, EditionOfPromise};
 
 // What is known between two records: which kinds may follow, how many letters are owed, and the counts so far.
 pub struct State {
@@ -47,7 +47,15 @@ pub enum Kind {
     Part,
     Letters,
     Next,
+    Settings2,
+    Variant2,
     Unknown,
+}
+
+// Of the form: which kinds of settings and of variants a job has.
+pub enum Edition {
+    One,
+    Two,
 }
 
 // A record's kind, how many letters it announces, and where the next one begins.
@@ -69,6 +77,10 @@ pub const PART: u8 = 3;
 pub const LETTERS: u8 = 4;
 
 pub const NEXT: u8 = 5;
+// edition 2's settings and its variant
+pub const SETTINGS2: u8 = 17;
+
+pub const VARIANT2: u8 = 18;
 // what one sequence may have
 pub const MOST_LETTERS: u32 = 131072;
 // of a job's 16 haplotypes all but the first begin with a record of their own
@@ -81,6 +93,10 @@ pub const VARIANT_BODY: usize = 25;
 pub const PART_BODY: usize = 9;
 
 pub const LETTERS_BODY: usize = 16;
+
+pub const SETTINGS2_BODY: usize = 41;
+
+pub const VARIANT2_BODY: usize = 29;
 // how many letters a record has, at most
 pub const LETTERS_EACH: u32 = LETTERS_BODY as u32;
 // the kind's byte and the body
@@ -91,6 +107,10 @@ pub const VARIANT_RECORD: usize = 1 + VARIANT_BODY;
 pub const PART_RECORD: usize = 1 + PART_BODY;
 
 pub const LETTERS_RECORD: usize = 1 + LETTERS_BODY;
+
+pub const SETTINGS2_RECORD: usize = 1 + SETTINGS2_BODY;
+
+pub const VARIANT2_RECORD: usize = 1 + VARIANT2_BODY;
 // settings and the end
 pub const LEAST_JOB: usize = SETTINGS_RECORD + 1;
 // where the flag of a variant and of a part stands, and their letter count
@@ -101,15 +121,18 @@ pub const VARIANT_COUNT: usize = 21;
 pub const PART_FLAG: usize = 4;
 
 pub const PART_COUNT: usize = 5;
-// where edition 2's settings have `letters`: behind the old bytes
+// where edition 2's settings have `letters`, and its variant the record number: behind the old bytes
 pub const LETTERS_PLACE: usize = SETTINGS_BODY;
 
-// A kind's shape: how long its body is, from which byte on how many are flags, and where the letter count stands, 0 where it has none.
+pub const NUMBER_PLACE: usize = VARIANT_BODY;
+
+// A kind's shape: how long its body is, from which byte on how many are flags, where the letter count stands, 0 where it has none, and how many flags stand at LETTERS_PLACE.
 pub struct Shape {
     pub body: usize,
     pub flags: usize,
     pub flag_count: usize,
     pub count: usize,
+    pub late_flags: usize,
 }
 
 // The kind that a record's first byte says.
@@ -123,6 +146,8 @@ pub fn kind_of(byte: u8) -> Kind
         3 => Kind::Part,
         4 => Kind::Letters,
         5 => Kind::Next,
+        17 => Kind::Settings2,
+        18 => Kind::Variant2,
         _ => Kind::Unknown,
     }
 }
@@ -137,42 +162,63 @@ fn shape_of(kind: Kind) -> Shape
             flags: 1,
             flag_count: 3,
             count: 0,
+            late_flags: 0,
         },
         Kind::Variant => Shape {
             body: VARIANT_BODY,
             flags: VARIANT_FLAG,
             flag_count: 1,
             count: VARIANT_COUNT,
+            late_flags: 0,
         },
         Kind::Part => Shape {
             body: PART_BODY,
             flags: PART_FLAG,
             flag_count: 1,
             count: PART_COUNT,
+            late_flags: 0,
         },
         Kind::Letters => Shape {
             body: LETTERS_BODY,
             flags: 0,
             flag_count: 0,
             count: 0,
+            late_flags: 0,
         },
         Kind::Next => Shape {
             body: 0,
             flags: 0,
             flag_count: 0,
             count: 0,
+            late_flags: 0,
+        },
+        Kind::Settings2 => Shape {
+            body: SETTINGS2_BODY,
+            flags: 1,
+            flag_count: 3,
+            count: 0,
+            late_flags: 1,
+        },
+        Kind::Variant2 => Shape {
+            body: VARIANT2_BODY,
+            flags: VARIANT_FLAG,
+            flag_count: 1,
+            count: VARIANT_COUNT,
+            late_flags: 0,
         },
         Kind::End => Shape {
             body: 0,
             flags: 0,
             flag_count: 0,
             count: 0,
+            late_flags: 0,
         },
         Kind::Unknown => Shape {
             body: 0,
             flags: 0,
             flag_count: 0,
             count: 0,
+            late_flags: 0,
         },
     }
 }
@@ -195,6 +241,8 @@ fn is_end(kind: Kind) -> bool
         Kind::Part => false,
         Kind::Letters => false,
         Kind::Next => false,
+        Kind::Settings2 => false,
+        Kind::Variant2 => false,
         Kind::Unknown => false,
     }
 }
@@ -209,6 +257,8 @@ fn is_letters(kind: Kind) -> bool
         Kind::Part => false,
         Kind::Letters => true,
         Kind::Next => false,
+        Kind::Settings2 => false,
+        Kind::Variant2 => false,
         Kind::Unknown => false,
     }
 }
@@ -223,6 +273,8 @@ fn is_unknown(kind: Kind) -> bool
         Kind::Part => false,
         Kind::Letters => false,
         Kind::Next => false,
+        Kind::Settings2 => false,
+        Kind::Variant2 => false,
         Kind::Unknown => true,
     }
 }
@@ -237,8 +289,36 @@ fn is_next(kind: Kind) -> bool
         Kind::Part => false,
         Kind::Letters => false,
         Kind::Next => true,
+        Kind::Settings2 => false,
+        Kind::Variant2 => false,
         Kind::Unknown => false,
     }
+}
+
+fn is_second(kind: Kind) -> bool
+    ensures { λ r. ⌜ r ≡ isSecond kind ⌝ }
+{
+    match kind {
+        Kind::End => false,
+        Kind::Settings => false,
+        Kind::Variant => false,
+        Kind::Part => false,
+        Kind::Letters => false,
+        Kind::Next => false,
+        Kind::Settings2 => true,
+        Kind::Variant2 => true,
+        Kind::Unknown => false,
+    }
+}
+
+// The first record decides the edition.
+pub fn edition_of(s: &[u8]) -> Edition
+    ensures { λ r. ⌜ EditionOfPromise (now (s .entry)) r ⌝ }
+{
+    if is_second(kind_of(u8_at(s, 0))) {
+        return Edition::Two;
+    }
+    Edition::One
 }
 
 fn in_place(st: State, kind: Kind) -> bool
@@ -251,6 +331,8 @@ fn in_place(st: State, kind: Kind) -> bool
         Kind::Part => st.left == 0 && 0 < st.phase,
         Kind::Next => st.left == 0 && 0 < st.phase,
         Kind::End => st.left == 0 && 0 < st.phase,
+        Kind::Settings2 => st.left == 0 && st.phase == 0,
+        Kind::Variant2 => st.left == 0 && st.phase == 3,
         Kind::Unknown => false,
     }
 }
@@ -274,7 +356,10 @@ fn flags_ok(kind: Kind, b: &[u8]) -> bool
     ensures { λ r. ⌜ r ≡ flagsOk kind (now (b .entry)) ⌝ }
 {
     let s = shape_of(kind);
-    are_flags(b, s.flags, s.flag_count)
+    if !are_flags(b, s.flags, s.flag_count) {
+        return false;
+    }
+    are_flags(b, LETTERS_PLACE, s.late_flags)
 }
 
 // How many letters a record with b from its body on announces.
@@ -434,6 +519,22 @@ fn after_record(st: State, kind: Kind, b: &[u8]) -> State
             variants: st.variants,
             parts: st.parts,
             breaks: st.breaks + 1,
+            letters: st.letters,
+        },
+        Kind::Settings2 => State {
+            phase: 3,
+            left: n,
+            variants: st.variants,
+            parts: st.parts,
+            breaks: st.breaks,
+            letters: st.letters,
+        },
+        Kind::Variant2 => State {
+            phase: st.phase,
+            left: n,
+            variants: st.variants + 1,
+            parts: st.parts,
+            breaks: st.breaks,
             letters: st.letters,
         },
         Kind::End => State {

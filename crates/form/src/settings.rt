@@ -1,4 +1,5 @@
 // The body of a settings record, of 40 bytes and of edition 2's 41.
+use crate::records::Edition;
 use crate::records::LETTERS_PLACE;
 use crate::records::are_flags;
 use fields::float_of;
@@ -14,7 +15,7 @@ ghost use mathlib.Core.Path.{_≡_};
 ghost use Prim.Native.Nat.{_<_, _+_, _^_};
 ghost use lib.Seq.{sets};
 ghost use Rattle.form.specs.Settings40.{numberBytes, floatBytes, flag};
-ghost use Rattle.form.specs.Promises.{ReadSettingsPromise, WriteSettingsPromise, ReadSettings41Promise, Settings41FaultPromise};
+ghost use Rattle.form.specs.Promises.{ReadSettingsPromise, WriteSettingsPromise, ReadSettings41Promise, WriteSettings41Promise, SettingsByPromise, Settings41FaultPromise};
 
 // The settings that b begins with. The 40 bytes have no place for `letters`: they are 0.
 pub fn read_settings(b: &[u8]) -> Settings
@@ -58,6 +59,16 @@ pub fn read_settings41(b: &[u8]) -> Settings
         seqsim: old.seqsim,
         fpenalty: old.fpenalty,
         gpenalty: old.gpenalty,
+    }
+}
+
+// The settings that b begins with, in an edition.
+pub fn settings_by(edition: Edition, b: &[u8]) -> Settings
+    ensures { λ r. ⌜ SettingsByPromise edition (now (b .entry)) r ⌝ }
+{
+    match edition {
+        Edition::One => read_settings(b),
+        Edition::Two => read_settings41(b),
     }
 }
 
@@ -114,4 +125,15 @@ pub fn write_settings(out: &mut [u8], at: usize, s: Settings)
     put_u8(out, at + 3, flag_of(s.full));
     write_numbers(out, at + 4, s);
     write_floats(out, at + 24, s);
+}
+
+// Edition 2's settings from position `at` on, as far as there is room.
+pub fn write_settings41(out: &mut [u8], at: usize, s: Settings)
+    ensures { λ _. ⌜ WriteSettings41Promise (now (out .entry)) at s (now (out .exit)) ⌝ }
+{
+    if out.len() <= at {
+        return;
+    }
+    write_settings(out, at, s);
+    put_u8(out, at + LETTERS_PLACE, s.letters);
 }

@@ -46,6 +46,10 @@ pub const BYTES_AFTER_END: u32 = 25;
 pub const TOO_LARGE: u32 = 26;
 // not 1 to 16 haplotypes
 pub const TOO_MANY_HAPLOTYPES: u32 = 27;
+// a record number is not its row
+pub const NUMBER_NOT_ROW: u32 = 28;
+// letters is 1
+pub const LETTERS_ONE: u32 = 29;
 // too little room
 pub const LITTLE_ROOM: u32 = 30;
 // a bad line of BED, or a bad name to write

@@ -12,10 +12,12 @@ use lib.Seq.{sets}
 use borrow.Author.Tests.{lt-ltb, le-ltb}
 use Rattle.fields.specs.Fields.{le4, le8, signedOf}
 use Rattle.form.specs.declared.records.Kind.{Kind}
+use Rattle.form.specs.declared.records.Kind.the-variants.{End, Settings, Variant, Part, Letters, Next, Settings2, Variant2, Unknown}
 use Rattle.form.specs.declared.records.Record.{Record}
-use Rattle.form.specs.Form.{isVariant, isPart, countOf, recordAt}
-use Rattle.form.specs.Job.{lettersAfter, variantOf, partOf, variantHere, partHere, gather}
+use Rattle.form.specs.Form.{isVariant, isPart, bodyLen, countOf, recordAt}
+use Rattle.form.specs.Job.{lettersIn, lettersAfter, variantOf, partOf, variantHere, partHere, gather}
 use Rattle.reader.specs.Steps.{Rows, rows, putRow, PartRows, partRows, putPart, stores, Stored}
+use Rattle.form.proofs.FormLaws.{mixed}
 use Rattle.form.proofs.GatherLaws.{gather-here, gather-done, long-letters}
 
 -- ---- storing
@@ -52,7 +54,7 @@ stores-sets l i (x ∷ xs) = stores-sets (set l i x) (suc i) xs
 -- ---- a variant's row, and a part's
 pub variant-put : (t : Rows) (v : ℕ) (b : List ℕ) {f l c : List ℕ} {n : List Bool} {s : List ℤ} {p q x w : ℕ} {z : ℤ}
     → f ≡ set (t .starts) v p → p ≡ le8 b 0 → l ≡ set (t .ends) v q → q ≡ le8 b 8 → s ≡ set (t .sizes) v z → z ≡ signedOf x → x ≡ le4 b 16
-    → n ≡ set (t .negatives) v (eqb (getD b 20 0) 1) → c ≡ set (t .counts) v w → w ≡ le4 b 21 → rows f l s n c ≡ putRow t v (variantOf b)
+    → n ≡ set (t .negatives) v (eqb (getD b 20 0) 1) → c ≡ set (t .counts) v w → w ≡ le4 b 21 → rows f l s n c ≡ putRow t v (variantOf Variant b)
 unfolding variantOf lettersAfter countOf
 variant-put t v b hf hp hl hq hs hz hx hn hc hw = rw (hf, hp, hl, hq, hs, hz, hx, hn, hc, hw, long-letters)
 
@@ -61,6 +63,39 @@ pub part-put : (t : PartRows) (v : ℕ) (b : List ℕ) {c : List ℕ} {n : List 
     → n ≡ set (t .negatives) v (eqb (getD b 4 0) 1) → c ≡ set (t .counts) v w → w ≡ le4 b 5 → partRows s n c ≡ putPart t v (partOf b)
 unfolding partOf lettersAfter countOf
 part-put t v b hs hz hx hn hc hw = rw (hs, hz, hx, hn, hc, hw, long-letters)
+
+-- a variant of either edition has the fields of edition 1's, and its row is that one's
+pub long-variant : (kind : Kind) {n m : ℕ} → isVariant kind ≡ true → n ≡ bodyLen kind → n ≤ m → 25 ≤ m
+unfolding bodyLen
+long-variant End h e g = mixed (sym h)
+long-variant Settings h e g = mixed (sym h)
+long-variant Variant h e g = omega arith
+long-variant Part h e g = mixed (sym h)
+long-variant Letters h e g = mixed (sym h)
+long-variant Next h e g = mixed (sym h)
+long-variant Settings2 h e g = mixed (sym h)
+long-variant Variant2 h e g = omega arith
+long-variant Unknown h e g = mixed (sym h)
+
+same-count : (kind : Kind) (b : List ℕ) → isVariant kind ≡ true → countOf Variant b ≡ countOf kind b
+unfolding countOf
+same-count End b h = mixed (sym h)
+same-count Settings b h = mixed (sym h)
+same-count Variant b h = refl
+same-count Part b h = mixed (sym h)
+same-count Letters b h = mixed (sym h)
+same-count Next b h = mixed (sym h)
+same-count Settings2 b h = mixed (sym h)
+same-count Variant2 b h = refl
+same-count Unknown b h = mixed (sym h)
+
+pub same-row : (t : Rows) (v : ℕ) (kind : Kind) (b : List ℕ) → isVariant kind ≡ true → putRow t v (variantOf Variant b) ≡ putRow t v (variantOf kind b)
+unfolding variantOf lettersAfter
+same-row t v kind b h =
+    let e : length (lettersIn (drop (bodyLen Variant) b) 0 (countOf Variant b)) ≡ length (lettersIn (drop (bodyLen kind) b) 0 (countOf kind b)) =
+    long-letters (drop (bodyLen Variant) b) 0 (countOf Variant b) ∙ same-count kind b h ∙ sym (long-letters (drop (bodyLen kind) b) 0 (countOf kind b)) in
+    ap (λ (n : ℕ). rows (set (t .starts) v (le8 b 0)) (set (t .ends) v (le8 b 8)) (set (t .sizes) v (signedOf (le4 b 16))) (set (t .negatives) v (eqb (getD b 20 0) 1))
+    (set (t .counts) v n)) e
 
 -- a record that adds nothing, and one that adds one
 module _ {T A : Type 0} (put : T → ℕ → A → T) (t : T) (v : ℕ) where
@@ -77,13 +112,13 @@ module _ (kind : Kind) (b : List ℕ) where
   unfolding variantHere
   no-variant h = rw h
 
-  pub cut-variant : isVariant kind ≡ true → length b < 25 → variantHere kind b ≡ []
+  pub cut-variant : {n : ℕ} → isVariant kind ≡ true → n ≡ bodyLen kind → length b < n → variantHere kind b ≡ []
   unfolding variantHere
-  cut-variant h g = rw (h, lt-ltb (length b) 25 g)
+  cut-variant h e g = rw (h, sym e, lt-ltb (length b) _ g)
 
-  pub one-variant : isVariant kind ≡ true → 25 ≤ length b → variantHere kind b ≡ variantOf b ∷ []
+  pub one-variant : {n : ℕ} → isVariant kind ≡ true → n ≡ bodyLen kind → n ≤ length b → variantHere kind b ≡ variantOf kind b ∷ []
   unfolding variantHere
-  one-variant h g = rw (h, le-ltb (length b) 25 g)
+  one-variant h e g = rw (h, sym e, le-ltb (length b) _ g)
 
   pub no-part : isPart kind ≡ false → partHere kind b ≡ []
   unfolding partHere

@@ -3,3 +3,4 @@ pub mod FillLaws
 pub mod WalkLaws
 pub mod RoomLaws
 pub mod ReadLaws
+pub mod NumberingLaws

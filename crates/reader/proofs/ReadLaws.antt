@@ -5,60 +5,54 @@ use native.Mathlib.Omega.{arith}
 use mathlib.Core.Path.{_≡_, refl, sym, ap, subst, _∙_}
 use mathlib.Core.Bool.{Bool, true, false, cond}
 use mathlib.Core.List.{List, [], _∷_, _++_, map, flatten}
-use mathlib.Core.Logic.{⊎-elim}
-use lib.Dec.{eqb}
 use lib.ListN.{length, take, drop, set, length-drop, length-map}
 use lib.Seq.{take-all, sets-eq}
-use borrow.Author.Tests.{le-leb, lt-leb, leb-true, eqb-true}
+use borrow.Author.Tests.{le-leb, lt-leb, leb-true}
 use Rattle.params.specs.declared.Settings.{Settings}
+use Rattle.form.specs.declared.records.Edition.{Edition}
 use Rattle.form.specs.declared.records.Kind.{Kind}
-use Rattle.form.specs.declared.records.Kind.the-variants.{End, Settings as SettingsRecord, Variant as VariantRecord, Part as PartRecord, Letters, Next, Unknown}
+use Rattle.form.specs.declared.records.Kind.the-variants.{End, Settings as SettingsRecord, Variant as VariantRecord, Part as PartRecord, Letters, Next, Settings2, Variant2, Unknown}
 use Rattle.form.specs.declared.records.Counts.{Counts}
 use Rattle.form.specs.declared.records.Scan.{Scan}
 use Rattle.form.specs.declared.records.Scan.the-variants.{Good, Refused}
 use Rattle.reader.specs.declared.Reading.the-variants.{Refused as Declined, Job as Given}
-use Rattle.form.specs.Settings40.{settingsIn}
-use Rattle.form.specs.Form.{kindOf, bodyLen, inPlace, faultOf, run, judge, outset}
-use Rattle.form.specs.Job.{Variant, Part, variantHere, partHere, gather, haplotypesIn, jobOf, readOf, readJob}
+use Rattle.form.specs.Form.{kindOf, isSettings, bodyLen, run, outset}
+use Rattle.form.specs.Job.{Variant, Part, variantHere, partHere, gather, haplotypesIn, editionOf, settingsBy, jobOf, readOf, readJob}
 use Rattle.form.specs.Lent.{Lent, lettersOf, breaksOf, jobCounts}
 use Rattle.reader.specs.Reading.{five, three, hasRoom, lentWith, readingOf, lentAfter}
 use Rattle.metrics.specs.Placed.{placed}
 use Rattle.reader.specs.Steps.{Rows, rows, putRow, PartRows, partRows, putPart, stores}
 use Rattle.form.specs.Steps.{variantLettersHere, partLettersHere, lettersWalk, breaksWalk}
-use Rattle.form.proofs.FormLaws.{split, both, mixed}
+use Rattle.form.proofs.FormLaws.{both, mixed}
 use Rattle.reader.proofs.FillLaws.{stores-sets}
 use Rattle.form.proofs.OrderLaws.{in-order}
+use Rattle.form.proofs.NumberLaws.{first-record}
 use Rattle.form.proofs.HaplotypeLaws.{flat-haplotypes, breaks-are}
-use Rattle.form.proofs.CountLaws.{none-placed, none-whole, counts-are, letters-of-variants, letters-of-parts}
+use Rattle.form.proofs.CountLaws.{none-whole, counts-are, letters-of-variants, letters-of-parts}
 
 -- ---- a good form begins with a whole settings record
-first-kind : (kind : Kind) (b : List ℕ) → inPlace outset kind ≡ true → bodyLen kind ≤ length b → 40 ≤ length b
-unfolding inPlace bodyLen
-first-kind End b h w = mixed (sym h)
-first-kind SettingsRecord b h w = w
-first-kind VariantRecord b h w = mixed (sym h)
-first-kind PartRecord b h w = mixed (sym h)
-first-kind Letters b h w = mixed (sym h)
-first-kind Next b h w = mixed (sym h)
-first-kind Unknown b h w = mixed (sym h)
-
-first-whole : (kind : Kind) (b : List ℕ) (c : Counts) (rest : Scan) → judge (faultOf outset kind b) kind outset rest ≡ Good c → 40 ≤ length b
-first-whole kind b c rest e = ⊎-elim
-    (λ (f : eqb (faultOf outset kind b) 0 ≡ true).
-    let z : faultOf outset kind b ≡ 0 = eqb-true _ _ f in
-    first-kind kind b (none-placed outset kind b z) (none-whole outset kind b z))
-    (λ (f : eqb (faultOf outset kind b) 0 ≡ false).
-    let w : Refused (faultOf outset kind b) ≡ Good c = simp f at e in
-    let z : _≡_ {A = ℕ} 0 1 = cc in omega arith)
-    (split (eqb (faultOf outset kind b) 0))
+whole-settings : (kind : Kind) (b : List ℕ) → isSettings kind ≡ true → bodyLen kind ≤ length b → 40 ≤ length b
+unfolding bodyLen
+whole-settings End b h w = mixed (sym h)
+whole-settings SettingsRecord b h w = w
+whole-settings VariantRecord b h w = mixed (sym h)
+whole-settings PartRecord b h w = mixed (sym h)
+whole-settings Letters b h w = mixed (sym h)
+whole-settings Next b h w = mixed (sym h)
+whole-settings Settings2 b h w = omega arith
+whole-settings Variant2 b h w = mixed (sym h)
+whole-settings Unknown b h w = mixed (sym h)
 
 good-long : (s : List ℕ) (c : Counts) → run s 0 outset ≡ Good c → 41 ≤ length s
 unfolding run
 good-long [] c e = let z : _≡_ {A = ℕ} 0 1 = cc in omega arith
-good-long (k ∷ b) c e = let h : 40 ≤ length b = first-whole (kindOf k) b c _ e in omega arith
+good-long (k ∷ b) c e =
+    let f = first-record k b e in
+    let h : 40 ≤ length b = whole-settings (kindOf k) b (f .1) (none-whole outset (kindOf k) b (f .0)) in
+    omega arith
 
 -- ---- columns
-laid : {A : Type 0} (l ys : List A) → length ys ≤ length l → stores set l 0 ys ≡ placed l ys
+pub laid : {A : Type 0} (l ys : List A) → length ys ≤ length l → stores set l 0 ys ≡ placed l ys
 laid l ys h =
     let z : 0 + length ys ≡ length ys = omega arith in
     stores-sets l 0 ys ∙ sets-eq ys l 0 (rw z h) ∙ ap (λ (n : ℕ). ys ++ drop n l) z
@@ -115,9 +109,9 @@ module _ (s : List ℕ) {c : Counts} (at : run s 0 outset ≡ Good c) where
   are = counts-are s c at
 
   module _ (t : Lent) where
-    reading-at : readingOf (readJob s) t ≡ cond (hasRoom c t) (Given (settingsIn (drop 1 s)) c) (Declined 30)
+    reading-at : readingOf (readJob s) t ≡ cond (hasRoom c t) (Given (settingsBy (editionOf s) (drop 1 s)) c) (Declined 30)
     unfolding readJob readingOf jobOf
-    reading-at = ap (λ (w : Scan). readingOf (readOf w (jobOf s)) t) at ∙ ap (λ (d : Counts). cond (hasRoom d t) (Given (settingsIn (drop 1 s)) d) (Declined 30)) (sym are)
+    reading-at = ap (λ (w : Scan). readingOf (readOf w (jobOf s)) t) at ∙ ap (λ (d : Counts). cond (hasRoom d t) (Given (settingsBy (editionOf s) (drop 1 s)) d) (Declined 30)) (sym are)
 
     lent-at : lentAfter (readJob s) t ≡ cond (hasRoom c t) (lentWith (jobOf s) t) t
     unfolding readJob lentAfter
@@ -194,8 +188,8 @@ module _ (s : List ℕ) {c : Counts} (at : run s 0 outset ≡ Good c) where
                   ls ∙ ap (λ (l : List ℕ). stores set (t .letters) 0 l) (in-order s c at) ∙ laid (t .letters) kinds letters-fit ∙ ap (placed (t .letters)) (sym kinds-are) in
                   λ i. record { starts = e1 i; ends = e2 i; sizes = e3 i; negatives = e4 i; counts = e5 i; partSizes = e6 i; partNegatives = e7 i; partCounts = e8 i; breaks = e0 i; letters = e9 i }
 
-              pub read-job : (head : Settings) → head ≡ settingsIn (take (length s - 1) (drop 1 s))
+              pub read-job : (edition : Edition) (head : Settings) → edition ≡ editionOf s → head ≡ settingsBy edition (take (length s - 1) (drop 1 s))
                   → (Given head c ≡ readingOf (readJob s) t) × (u ≡ lentAfter (readJob s) t)
-              read-job head h =
+              read-job edition head e h =
                   let x : take (length s - 1) (drop 1 s) ≡ drop 1 s = take-all (length s - 1) (drop 1 s) (simp length-drop (omega arith)) in
-                  (sym (reading-at ∙ rw has-room (ap (λ (y : Settings). Given y c) (sym (h ∙ ap settingsIn x)))), laid-job ∙ sym (lent-at ∙ rw has-room))
+                  (sym (reading-at ∙ rw has-room (ap (λ (y : Settings). Given y c) (sym (h ∙ rw (x, e))))), laid-job ∙ sym (lent-at ∙ rw has-room))

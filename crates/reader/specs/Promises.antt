@@ -5,10 +5,12 @@ use mathlib.Core.Path.{_≡_}
 use mathlib.Core.Bool.{Bool}
 use mathlib.Core.List.{List}
 use lib.IntN.{ℤ}
-use Rattle.form.specs.Job.{readJob}
+use lib.ListN.{length}
+use Rattle.form.specs.Job.{readJob, numbersOf}
 use Rattle.form.specs.Lent.{lent}
-use Rattle.reader.specs.Reading.{readingOf, lentAfter}
+use Rattle.reader.specs.Reading.{readingOf, lentAfter, numberingOf, numbersAfter}
 use Rattle.reader.specs.declared.Reading.{Reading}
+use Rattle.reader.specs.declared.numbers.Numbering.{Numbering}
 
 abbrev pub ReadJobPromise : List ℕ → List ℕ → List ℕ → List ℤ → List Bool → List ℕ → List ℤ → List Bool → List ℕ → List ℕ → List ℕ
     → List ℕ → List ℕ → List ℤ → List Bool → List ℕ → List ℤ → List Bool → List ℕ → List ℕ → List ℕ → Reading → Type 0
@@ -17,3 +19,7 @@ ReadJobPromise bytes starts ends sizes negatives letterCounts partSizes partNega
     let t = lent starts ends sizes negatives letterCounts partSizes partNegatives partLetterCounts breaks letters in
     let u = lent starts' ends' sizes' negatives' letterCounts' partSizes' partNegatives' partLetterCounts' breaks' letters' in
     (r ≡ readingOf (readJob bytes) t) × (u ≡ lentAfter (readJob bytes) t)
+
+abbrev pub ReadNumbersPromise : List ℕ → List ℕ → List ℕ → Numbering → Type 0
+ReadNumbersPromise bytes numbers numbers' r =
+    (r ≡ numberingOf (readJob bytes) (numbersOf bytes) (length numbers)) × (numbers' ≡ numbersAfter (readJob bytes) (numbersOf bytes) numbers)

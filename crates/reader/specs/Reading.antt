@@ -1,6 +1,6 @@
--- Document 01, "Job form", and change request P1: what reading a job into lent slices answers, and what the slices hold then.
-use Prim.Native.Nat.{ℕ}
-use mathlib.Core.List.{map}
+-- Document 01, "Job form", and change requests P1 and P7: what reading a job into lent slices answers, and what the slices hold then.
+use Prim.Native.Nat.{ℕ, _^_}
+use mathlib.Core.List.{List, map}
 use mathlib.Core.Bool.{Bool, _&&_, cond}
 use lib.ListN.{length}
 use lib.Dec.{leb}
@@ -10,6 +10,8 @@ use Rattle.form.specs.Job.{Variant, Part, Job, allParts, Read, Faulty, Held}
 use Rattle.form.specs.Lent.{Lent, lettersOf, breaksOf, jobCounts}
 use Rattle.reader.specs.declared.Reading.{Reading}
 use Rattle.reader.specs.declared.Reading.the-variants.{Refused as Declined, Job as Given}
+use Rattle.reader.specs.declared.numbers.Numbering.{Numbering}
+use Rattle.reader.specs.declared.numbers.Numbering.the-variants.{Refused as Unnumbered, Numbers}
 
 -- a row in each slice for each of n
 unfoldable pub five : ℕ → ℕ → ℕ → ℕ → ℕ → ℕ → Bool
@@ -46,3 +48,16 @@ readingOf (Held job) t = cond (hasRoom (jobCounts job) t) (Given (job .settings)
 unfoldable pub lentAfter : Read → Lent → Lent
 lentAfter (Faulty n) t = t
 lentAfter (Held job) t = cond (hasRoom (jobCounts job) t) (lentWith job t) t
+
+-- Document 02, P7: the record numbers by themselves, at the front of a slice of their own: the first fault, 30 where they have no room, or how many they are.
+-- A record number is of 32 bits, so there is room for 2^32 of them at the most.
+abbrev pub numbersFit : List ℕ → ℕ → Bool
+numbersFit numbers room = leb (length numbers) room && leb (length numbers) (2 ^ 32)
+
+unfoldable pub numberingOf : Read → List ℕ → ℕ → Numbering
+numberingOf (Faulty n) numbers room = Unnumbered n
+numberingOf (Held job) numbers room = cond (numbersFit numbers room) (Numbers (length numbers)) (Unnumbered 30)
+
+unfoldable pub numbersAfter : Read → List ℕ → List ℕ → List ℕ
+numbersAfter (Faulty n) numbers old = old
+numbersAfter (Held job) numbers old = cond (numbersFit numbers (length old)) (placed old numbers) old

@@ -9,9 +9,9 @@ use form::records::LETTERS_EACH;
 use form::records::PART_BODY;
 use form::records::PART_COUNT;
 use form::records::PART_FLAG;
-use form::records::VARIANT_BODY;
 use form::records::VARIANT_COUNT;
 use form::records::VARIANT_FLAG;
+use form::records::body_len;
 use form::records::record_at;
 ghost use mathlib.Core.Path.{_≡_};
 ghost use Prim.Native.Nat.{_≤_, _<_, _+_, _^_};
@@ -19,6 +19,7 @@ ghost use mathlib.Core.List.{_∷_};
 ghost use lib.ListN.{length, set};
 ghost use Rattle.form.specs.Job.{variantOf, variantHere, partOf, partHere, lettersIn, gather};
 ghost use Rattle.form.specs.Form.{lettersKind, isVariant, isPart, isLetters, isNext, variantLen, partLen, lettersLen, bodyLen};
+ghost use Rattle.form.specs.declared.records.Kind.the-variants.{Variant};
 ghost use Rattle.form.specs.Steps.{lettersGiven, lettersOwed, lettersWalk, breakHere, breaksWalk};
 ghost use Rattle.reader.specs.Steps.{rows, putRow, partRows, putPart, stores, Stored};
 
@@ -38,7 +39,7 @@ fn set_i32(dst: &mut [i32], i: usize, x: i32)
     }
 }
 
-fn set_u32(dst: &mut [u32], i: usize, x: u32)
+pub(crate) fn set_u32(dst: &mut [u32], i: usize, x: u32)
     ensures { λ _. ⌜ now (dst .exit) ≡ set (now (dst .entry)) i x ⌝ }
 {
     if i < dst.len() {
@@ -54,7 +55,7 @@ fn set_bool(dst: &mut [bool], i: usize, x: bool)
     }
 }
 
-// Row v of each slice, where it has one.
+// Row v of each slice, where it has one. A variant's fields stand at the same places in both editions: b's are those of edition 1.
 fn put_variant(
     b: &[u8],
     v: usize,
@@ -67,7 +68,7 @@ fn put_variant(
     requires { ⌜ variantLen ≤ length (now b) ⌝ }
     ensures { λ _. ⌜ rows (now (starts .exit)) (now (ends .exit)) (now (sizes .exit)) (now (negatives .exit)) (now (counts .exit))
         ≡ putRow (rows (now (starts .entry)) (now (ends .entry)) (now (sizes .entry)) (now (negatives .entry)) (now (counts .entry)))
-        v (variantOf (now (b .entry))) ⌝ }
+        v (variantOf Variant (now (b .entry))) ⌝ }
 {
     set_u64(starts, v, u64_at(b, 0));
     set_u64(ends, v, u64_at(b, 8));
@@ -86,6 +87,8 @@ fn is_variant(kind: Kind) -> bool
         Kind::Part => false,
         Kind::Letters => false,
         Kind::Next => false,
+        Kind::Settings2 => false,
+        Kind::Variant2 => true,
         Kind::Unknown => false,
     }
 }
@@ -100,6 +103,8 @@ fn is_part(kind: Kind) -> bool
         Kind::Part => true,
         Kind::Letters => false,
         Kind::Next => false,
+        Kind::Settings2 => false,
+        Kind::Variant2 => false,
         Kind::Unknown => false,
     }
 }
@@ -114,6 +119,8 @@ fn is_next(kind: Kind) -> bool
         Kind::Part => false,
         Kind::Letters => false,
         Kind::Next => true,
+        Kind::Settings2 => false,
+        Kind::Variant2 => false,
         Kind::Unknown => false,
     }
 }
@@ -128,6 +135,8 @@ fn is_letters(kind: Kind) -> bool
         Kind::Part => false,
         Kind::Letters => true,
         Kind::Next => false,
+        Kind::Settings2 => false,
+        Kind::Variant2 => false,
         Kind::Unknown => false,
     }
 }
@@ -151,7 +160,7 @@ fn fill_variant(
     if !is_variant(kind) {
         return v;
     }
-    if b.len() < VARIANT_BODY {
+    if b.len() < body_len(kind) {
         return v;
     }
     put_variant(b, v, starts, ends, sizes, negatives, counts);

@@ -1,11 +1,13 @@
 // Reads a job: a first pass that changes nothing, and a second that fills lent slices.
 pub mod fill;
+pub mod numbers;
 
 use crate::fill::fill;
 use form::records::Counts;
 use form::records::Scan;
+use form::records::edition_of;
 use form::scan;
-use form::settings::read_settings;
+use form::settings::settings_by;
 use metrics::refusals::LITTLE_ROOM;
 use params::Settings;
 ghost use mathlib.Core.Path.{_≡_};
@@ -96,7 +98,7 @@ pub fn read_job(
             if letters.len() < c.letters {
                 return Reading::Refused(LITTLE_ROOM);
             }
-            let head = read_settings(&bytes[1..]);
+            let head = settings_by(edition_of(bytes), &bytes[1..]);
             fill(
                 bytes,
                 starts,

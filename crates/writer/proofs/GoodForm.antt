@@ -1,4 +1,4 @@
--- The bytes of a job are in good form, record by record: from each record's state the rest is good. Assumes nothing.
+-- The bytes of a job are in good form, record by record: from each record's state the rest is good, in either edition, which the settings decide. Assumes nothing.
 use Prim.Native.Nat.{ℕ, zero, suc, _+_, _-_, _*_, _/_, _≤_, _<_}
 use native.Mathlib.Omega.{arith}
 use mathlib.Core.Path.{_≡_, refl, sym, ap, subst, _∙_}
@@ -6,7 +6,7 @@ use mathlib.Core.Bool.{Bool, true, false, cond}
 use mathlib.Core.List.{List, [], _∷_, _++_, append-assoc}
 use mathlib.Core.Logic.{⊎-elim}
 use lib.Dec.{ltb, leb}
-use lib.ListN.{length, take, drop, replicate, length-append, length-drop}
+use lib.ListN.{length, getD, take, drop, replicate, length-append, length-drop}
 use lib.Seq.{take-at, drop-at}
 use borrow.Author.Tests.{lt-ltb, lt-leb, leb-true}
 use Rattle.params.specs.declared.Settings.{Settings}
@@ -17,15 +17,23 @@ use Rattle.form.specs.declared.records.Scan.the-variants.{Good, Refused}
 use Rattle.fields.specs.Fields.{le2, le4, bytes2, bytes4, bytes8}
 use Rattle.form.specs.Settings40.{flag}
 use Rattle.form.specs.Settings40.{settingsBytes, numberBytes, floatBytes}
+use Rattle.form.specs.Settings41.{settings41Bytes}
+use Rattle.form.specs.declared.records.Edition.{Edition}
+use Rattle.form.specs.declared.records.Edition.the-variants.{One, Two}
 use Rattle.form.specs.declared.records.Kind.{Kind}
-use Rattle.form.specs.declared.records.Kind.the-variants.{End, Settings as SettingsRecord, Variant as VariantRecord, Part as PartRecord, Letters, Next}
+use Rattle.form.specs.declared.records.Kind.the-variants.{End, Part as PartRecord, Letters, Next}
 use Rattle.form.specs.Form.{kindOf, isEnd, bodyLen, inPlace, flagsOk, countOf, padOk, allZero, tooMany, faultOf, after, run, outset, counted}
 use Rattle.form.specs.Job.{Variant, Part, Job}
-use Rattle.form.specs.Job.{padded, lettersRecords, recordsFor, sequenceBytes, partBody, variantBody, variantBytes, partBytes, variantsBytes, partsBytes, furtherBytes, haplotypesBytes, jobBytes}
-use Rattle.writer.specs.Holds.{VariantHolds, PartHolds, VariantsHold, PartsHold, HaplotypesHold, JobHolds}
+use Rattle.form.specs.Job.{padded, lettersRecords, recordsFor, sequenceBytes, partBody, variantBody, variantBytes, partBytes, variantsBytes, partsBytes, furtherBytes, haplotypesBytes}
+use Rattle.form.specs.Job.{settingsRecord, jobBytes}
+use Rattle.writer.specs.Writing.{byEdition}
+use Rattle.writer.specs.Steps.{variantKindBy}
+use Rattle.writer.specs.Holds.{LettersHold, VariantHolds, PartHolds, VariantsHold, PartsHold, HaplotypesHold, JobHolds}
 use Rattle.fields.proofs.FieldLaws.{four-back}
 use Rattle.form.proofs.FormLaws.{split, skip, judge-done, judge-more, fault-none, fault-none-end, pad-rest, not-next}
 use Rattle.writer.proofs.WriteLaws.{long-padded}
+use Rattle.writer.proofs.EditionLaws.{settingsByte, settingsKindBy, settingsBody, settings-record, settings-kind, long-settings-body, plain-settings}
+use Rattle.writer.proofs.EditionLaws.{variantRecordBy, numberedBody, variant-record, variant-kind, long-variant-body, variant-count, plain-variant}
 
 -- ---- one record
 run-record : (st : State) (k n : ℕ) (kind : Kind) (body rest : List ℕ) → kindOf k ≡ kind → isEnd kind ≡ false → n ≡ bodyLen kind → length body ≡ n → faultOf st kind (body ++ rest) ≡ 0
@@ -41,38 +49,52 @@ flag-low true = refl
 flag-low false = refl
 
 -- ---- the settings
-module _ (s : Settings) (rest : List ℕ) where
-  pub long-settings : length (settingsBytes s) ≡ 40
-  unfolding settingsBytes numberBytes floatBytes bytes4 bytes2
-  long-settings = refl
+settings-flags : (e : Edition) (s : Settings) (rest : List ℕ) → LettersHold e (s .letters) → flagsOk (settingsKindBy e) (settingsBody e s ++ rest) ≡ true
+unfolding flagsOk settings41Bytes settingsBytes numberBytes floatBytes bytes4 bytes2
+settings-flags One s rest h = rw (flag-low (s .squish), flag-low (s .«one_to_one»), flag-low (s .full))
+settings-flags Two s rest h =
+    let low : s .letters < 2 = omega (arith, h) in
+    rw (flag-low (s .squish), flag-low (s .«one_to_one»), flag-low (s .full), lt-ltb (s .letters) 2 low)
 
-  settings-whole : 40 ≤ length (settingsBytes s ++ rest)
-  settings-whole = let e = length-append (settingsBytes s) rest in let f = long-settings in omega (arith, e, f)
+settings-few : (e : Edition) (b : List ℕ) → countOf (settingsKindBy e) b ≤ 131072
+unfolding countOf
+settings-few One b = omega arith
+settings-few Two b = omega arith
 
-  settings-flags : flagsOk SettingsRecord (settingsBytes s ++ rest) ≡ true
-  unfolding flagsOk settingsBytes
-  settings-flags = rw (flag-low (s .squish), flag-low (s .«one_to_one»), flag-low (s .full))
+settings-placed : (e : Edition) → inPlace outset (settingsKindBy e) ≡ true
+unfolding inPlace
+settings-placed One = refl
+settings-placed Two = refl
 
-  settings-few : countOf SettingsRecord (settingsBytes s ++ rest) ≤ 131072
-  unfolding countOf
-  settings-few = omega arith
+-- in which phase an edition's variants stand, and the state behind its settings
+abbrev tablePhase : Edition → ℕ
+tablePhase e = byEdition 1 3 e
 
-  settings-placed : inPlace outset SettingsRecord ≡ true
-  unfolding inPlace
-  settings-placed = refl
+abbrev begun : Edition → State
+begun e = record { phase = tablePhase e; left = 0; variants = 0; parts = 0; breaks = 0; letters = 0 }
 
-  settings-sound : faultOf outset SettingsRecord (settingsBytes s ++ rest) ≡ 0
-  unfolding kindOf bodyLen
-  settings-sound = sym (fault-none outset SettingsRecord (settingsBytes s ++ rest) refl 40 refl settings-whole settings-placed (sym (not-next outset SettingsRecord refl)) settings-flags settings-few
-      (sym (pad-rest outset SettingsRecord (settingsBytes s ++ rest) refl)) refl)
+settings-after : (e : Edition) (b : List ℕ) → after outset (settingsKindBy e) b ≡ begun e
+unfolding after countOf
+settings-after One b = refl
+settings-after Two b = refl
 
--- the state behind the settings
-abbrev begun : State
-begun = record { phase = 1; left = 0; variants = 0; parts = 0; breaks = 0; letters = 0 }
+module _ (e : Edition) (s : Settings) (h : LettersHold e (s .letters)) (rest : List ℕ) where
+  settings-whole : bodyLen (settingsKindBy e) ≤ length (settingsBody e s ++ rest)
+  settings-whole = let a = length-append (settingsBody e s) rest in let b = long-settings-body e s in omega (arith, a, b)
 
-settings-step : (s : Settings) (rest : List ℕ) → run (1 ∷ (settingsBytes s ++ rest)) 0 outset ≡ run rest 0 begun
-unfolding kindOf bodyLen after countOf
-settings-step s rest = run-record outset 1 40 SettingsRecord (settingsBytes s) rest refl refl refl (long-settings s rest) (settings-sound s rest)
+  settings-sound : faultOf outset (settingsKindBy e) (settingsBody e s ++ rest) ≡ 0
+  settings-sound =
+      let kind = plain-settings e in
+      sym (fault-none outset (settingsKindBy e) (settingsBody e s ++ rest) (kind .unknown) (bodyLen (settingsKindBy e)) refl settings-whole (settings-placed e)
+      (sym (not-next outset (settingsKindBy e) (kind .next))) (settings-flags e s rest h) (settings-few e (settingsBody e s ++ rest))
+      (sym (pad-rest outset (settingsKindBy e) (settingsBody e s ++ rest) (kind .letters))) (kind .end))
+
+  settings-step : run (settingsRecord e s ++ rest) 0 outset ≡ run rest 0 (begun e)
+  settings-step =
+      ap (λ (q : List ℕ). run (q ++ rest) 0 outset) (settings-record e s)
+      ∙ run-record outset (settingsByte e) (bodyLen (settingsKindBy e)) (settingsKindBy e) (settingsBody e s) rest (settings-kind e) (plain-settings e .end) refl
+      (long-settings-body e s) settings-sound
+      ∙ ap (run rest 0) (settings-after e (settingsBody e s ++ rest))
 
 -- ---- letters records
 zeros : (n m : ℕ) → allZero (take n (replicate m 0)) ≡ true
@@ -162,50 +184,64 @@ sequence-good l rest phase breaks next st o = records-good (recordsFor (length l
     (let k : length l ≤ 16 * ((length l + 15) / 16) = omega arith in k) (let k : 16 * ((length l + 15) / 16) < length l + 16 = omega arith in k) next st o
 
 -- ---- a variant: its record's body, and what stands behind it
-abbrev pub vbody : Variant → List ℕ
-vbody x = variantBody (x .start) (x .end) (x .size) (x .negative) (length (x .letters))
+abbrev pub vbody : Edition → ℕ → Variant → List ℕ
+vbody e number x = numberedBody e number (x .start) (x .end) (x .size) (x .negative) (length (x .letters))
 
 abbrev pub vrest : Variant → List ℕ → List ℕ
 vrest x rest = sequenceBytes (x .letters) ++ rest
 
-module _ (x : Variant) (h : VariantHolds x) (rest : List ℕ) where
-  pub long-vbody : length (vbody x) ≡ 25
-  unfolding variantBody partBody bytes8 bytes4 bytes2
-  long-vbody = refl
+variant-flags : (e : Edition) (number : ℕ) (x : Variant) (rest : List ℕ) → flagsOk (variantRecordBy e) (vbody e number x ++ rest) ≡ true
+unfolding flagsOk variantBody partBody bytes8 bytes4 bytes2
+variant-flags One number x rest = rw (flag-low (x .negative))
+variant-flags Two number x rest = rw (flag-low (x .negative))
 
-  pub v-whole : 25 ≤ length (vbody x ++ vrest x rest)
-  v-whole = let e = length-append (vbody x) (vrest x rest) in let f = long-vbody in omega (arith, e, f)
+variant-placed : (e : Edition) (st : State) (breaks : ℕ) → Owes st (tablePhase e) 0 breaks → inPlace st (variantRecordBy e) ≡ true
+unfolding inPlace
+variant-placed One st breaks o = rw (o .left-is, o .phase-is)
+variant-placed Two st breaks o = rw (o .left-is, o .phase-is)
 
-  v-flags : flagsOk VariantRecord (vbody x ++ vrest x rest) ≡ true
-  unfolding flagsOk variantBody partBody bytes8 bytes4 bytes2
-  v-flags = rw (flag-low (x .negative))
+variant-after : (e : Edition) (st : State) (b : List ℕ) (n breaks : ℕ) → Owes st (tablePhase e) 0 breaks → countOf (variantRecordBy e) b ≡ n
+    → Owes (after st (variantRecordBy e) b) (tablePhase e) n breaks
+unfolding after
+variant-after One st b n breaks o count = record { phase-is = o .phase-is; left-is = count; breaks-are = o .breaks-are }
+variant-after Two st b n breaks o count = record { phase-is = o .phase-is; left-is = count; breaks-are = o .breaks-are }
 
-  v-count : countOf VariantRecord (vbody x ++ vrest x rest) ≡ length (x .letters)
-  unfolding countOf variantBody partBody bytes8 bytes4 bytes2 le4 le2
-  v-count = let n : length (x .letters) < 4294967296 = omega (arith, h .letters) in four-back (length (x .letters)) n
+module _ (e : Edition) (number : ℕ) (x : Variant) (rest : List ℕ) where
+  pub variant-bytes : variantBytes e number x ++ rest ≡ variantKindBy e ∷ (vbody e number x ++ vrest x rest)
+  unfolding variantBytes
+  variant-bytes =
+      ap (λ (q : List ℕ). (q ++ sequenceBytes (x .letters)) ++ rest) (variant-record e number (x .start) (x .end) (x .size) (x .negative) (length (x .letters)))
+      ∙ ap (λ (q : List ℕ). variantKindBy e ∷ q) (append-assoc (vbody e number x) (sequenceBytes (x .letters)) rest)
 
-  module _ (breaks : ℕ) (st : State) (o : Owes st 1 0 breaks) where
-    v-placed : inPlace st VariantRecord ≡ true
-    unfolding inPlace
-    v-placed = rw (o .left-is, o .phase-is)
+  pub long-vbody : length (vbody e number x) ≡ bodyLen (variantRecordBy e)
+  long-vbody = long-variant-body e number (x .start) (x .end) (x .size) (x .negative) (length (x .letters))
 
-    v-sound : faultOf st VariantRecord (vbody x ++ vrest x rest) ≡ 0
-    unfolding kindOf bodyLen
-    v-sound = sym (fault-none st VariantRecord (vbody x ++ vrest x rest) refl 25 refl v-whole v-placed (sym (not-next st VariantRecord refl)) v-flags (rw v-count (h .letters))
-        (sym (pad-rest st VariantRecord (vbody x ++ vrest x rest) refl)) refl)
+  pub v-whole : bodyLen (variantRecordBy e) ≤ length (vbody e number x ++ vrest x rest)
+  v-whole = let a = length-append (vbody e number x) (vrest x rest) in let b = long-vbody in omega (arith, a, b)
 
-    v-owes : Owes (after st VariantRecord (vbody x ++ vrest x rest)) 1 (length (x .letters)) breaks
-    unfolding after
-    v-owes = record { phase-is = o .phase-is; left-is = v-count; breaks-are = o .breaks-are }
+  module _ (h : VariantHolds x) where
+    v-count : countOf (variantRecordBy e) (vbody e number x ++ vrest x rest) ≡ length (x .letters)
+    v-count = let n : length (x .letters) < 4294967296 = omega (arith, h .letters) in
+        variant-count e number (x .start) (x .end) (x .size) (x .negative) (length (x .letters)) (vrest x rest) n
 
-    variant-good : GoodFrom rest 1 breaks → IsGood (run (variantBytes x ++ rest) 0 st)
-    unfolding variantBytes kindOf bodyLen IsGood
-    variant-good next =
-        let g = sequence-good (x .letters) rest 1 breaks next (after st VariantRecord (vbody x ++ vrest x rest)) v-owes in (
-          g .0,
-          ap (λ (q : List ℕ). run (2 ∷ q) 0 st) (append-assoc (vbody x) (sequenceBytes (x .letters)) rest)
-              ∙ run-record st 2 25 VariantRecord (vbody x) (vrest x rest) refl refl refl long-vbody v-sound ∙ g .1,
-        )
+    module _ (breaks : ℕ) (st : State) (o : Owes st (tablePhase e) 0 breaks) where
+      v-sound : faultOf st (variantRecordBy e) (vbody e number x ++ vrest x rest) ≡ 0
+      v-sound =
+          let kind = plain-variant e in
+          sym (fault-none st (variantRecordBy e) (vbody e number x ++ vrest x rest) (kind .unknown) (bodyLen (variantRecordBy e)) refl v-whole (variant-placed e st breaks o)
+          (sym (not-next st (variantRecordBy e) (kind .next))) (variant-flags e number x (vrest x rest)) (rw v-count (h .letters))
+          (sym (pad-rest st (variantRecordBy e) (vbody e number x ++ vrest x rest) (kind .letters))) (kind .end))
+
+      variant-good : GoodFrom rest (tablePhase e) breaks → IsGood (run (variantBytes e number x ++ rest) 0 st)
+      unfolding IsGood
+      variant-good next =
+          let later = variant-after e st (vbody e number x ++ vrest x rest) (length (x .letters)) breaks o v-count in
+          let g = sequence-good (x .letters) rest (tablePhase e) breaks next (after st (variantRecordBy e) (vbody e number x ++ vrest x rest)) later in (
+            g .0,
+            ap (λ (q : List ℕ). run q 0 st) variant-bytes
+                ∙ run-record st (variantKindBy e) (bodyLen (variantRecordBy e)) (variantRecordBy e) (vbody e number x) (vrest x rest) (variant-kind e) (plain-variant e .end) refl
+                long-vbody v-sound ∙ g .1,
+          )
 
 -- ---- a part, likewise
 abbrev pub pbody : Part → List ℕ
@@ -332,18 +368,23 @@ haplotypes-good (xs ∷ hs) h few phase later st o =
     subst (λ (q : List ℕ). IsGood (run q 0 st)) (sym (append-assoc (partsBytes xs) (furtherBytes hs) (0 ∷ [])))
     (parts-good xs (furtherBytes hs ++ (0 ∷ [])) (h .0) 0 (further-good hs (h .1) 0 (omega arith)) phase later st o)
 
-variants-good : (xs : List Variant) (rest : List ℕ) → VariantsHold xs → GoodFrom rest 1 0 → GoodFrom (variantsBytes xs ++ rest) 1 0
+variants-good : (e : Edition) (numbers : List ℕ) (xs : List Variant) (rest : List ℕ) → VariantsHold xs
+    → GoodFrom rest (tablePhase e) 0 → GoodFrom (variantsBytes e numbers xs ++ rest) (tablePhase e) 0
 unfolding variantsBytes GoodFrom
-variants-good [] rest h next st o = next st o
-variants-good (x ∷ xs) rest h next st o =
-    subst (λ (q : List ℕ). IsGood (run q 0 st)) (sym (append-assoc (variantBytes x) (variantsBytes xs) rest))
-    (variant-good x (h .0) (variantsBytes xs ++ rest) 0 st o (variants-good xs rest (h .1) next))
+variants-good e numbers [] rest h next st o = next st o
+variants-good e numbers (x ∷ xs) rest h next st o =
+    subst (λ (q : List ℕ). IsGood (run q 0 st)) (sym (append-assoc (variantBytes e (getD numbers 0 0) x) (variantsBytes e (drop 1 numbers) xs) rest))
+    (variant-good e (getD numbers 0 0) x (variantsBytes e (drop 1 numbers) xs ++ rest) (h .0) 0 st o (variants-good e (drop 1 numbers) xs rest (h .1) next))
 
 -- ---- the job
-pub job-good : (job : Job) → JobHolds job → (c : Counts) × (run (jobBytes job) 0 outset ≡ Good c)
+table-later : (e : Edition) → tablePhase e ≡ 0 → ⊥
+table-later One z = omega arith
+table-later Two z = omega arith
+
+pub job-good : (e : Edition) (numbers : List ℕ) (job : Job) → JobHolds e job → (c : Counts) × (run (jobBytes e numbers job) 0 outset ≡ Good c)
 unfolding jobBytes IsGood GoodFrom Later
-job-good job h =
+job-good e numbers job h =
     let end : List ℕ = haplotypesBytes (job .haplotypes) ++ (0 ∷ []) in
-    let g = variants-good (job .variants) end (h .variants) (haplotypes-good (job .haplotypes) (h .haplotypes) (h .few) 1 (λ e. omega arith))
-    begun (record { phase-is = refl; left-is = refl; breaks-are = refl }) in
-    (g .0, settings-step (job .settings) (variantsBytes (job .variants) ++ end) ∙ g .1)
+    let g = variants-good e numbers (job .variants) end (h .variants) (haplotypes-good (job .haplotypes) (h .haplotypes) (h .few) (tablePhase e) (table-later e))
+    (begun e) (record { phase-is = refl; left-is = refl; breaks-are = refl }) in
+    (g .0, settings-step e (job .settings) (h .letters) (variantsBytes e numbers (job .variants) ++ end) ∙ g .1)

@@ -1,6 +1,7 @@
 -- Laws that several proofs cite.
 pub mod AgreeLaws
 pub mod WriteLaws
+pub mod EditionLaws
 pub mod RowLaws
 pub mod HeadLaws
 pub mod CutLaws

@@ -1,55 +1,82 @@
--- The round trip: the bytes of a job are in good form and hold the job; what the job holds is what the slices held. Assumes nothing.
+-- The round trip: the bytes of a job are in good form and hold the job, in either edition, and its record numbers where the edition has a place for them;
+-- what the job holds is what the slices held. Assumes nothing.
 use Prim.Native.Nat.{ℕ, zero, suc, _+_, _≤_}
 use native.Mathlib.Omega.{arith}
 use mathlib.Core.Path.{_≡_, refl, ap, _∙_}
-use mathlib.Core.Bool.{Bool, true, false, not, cond, _||_}
+use mathlib.Core.Bool.{Bool, true, false, cond, _||_}
 use mathlib.Core.List.{List, [], _∷_}
-use lib.Dec.{ltb}
-use lib.ListN.{length, getD, length-drop, length-take}
+use lib.Dec.{ltb, eqb}
+use lib.ListN.{length, getD, drop, length-drop, length-take}
 use lib.Seq.{slice}
-use borrow.Author.Tests.{ltb-false}
+use borrow.Author.Tests.{ltb-false, eqb-true, eqb-false}
 use Rattle.params.specs.declared.Settings.{Settings}
+use Rattle.metrics.specs.Placed.{placed}
+use Rattle.form.specs.declared.records.Counts.{Counts}
+use Rattle.form.specs.declared.records.Edition.{Edition}
+use Rattle.form.specs.declared.records.Edition.the-variants.{One, Two}
 use Rattle.form.specs.declared.records.Scan.{Scan}
-use Rattle.form.specs.Job.{Part, Job, Read, Held, jobOf, readOf, readJob}
-use Rattle.form.specs.Job.{jobBytes}
+use Rattle.form.specs.Form.{kindOf}
+use Rattle.form.specs.Job.{Variant, Part, Job, Read, Held, jobOf, readOf, readJob, editionOf, settingsBy, rowNumbers, numbersBy, numbersOf}
+use Rattle.form.specs.Job.{settingsRecord, jobBytes}
+use Rattle.form.specs.Lent.{Lent, sum, jobCounts}
 use Rattle.writer.specs.declared.Writing.the-variants.{Refused as Declined, Wrote}
 use Rattle.reader.specs.declared.Reading.the-variants.{Job as Given}
-use Rattle.form.specs.Lent.{Lent}
-use Rattle.reader.specs.Reading.{hasRoom, readingOf, lentAfter}
-use Rattle.form.specs.Lent.{sum}
-use Rattle.writer.specs.Writing.{anyOver, agree, variantsFrom, partsFrom, jobFrom, writingOf}
-use Rattle.writer.specs.Holds.{SettingsHold, VariantsHold, PartsHold, JobHolds, LentHolds}
-use Rattle.writer.specs.RoundTrip.{RoundTrip, laidOver, lentCounts}
+use Rattle.reader.specs.declared.numbers.Numbering.the-variants.{Numbers}
+use Rattle.reader.specs.Reading.{hasRoom, readingOf, lentAfter, numbersFit, numberingOf, numbersAfter}
+use Rattle.writer.specs.Writing.{anyOver, numbersAgree, lettersLost, variantsFrom, partsFrom, jobFrom, writingFault, writingOf}
+use Rattle.writer.specs.Holds.{SettingsHold, LettersHold, VariantsHold, PartsHold, JobHolds, NumbersHold, LentHolds}
+use Rattle.writer.specs.RoundTrip.{RoundTrip, laidOver, lentCounts, numbersKept}
+use Rattle.form.proofs.NumberLaws.{long-rows}
 use Rattle.writer.proofs.CutLaws.{long-cut, cut-holds}
+use Rattle.writer.proofs.JobLaws.{Sound, sound}
 use Rattle.writer.proofs.SlicesBack.{slices-back, counts-back}
 use Rattle.writer.proofs.GoodForm.{job-good}
-use Rattle.writer.proofs.WalkBack.{settings-are, variants-are, haplotypes-are}
+use Rattle.writer.proofs.WalkBack.{settings-are, variants-are, haplotypes-are, numbers-are}
 
-job-back : (job : Job) → JobHolds job → readJob (jobBytes job) ≡ Held job
+-- ---- a job and its record numbers
+edition-back : (e : Edition) (numbers : List ℕ) (job : Job) → editionOf (jobBytes e numbers job) ≡ e
+unfolding jobBytes settingsRecord kindOf
+edition-back One numbers job = refl
+edition-back Two numbers job = refl
+
+job-back : (e : Edition) (numbers : List ℕ) (job : Job) → JobHolds e job → readJob (jobBytes e numbers job) ≡ Held job
 unfolding readJob jobOf
-job-back job h =
-    let p = settings-are job h in let q = variants-are job h in let r = haplotypes-are job h in
-    ap (λ (v : Scan). readOf v (jobOf (jobBytes job))) (job-good job h .1)
+job-back e numbers job h =
+    let s : List ℕ = jobBytes e numbers job in
+    let p : settingsBy (editionOf s) (drop 1 s) ≡ job .settings = ap (λ (x : Edition). settingsBy x (drop 1 s)) (edition-back e numbers job) ∙ settings-are e numbers job h in
+    let q = variants-are e numbers job h in let r = haplotypes-are e numbers job h in
+    ap (λ (v : Scan). readOf v (jobOf s)) (job-good e numbers job h .1)
     ∙ (λ i. Held (record { settings = p i; variants = q i; haplotypes = r i }))
 
+numbers-by : (e : Edition) (numbers : List ℕ) (job : Job) → JobHolds e job → NumbersHold numbers → numbersAgree e (length numbers) (length (job .variants)) ≡ true
+    → numbersBy e (jobBytes e numbers job) ≡ numbersKept e numbers (length (job .variants))
+unfolding numbersBy numbersKept
+numbers-by One numbers job h u agrees = ap (λ (xs : List Variant). rowNumbers (length xs)) (variants-are One numbers job h)
+numbers-by Two numbers job h u agrees = numbers-are numbers job h u (eqb-true _ _ agrees)
+
+numbers-back : (e : Edition) (numbers : List ℕ) (job : Job) → JobHolds e job → NumbersHold numbers → numbersAgree e (length numbers) (length (job .variants)) ≡ true
+    → numbersOf (jobBytes e numbers job) ≡ numbersKept e numbers (length (job .variants))
+numbers-back e numbers job h u agrees = ap (λ (x : Edition). numbersBy x (jobBytes e numbers job)) (edition-back e numbers job) ∙ numbers-by e numbers job h u agrees
+
+long-kept : (e : Edition) (numbers : List ℕ) (v : ℕ) → numbersAgree e (length numbers) v ≡ true → length (numbersKept e numbers v) ≡ v
+unfolding numbersKept
+long-kept One numbers v agrees = long-rows v
+long-kept Two numbers v agrees = eqb-true _ _ agrees
+
 -- ---- a job that the writer accepts
-record Accepted (a b c d : Bool) : Type 0 where
-  within : a ≡ false
-  agrees : b ≡ true
-  few : c ≡ false
-  few-parts : d ≡ false
+no-fault : (t : Bool) (f m n : ℕ) (b : Bool) → eqb f 0 ≡ t → cond t (cond b (Declined 30) (Wrote m)) (Declined f) ≡ Wrote n → f ≡ 0
+no-fault true f m n b e h = eqb-true f 0 e
+no-fault false f m n b e h = let z : _≡_ {A = ℕ} 1 0 = cc in let w : ⊥ = omega arith in absurd w
 
-accepted : (m n : ℕ) (a b c d e : Bool) → cond a (Declined 27) (cond (not b) (Declined 6) (cond (c || d) (Declined 13) (cond e (Declined 30) (Wrote m)))) ≡ Wrote n → Accepted a b c d
-accepted m n true b c d e h = let z : _≡_ {A = ℕ} 1 0 = cc in let w : ⊥ = omega arith in absurd w
-accepted m n false false c d e h = let z : _≡_ {A = ℕ} 1 0 = cc in let w : ⊥ = omega arith in absurd w
-accepted m n false true true d e h = let z : _≡_ {A = ℕ} 1 0 = cc in let w : ⊥ = omega arith in absurd w
-accepted m n false true false true e h = let z : _≡_ {A = ℕ} 1 0 = cc in let w : ⊥ = omega arith in absurd w
-accepted m n false true false false e h = record { within = refl; agrees = refl; few = refl; few-parts = refl }
-
-accepts : (s : Settings) (t : Lent) (room n : ℕ) → writingOf s t room ≡ Wrote n → Accepted (ltb 15 (length (t .breaks))) (agree t) (anyOver (t .counts)) (anyOver (t .partCounts))
+accepts : (e : Edition) (numbers : List ℕ) (s : Settings) (t : Lent) (room n : ℕ) → writingOf e numbers s t room ≡ Wrote n → Sound e numbers s t
 unfolding writingOf
-accepts s t room n e =
-    accepted (length (jobBytes (jobFrom s t))) n (ltb 15 (length (t .breaks))) (agree t) (anyOver (t .counts)) (anyOver (t .partCounts)) (ltb room (length (jobBytes (jobFrom s t)))) e
+accepts e numbers s t room n h =
+    sound e numbers s t (no-fault (eqb (writingFault e numbers s t) 0) (writingFault e numbers s t) (length (jobBytes e numbers (jobFrom s t))) n
+    (ltb room (length (jobBytes e numbers (jobFrom s t)))) refl h)
+
+letters-hold : (e : Edition) (n : ℕ) → n ≤ 1 → lettersLost e n ≡ false → LettersHold e n
+letters-hold One n flag kept = let not-one = eqb-false n 1 kept in omega (arith, flag, not-one)
+letters-hold Two n flag kept = flag
 
 neither : (a b : Bool) → a || b ≡ false → (a ≡ false) × (b ≡ false)
 neither true b e = let z : _≡_ {A = ℕ} 1 0 = cc in let w : ⊥ = omega arith in absurd w
@@ -79,36 +106,68 @@ module _ (t : Lent) (h : LentHolds t) where
       let k = few r in let l = short-slice p (getD (t .partCounts) r 0) (t .letters) in
       (record { size = h .partSizes r; letters = omega (arith, k, l) }, parts-hold few n (suc r) (p + getD (t .partCounts) r 0))
 
-  written-back : (s : Settings) → SettingsHold s → (room n : ℕ) → writingOf s t room ≡ Wrote n → readJob (jobBytes (jobFrom s t)) ≡ Held (jobFrom s t)
-  unfolding jobFrom
-  written-back s g room n e =
-      let ok = accepts s t room n e in
-      let ps : List Part = partsFrom (t .partSizes) (t .partNegatives) (t .partCounts) (t .letters) 0 (sum (t .counts)) (length (t .partSizes)) in
-      let long = long-cut 0 (t .breaks) ps in
-      job-back (jobFrom s t) (record {
-        settings = g;
-        variants = variants-hold (few-each (t .counts) (ok .few)) (length (t .starts)) 0 0;
-        haplotypes = cut-holds 0 (t .breaks) ps (parts-hold (few-each (t .partCounts) (ok .few-parts)) (length (t .partSizes)) 0 (sum (t .counts)));
-        some = omega (arith, long);
-        few = omega (arith, long, ltb-false 15 (length (t .breaks)) (ok .within));
-      })
+  module _ (e : Edition) (numbers : List ℕ) (u : NumbersHold numbers) (s : Settings) (g : SettingsHold s) (room n : ℕ) (wrote : writingOf e numbers s t room ≡ Wrote n) where
+    abbrev bytes : List ℕ
+    bytes = jobBytes e numbers (jobFrom s t)
 
-  read-back : (s : Settings) → SettingsHold s → (room n : ℕ) → writingOf s t room ≡ Wrote n → (u : Lent) → hasRoom (lentCounts t) u ≡ true
-      → (readingOf (readJob (jobBytes (jobFrom s t))) u ≡ Given s (lentCounts t)) × (lentAfter (readJob (jobBytes (jobFrom s t))) u ≡ laidOver u t)
-  unfolding readingOf lentAfter jobFrom
-  read-back s g room n e u fits =
-      let ok = accepts s t room n e in
-      let b = written-back s g room n e in
-      let c = counts-back s t (ok .agrees) in (
-        ap (λ (x : Read). readingOf x u) b ∙ rw (c, fits),
-        ap (λ (x : Read). lentAfter x u) b ∙ rw (c, fits) (slices-back s t u (ok .agrees)),
-      )
+    abbrev kept : List ℕ
+    kept = numbersKept e numbers (length (t .starts))
+
+    ok : Sound e numbers s t
+    ok = accepts e numbers s t room n wrote
+
+    job-holds : JobHolds e (jobFrom s t)
+    unfolding jobFrom
+    job-holds =
+        let ps : List Part = partsFrom (t .partSizes) (t .partNegatives) (t .partCounts) (t .letters) 0 (sum (t .counts)) (length (t .partSizes)) in
+        let long = long-cut 0 (t .breaks) ps in
+        record {
+          settings = g;
+          letters = letters-hold e (s .letters) (ok .flag) (ok .kept);
+          variants = variants-hold (few-each (t .counts) (ok .few)) (length (t .starts)) 0 0;
+          haplotypes = cut-holds 0 (t .breaks) ps (parts-hold (few-each (t .partCounts) (ok .few-parts)) (length (t .partSizes)) 0 (sum (t .counts)));
+          some = omega (arith, long);
+          few = omega (arith, long, ok .within);
+        }
+
+    variants-counted : length (jobFrom s t .variants) ≡ length (t .starts)
+    unfolding jobCounts lentCounts
+    variants-counted = ap (λ (c : Counts). c .variants) (counts-back s t (ok .agrees))
+
+    numbers-there : numbersOf bytes ≡ kept
+    numbers-there =
+        let v = variants-counted in
+        numbers-back e numbers (jobFrom s t) job-holds u (ap (λ (m : ℕ). numbersAgree e (length numbers) m) v ∙ ok .numbered) ∙ ap (numbersKept e numbers) v
+
+    written-back : (readJob bytes ≡ Held (jobFrom s t)) × (numbersOf bytes ≡ kept)
+    written-back = (job-back e numbers (jobFrom s t) job-holds, numbers-there)
+
+    read-back : (w : Lent) → hasRoom (lentCounts t) w ≡ true → (readingOf (readJob bytes) w ≡ Given s (lentCounts t)) × (lentAfter (readJob bytes) w ≡ laidOver w t)
+    unfolding readingOf lentAfter jobFrom
+    read-back w fits =
+        let b = written-back .0 in
+        let c = counts-back s t (ok .agrees) in (
+          ap (λ (x : Read). readingOf x w) b ∙ rw (c, fits),
+          ap (λ (x : Read). lentAfter x w) b ∙ rw (c, fits) (slices-back s t w (ok .agrees)),
+        )
+
+    numbers-read-back : (old : List ℕ) → numbersFit kept (length old) ≡ true
+        → (numberingOf (readJob bytes) (numbersOf bytes) (length old) ≡ Numbers (length (t .starts))) × (numbersAfter (readJob bytes) (numbersOf bytes) old ≡ placed old kept)
+    unfolding numberingOf numbersAfter
+    numbers-read-back old fits =
+        let b = written-back in (
+          (λ i. numberingOf (b .0 i) (b .1 i) (length old)) ∙ rw fits (ap Numbers (long-kept e numbers (length (t .starts)) (ok .numbered))),
+          (λ i. numbersAfter (b .0 i) (b .1 i) old) ∙ rw fits,
+        )
 
 pub round-trip : RoundTrip
 round-trip = record {
   job-back = job-back;
-  written-back = λ s g t h. written-back t h s g;
+  edition-back = edition-back;
+  numbers-back = numbers-back;
+  written-back = λ e numbers u s g t h. written-back t h e numbers u s g;
   slices-back = slices-back;
   counts-back = counts-back;
-  read-back = λ s g t h. read-back t h s g;
+  read-back = λ e numbers u s g t h. read-back t h e numbers u s g;
+  numbers-read-back = λ e numbers u s g t h. numbers-read-back t h e numbers u s g;
 }

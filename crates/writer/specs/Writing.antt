@@ -1,4 +1,4 @@
--- Document 01, "Job form", and change request P1: the job that ten lent slices hold, and what writing it answers.
+-- Document 01, "Job form", and change requests P1 and P7: the job that ten lent slices hold, and what writing it in an edition answers. Record numbers stand beside the job.
 use Prim.Native.Nat.{ℕ, zero, suc, _+_, _-_}
 use mathlib.Core.List.{List, [], _∷_}
 use mathlib.Core.Bool.{Bool, true, false, not, _&&_, _||_, cond}
@@ -9,6 +9,8 @@ use lib.Dec.{eqb, leb, ltb}
 use Rattle.params.specs.declared.Settings.{Settings}
 use Rattle.form.specs.Form.{mostBreaks}
 use Rattle.form.specs.Job.{Variant, Part, Job, jobBytes}
+use Rattle.form.specs.declared.records.Edition.{Edition}
+use Rattle.form.specs.declared.records.Edition.the-variants.{One, Two}
 use Rattle.metrics.specs.Placed.{placed}
 use Rattle.form.specs.Lent.{Lent, sum}
 use Rattle.writer.specs.declared.Writing.{Writing}
@@ -69,13 +71,34 @@ unfoldable pub anyOver : List ℕ → Bool
 anyOver [] = false
 anyOver (n ∷ ns) = ltb 131072 n || anyOver ns
 
--- refused by 27, 6, 13 and then 30; else the number of bytes written
-unfoldable pub writingOf : Settings → Lent → ℕ → Writing
-writingOf s t room =
-    cond (ltb mostBreaks (length (t .breaks))) (Refused 27)
-    (cond (not (agree t)) (Refused 6)
-    (cond (anyOver (t .counts) || anyOver (t .partCounts)) (Refused 13)
-    (cond (ltb room (length (jobBytes (jobFrom s t)))) (Refused 30) (Wrote (length (jobBytes (jobFrom s t)))))))
+-- one value for each edition
+abbrev pub byEdition : {A : Type 0} → A → A → Edition → A
+byEdition one two One = one
+byEdition one two Two = two
+
+-- Edition 2 has a record number for each of v variants; edition 1 has no place for them, and looks at none.
+abbrev pub numbersAgree : Edition → ℕ → ℕ → Bool
+numbersAgree e numbers v = byEdition true (eqb numbers v) e
+
+-- Edition 1 has no place for the setting `letters` either: it would read as 0.
+abbrev pub lettersLost : Edition → ℕ → Bool
+lettersLost e letters = byEdition (eqb letters 1) false e
+
+-- What no room mends, in this order: 27, 6, 24 for `letters` over 1, 13, and 29 for `letters` 1 where the edition would lose it; 0 where all is well.
+unfoldable pub writingFault : Edition → List ℕ → Settings → Lent → ℕ
+writingFault e numbers s t =
+    cond (ltb mostBreaks (length (t .breaks))) 27
+    (cond (not (numbersAgree e (length numbers) (length (t .starts)) && agree t)) 6
+    (cond (ltb 1 (s .letters)) 24
+    (cond (anyOver (t .counts) || anyOver (t .partCounts)) 13
+    (cond (lettersLost e (s .letters)) 29 0))))
+
+-- refused by these and then 30; else the number of bytes written
+unfoldable pub writingOf : Edition → List ℕ → Settings → Lent → ℕ → Writing
+writingOf e numbers s t room =
+    let fault = writingFault e numbers s t in
+    let long = length (jobBytes e numbers (jobFrom s t)) in
+    cond (eqb fault 0) (cond (ltb room long) (Refused 30) (Wrote long)) (Refused fault)
 
 -- what the lent room holds after the answer: the bytes at the front, or what it held
 unfoldable pub outAfter : Writing → List ℕ → List ℕ → List ℕ

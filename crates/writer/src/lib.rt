@@ -1,10 +1,10 @@
-// Writes a job into a lent slice.
+// Writes a job into a lent slice, in either edition of the form. The editions differ in the records of settings and variants alone, and so do the few functions here that look at it.
 use fields::put_u8;
 use fields::put_u32;
 use fields::put_u64;
 use fields::u32_of;
 use form::records::END;
-use form::records::LEAST_JOB;
+use form::records::Edition;
 use form::records::LETTERS;
 use form::records::LETTERS_BODY;
 use form::records::LETTERS_RECORD;
@@ -15,12 +15,19 @@ use form::records::PART;
 use form::records::PART_RECORD;
 use form::records::SETTINGS;
 use form::records::SETTINGS_RECORD;
+use form::records::SETTINGS2;
+use form::records::SETTINGS2_RECORD;
 use form::records::VARIANT;
 use form::records::VARIANT_RECORD;
+use form::records::VARIANT2;
+use form::records::VARIANT2_RECORD;
 use form::records::body_len;
 use form::records::kind_of;
 use form::settings::write_settings;
+use form::settings::write_settings41;
+use metrics::refusals::BAD_FLAG;
 use metrics::refusals::BAD_LENGTHS;
+use metrics::refusals::LETTERS_ONE;
 use metrics::refusals::LITTLE_ROOM;
 use metrics::refusals::TOO_MANY_HAPLOTYPES;
 use metrics::refusals::TOO_MANY_LETTERS;
@@ -32,12 +39,12 @@ ghost use Prim.Native.Nat.{suc, _*_, _-_};
 ghost use lib.Dec.{eqb};
 ghost use lib.ListN.{length, take, drop, getD};
 ghost use lib.Seq.{sets, slice};
-ghost use Rattle.form.specs.Form.{settingsLen, mostBreaks, variantKind, partKind, lettersKind, variantLen, partLen, lettersLen};
-ghost use Rattle.form.specs.Job.{padded, recordsFor, sequenceBytes, partBody, variantBody, variantsBytes, partsBytes, haplotypesBytes, jobBytes};
+ghost use Rattle.form.specs.Form.{mostBreaks, partKind, lettersKind, partLen, lettersLen};
+ghost use Rattle.form.specs.Job.{padded, recordsFor, sequenceBytes, partBody, settingsRecord, variantRecord, variantsBytes, partsBytes, haplotypesBytes, jobBytes};
 ghost use Rattle.form.specs.Lent.{lent, sum};
-ghost use Rattle.writer.specs.Writing.{anyOver, fourAgree, twoAgree, inOrder, variantsFrom, partsFrom, cutAt, jobFrom};
-ghost use Rattle.writer.specs.Steps.{costOf, total, leftOf, VariantsFit, PartsFit, HaplotypesFit, Put, JobFits};
-ghost use Rattle.writer.specs.Promises.{WriteJobPromise};
+ghost use Rattle.writer.specs.Writing.{anyOver, fourAgree, twoAgree, inOrder, numbersAgree, lettersLost, writingFault, variantsFrom, partsFrom, cutAt, jobFrom};
+ghost use Rattle.writer.specs.Steps.{variantKindBy, settingsSize, variantSize, numberTail, costOf, total, leftOf, VariantsFit, PartsFit, HaplotypesFit, Put, JobFits};
+ghost use Rattle.writer.specs.Promises.{WrittenBy, WriteJobPromise, WriteNumberedJobPromise};
 
 pub enum Writing {
     Refused(u32),
@@ -54,6 +61,52 @@ enum Left {
 struct Reached {
     at: usize,
     letter: usize,
+}
+
+// Where the editions differ: the byte that begins a variant, how long the records of settings and variant are, and what they have a place for.
+fn variant_kind(edition: Edition) -> u8
+    ensures { λ r. ⌜ r ≡ variantKindBy edition ⌝ }
+{
+    match edition {
+        Edition::One => VARIANT,
+        Edition::Two => VARIANT2,
+    }
+}
+
+fn settings_size(edition: Edition) -> usize
+    ensures { λ r. ⌜ r ≡ settingsSize edition ⌝ }
+{
+    match edition {
+        Edition::One => SETTINGS_RECORD,
+        Edition::Two => SETTINGS2_RECORD,
+    }
+}
+
+fn variant_size(edition: Edition) -> usize
+    ensures { λ r. ⌜ r ≡ variantSize edition ⌝ }
+{
+    match edition {
+        Edition::One => VARIANT_RECORD,
+        Edition::Two => VARIANT2_RECORD,
+    }
+}
+
+fn numbers_agree(edition: Edition, numbers: usize, v: usize) -> bool
+    ensures { λ r. ⌜ r ≡ numbersAgree edition numbers v ⌝ }
+{
+    match edition {
+        Edition::One => true,
+        Edition::Two => numbers == v,
+    }
+}
+
+fn letters_lost(edition: Edition, letters: u8) -> bool
+    ensures { λ r. ⌜ r ≡ lettersLost edition letters ⌝ }
+{
+    match edition {
+        Edition::One => letters == 1,
+        Edition::Two => false,
+    }
 }
 
 fn rows_agree(n: usize, a: usize, b: usize, c: usize, d: usize) -> bool
@@ -143,15 +196,15 @@ fn breaks_agree(m: usize, breaks: &[u64]) -> bool
 }
 
 // What is left of the room behind the settings, the variants, the parts, the haplotypes' own records and the end.
-fn spare(counts: &[u32], parts: &[u32], breaks: usize, room: usize) -> Left
+fn spare(edition: Edition, counts: &[u32], parts: &[u32], breaks: usize, room: usize) -> Left
     requires { ⌜ breaks ≤ mostBreaks ⌝ }
-    ensures { λ r. ⌜ r ≡ leftOf (suc (suc settingsLen) + breaks + (total variantKind (now (counts .entry)) + total partKind (now (parts .entry)))) room ⌝ }
+    ensures { λ r. ⌜ r ≡ leftOf (settingsSize edition + 1 + breaks + (total (variantKindBy edition) (now (counts .entry)) + total partKind (now (parts .entry)))) room ⌝ }
 {
-    let least = LEAST_JOB + breaks;
+    let least = settings_size(edition) + 1 + breaks;
     if room < least {
         return Left::Short;
     }
-    let first = left_after(VARIANT, counts, room - least);
+    let first = left_after(variant_kind(edition), counts, room - least);
     match first {
         Left::Short => Left::Short,
         Left::Enough(n) => left_after(PART, parts, n),
@@ -222,23 +275,58 @@ fn write_body(out: &mut [u8], at: usize, size: i32, negative: bool, count: u32)
     put_u32(out, at + 5, count);
 }
 
+// The record of the settings, at the front.
+fn write_settings_record(out: &mut [u8], edition: Edition, s: Settings)
+    ensures { λ _. ⌜ now (out .exit) ≡ sets (now (out .entry)) 0 (settingsRecord edition s) ⌝ }
+{
+    match edition {
+        Edition::One => {
+            put_u8(out, 0, SETTINGS);
+            write_settings(out, 1, s);
+        }
+        Edition::Two => {
+            put_u8(out, 0, SETTINGS2);
+            write_settings41(out, 1, s);
+        }
+    }
+}
+
+// The record number of a row; 0 where none is lent, in the edition that has no place for it.
+fn number_at(numbers: &[u32], r: usize) -> u32
+    ensures { λ n. ⌜ n ≡ getD (now (numbers .entry)) r 0 ⌝ }
+{
+    if r < numbers.len() { numbers[r] } else { 0 }
+}
+
+fn write_number(out: &mut [u8], at: usize, edition: Edition, number: u32)
+    ensures { λ _. ⌜ now (out .exit) ≡ sets (now (out .entry)) at (numberTail edition number) ⌝ }
+{
+    match edition {
+        Edition::One => {}
+        Edition::Two => put_u32(out, at, number),
+    }
+}
+
 // A variant's record, without its letters.
 fn write_variant(
     out: &mut [u8],
     at: usize,
+    edition: Edition,
+    number: u32,
     first: u64,
     last: u64,
     size: i32,
     negative: bool,
     count: u32,
 )
-    requires { ⌜ at + suc variantLen ≤ length (now out) ⌝ }
-    ensures { λ _. ⌜ now (out .exit) ≡ sets (now (out .entry)) at (variantKind ∷ variantBody first last size negative count) ⌝ }
+    requires { ⌜ at + variantSize edition ≤ length (now out) ⌝ }
+    ensures { λ _. ⌜ now (out .exit) ≡ sets (now (out .entry)) at (variantRecord edition number first last size negative count) ⌝ }
 {
-    put_u8(out, at, VARIANT);
+    put_u8(out, at, variant_kind(edition));
     put_u64(out, at + 1, first);
     put_u64(out, at + 9, last);
     write_body(out, at + 17, size, negative, count);
+    write_number(out, at + VARIANT_RECORD, edition, number);
 }
 
 fn write_part(out: &mut [u8], at: usize, size: i32, negative: bool, count: u32)
@@ -252,6 +340,8 @@ fn write_part(out: &mut [u8], at: usize, size: i32, negative: bool, count: u32)
 fn write_variants(
     out: &mut [u8],
     at: usize,
+    edition: Edition,
+    numbers: &[u32],
     starts: &[u64],
     ends: &[u64],
     sizes: &[i32],
@@ -259,19 +349,31 @@ fn write_variants(
     counts: &[u32],
     letters: &[u8],
 ) -> Reached
-    requires { ⌜ VariantsFit (now starts) (now ends) (now sizes) (now negatives) (now counts) (now letters) at (length (now out)) ⌝ }
-    ensures rows { λ r. ⌜ Put (now (out .entry)) (now (out .exit)) at (r .at) (variantsBytes (variantsFrom (now (starts .entry)) (now (ends .entry)) (now (sizes .entry))
-        (now (negatives .entry)) (now (counts .entry)) (now (letters .entry)) 0 0 (length (now (starts .entry))))) ⌝ }
+    requires { ⌜ VariantsFit edition (now numbers) (now starts) (now ends) (now sizes) (now negatives) (now counts) (now letters) at (length (now out)) ⌝ }
+    ensures rows { λ r. ⌜ Put (now (out .entry)) (now (out .exit)) at (r .at) (variantsBytes edition (now (numbers .entry)) (variantsFrom (now (starts .entry))
+        (now (ends .entry)) (now (sizes .entry)) (now (negatives .entry)) (now (counts .entry)) (now (letters .entry)) 0 0 (length (now (starts .entry))))) ⌝ }
     ensures letter { λ r. ⌜ r .letter ≡ sum (now (counts .entry)) ⌝ }
 {
+    let head = variant_size(edition);
     let mut a = at;
     let mut p = 0usize;
     let mut r = 0usize;
     while r < starts.len() {
         let count = counts[r];
         let end = p + count as usize;
-        write_variant(out, a, starts[r], ends[r], sizes[r], negatives[r], count);
-        a = write_sequence(out, a + VARIANT_RECORD, letters, p, end);
+        let number = number_at(numbers, r);
+        write_variant(
+            out,
+            a,
+            edition,
+            number,
+            starts[r],
+            ends[r],
+            sizes[r],
+            negatives[r],
+            count,
+        );
+        a = write_sequence(out, a + head, letters, p, end);
         p = end;
         r += 1;
     }
@@ -342,7 +444,9 @@ fn write_haplotypes(
 }
 
 fn lay_job(
+    edition: Edition,
     settings: Settings,
+    numbers: &[u32],
     starts: &[u64],
     ends: &[u64],
     sizes: &[i32],
@@ -355,17 +459,18 @@ fn lay_job(
     letters: &[u8],
     out: &mut [u8],
 ) -> usize
-    requires { ⌜ JobFits settings (lent (now starts) (now ends) (now sizes) (now negatives) (now «letter_counts»)
+    requires { ⌜ JobFits edition (now numbers) settings (lent (now starts) (now ends) (now sizes) (now negatives) (now «letter_counts»)
         (now «part_sizes») (now «part_negatives») (now «part_letter_counts») (now breaks) (now letters)) (length (now out)) ⌝ }
-    ensures { λ r. ⌜ Put (now (out .entry)) (now (out .exit)) 0 r (jobBytes (jobFrom settings (lent
+    ensures { λ r. ⌜ Put (now (out .entry)) (now (out .exit)) 0 r (jobBytes edition (now (numbers .entry)) (jobFrom settings (lent
         (now (starts .entry)) (now (ends .entry)) (now (sizes .entry)) (now (negatives .entry)) (now («letter_counts» .entry))
         (now («part_sizes» .entry)) (now («part_negatives» .entry)) (now («part_letter_counts» .entry)) (now (breaks .entry)) (now (letters .entry))))) ⌝ }
 {
-    put_u8(out, 0, SETTINGS);
-    write_settings(out, 1, settings);
+    write_settings_record(out, edition, settings);
     let v = write_variants(
         out,
-        SETTINGS_RECORD,
+        settings_size(edition),
+        edition,
+        numbers,
         starts,
         ends,
         sizes,
@@ -387,7 +492,137 @@ fn lay_job(
     at + 1
 }
 
-// The job that the slices hold, written at the front of `out`, or refused by 27, 6, 13 or 30 with nothing written.
+// What no room mends: 27, 6, 24, 13 or 29, or 0.
+fn writing_fault(
+    edition: Edition,
+    settings: Settings,
+    numbers: &[u32],
+    starts: &[u64],
+    ends: &[u64],
+    sizes: &[i32],
+    negatives: &[bool],
+    letter_counts: &[u32],
+    part_sizes: &[i32],
+    part_negatives: &[bool],
+    part_letter_counts: &[u32],
+    breaks: &[u64],
+    letters: &[u8],
+) -> u32
+    ensures { λ r. ⌜ r ≡ writingFault edition (now (numbers .entry)) settings (lent
+        (now (starts .entry)) (now (ends .entry)) (now (sizes .entry)) (now (negatives .entry)) (now («letter_counts» .entry))
+        (now («part_sizes» .entry)) (now («part_negatives» .entry)) (now («part_letter_counts» .entry)) (now (breaks .entry)) (now (letters .entry))) ⌝ }
+{
+    if MOST_BREAKS < breaks.len() {
+        return TOO_MANY_HAPLOTYPES;
+    }
+    if !numbers_agree(edition, numbers.len(), starts.len()) {
+        return BAD_LENGTHS;
+    }
+    if !rows_agree(
+        starts.len(),
+        ends.len(),
+        sizes.len(),
+        negatives.len(),
+        letter_counts.len(),
+    ) {
+        return BAD_LENGTHS;
+    }
+    if !parts_agree(
+        part_sizes.len(),
+        part_negatives.len(),
+        part_letter_counts.len(),
+    ) {
+        return BAD_LENGTHS;
+    }
+    if !letters_agree(letter_counts, part_letter_counts, letters.len()) {
+        return BAD_LENGTHS;
+    }
+    if !breaks_agree(part_sizes.len(), breaks) {
+        return BAD_LENGTHS;
+    }
+    if 1 < settings.letters {
+        return BAD_FLAG;
+    }
+    if any_over(letter_counts) {
+        return TOO_MANY_LETTERS;
+    }
+    if any_over(part_letter_counts) {
+        return TOO_MANY_LETTERS;
+    }
+    if letters_lost(edition, settings.letters) {
+        return LETTERS_ONE;
+    }
+    0
+}
+
+// The job that the slices hold, written in an edition at the front of `out`, or refused with nothing written.
+fn write_by(
+    edition: Edition,
+    settings: Settings,
+    numbers: &[u32],
+    starts: &[u64],
+    ends: &[u64],
+    sizes: &[i32],
+    negatives: &[bool],
+    letter_counts: &[u32],
+    part_sizes: &[i32],
+    part_negatives: &[bool],
+    part_letter_counts: &[u32],
+    breaks: &[u64],
+    letters: &[u8],
+    out: &mut [u8],
+) -> Writing
+    ensures { λ r. ⌜ WrittenBy edition (now (numbers .entry)) settings (lent
+        (now (starts .entry)) (now (ends .entry)) (now (sizes .entry)) (now (negatives .entry)) (now («letter_counts» .entry))
+        (now («part_sizes» .entry)) (now («part_negatives» .entry)) (now («part_letter_counts» .entry)) (now (breaks .entry)) (now (letters .entry))) (now (out .entry)) (now (out .exit)) r ⌝ }
+{
+    let fault = writing_fault(
+        edition,
+        settings,
+        numbers,
+        starts,
+        ends,
+        sizes,
+        negatives,
+        letter_counts,
+        part_sizes,
+        part_negatives,
+        part_letter_counts,
+        breaks,
+        letters,
+    );
+    if fault != 0 {
+        return Writing::Refused(fault);
+    }
+    let room = spare(
+        edition,
+        letter_counts,
+        part_letter_counts,
+        breaks.len(),
+        out.len(),
+    );
+    match room {
+        Left::Short => Writing::Refused(LITTLE_ROOM),
+        Left::Enough(n) => Writing::Wrote(lay_job(
+            edition,
+            settings,
+            numbers,
+            starts,
+            ends,
+            sizes,
+            negatives,
+            letter_counts,
+            part_sizes,
+            part_negatives,
+            part_letter_counts,
+            breaks,
+            letters,
+            out,
+        )),
+    }
+}
+
+// The job that the slices hold, written in edition 1 at the front of `out`, or refused by 27, 6, 24, 13, 29 or 30 with nothing written.
 pub fn write_job(
     settings: Settings,
     starts: &[u64],
@@ -405,53 +640,57 @@ pub fn write_job(
     ensures { λ r. ⌜ WriteJobPromise settings (now (starts .entry)) (now (ends .entry)) (now (sizes .entry)) (now (negatives .entry)) (now («letter_counts» .entry))
         (now («part_sizes» .entry)) (now («part_negatives» .entry)) (now («part_letter_counts» .entry)) (now (breaks .entry)) (now (letters .entry)) (now (out .entry)) (now (out .exit)) r ⌝ }
 {
-    if MOST_BREAKS < breaks.len() {
-        return Writing::Refused(TOO_MANY_HAPLOTYPES);
-    }
-    if !rows_agree(
-        starts.len(),
-        ends.len(),
-        sizes.len(),
-        negatives.len(),
-        letter_counts.len(),
-    ) {
-        return Writing::Refused(BAD_LENGTHS);
-    }
-    if !parts_agree(
-        part_sizes.len(),
-        part_negatives.len(),
-        part_letter_counts.len(),
-    ) {
-        return Writing::Refused(BAD_LENGTHS);
-    }
-    if !letters_agree(letter_counts, part_letter_counts, letters.len()) {
-        return Writing::Refused(BAD_LENGTHS);
-    }
-    if !breaks_agree(part_sizes.len(), breaks) {
-        return Writing::Refused(BAD_LENGTHS);
-    }
-    if any_over(letter_counts) {
-        return Writing::Refused(TOO_MANY_LETTERS);
-    }
-    if any_over(part_letter_counts) {
-        return Writing::Refused(TOO_MANY_LETTERS);
-    }
-    let room = spare(letter_counts, part_letter_counts, breaks.len(), out.len());
-    match room {
-        Left::Short => Writing::Refused(LITTLE_ROOM),
-        Left::Enough(n) => Writing::Wrote(lay_job(
-            settings,
-            starts,
-            ends,
-            sizes,
-            negatives,
-            letter_counts,
-            part_sizes,
-            part_negatives,
-            part_letter_counts,
-            breaks,
-            letters,
-            out,
-        )),
-    }
+    write_by(
+        Edition::One,
+        settings,
+        &letter_counts[0..0],
+        starts,
+        ends,
+        sizes,
+        negatives,
+        letter_counts,
+        part_sizes,
+        part_negatives,
+        part_letter_counts,
+        breaks,
+        letters,
+        out,
+    )
+}
+
+// The same in edition 2, with a record number for each variant: refused by 27, 6, 24, 13 or 30.
+pub fn write_numbered_job(
+    settings: Settings,
+    numbers: &[u32],
+    starts: &[u64],
+    ends: &[u64],
+    sizes: &[i32],
+    negatives: &[bool],
+    letter_counts: &[u32],
+    part_sizes: &[i32],
+    part_negatives: &[bool],
+    part_letter_counts: &[u32],
+    breaks: &[u64],
+    letters: &[u8],
+    out: &mut [u8],
+) -> Writing
+    ensures { λ r. ⌜ WriteNumberedJobPromise settings (now (numbers .entry)) (now (starts .entry)) (now (ends .entry)) (now (sizes .entry)) (now (negatives .entry)) (now («letter_counts» .entry))
+        (now («part_sizes» .entry)) (now («part_negatives» .entry)) (now («part_letter_counts» .entry)) (now (breaks .entry)) (now (letters .entry)) (now (out .entry)) (now (out .exit)) r ⌝ }
+{
+    write_by(
+        Edition::Two,
+        settings,
+        numbers,
+        starts,
+        ends,
+        sizes,
+        negatives,
+        letter_counts,
+        part_sizes,
+        part_negatives,
+        part_letter_counts,
+        breaks,
+        letters,
+        out,
+    )
 }

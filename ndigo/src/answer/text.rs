@@ -17,9 +17,8 @@ fn row_lines(sheet: &Sheet, answer: &Answer) -> Vec<String> {
     let digits = answer.records.iter().map(|record| record.to_string().len()).max().unwrap_or(0);
     answer.rows.iter().zip(&answer.records).map(|(&row, record)| {
         let v = &sheet.variants[row];
-        let numbered = sheet.has_records();
-        let shown = if numbered { format!("  record {record:digits$}") } else { String::new() };
-        let place = if numbered { String::new() } else { format!(", row {row} from 0") };
+        let shown = if sheet.numbered { format!("  record {record:digits$}") } else { String::new() };
+        let place = if sheet.numbered { String::new() } else { format!(", row {row} from 0") };
         format!("  {:width$}{shown}  {} to {}, size {} (line {} of the sheet{place})", v.name(), v.start, v.end, v.sequence.size, v.line())
     }).collect()
 }

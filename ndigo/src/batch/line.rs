@@ -109,7 +109,7 @@ fn of_sheet(data: &[u8], how: How) -> (Vec<Said>, String) {
         Ok((sheet, notes)) => (said_of(&sheet, "the whole sheet", how.deeper), remarks(&notes, &sheet)),
         Err(failure) => {
             // every job ends with a zero byte, and no text without a mark holds one
-            let or_job = if data.contains(&0) && !marked(data) { "; or, if it is a job, its first byte must be 1: make it again with `ndigo job SHEET`" } else { "" };
+            let or_job = if data.contains(&0) && !marked(data) { "; or, if it is a job, its first byte must be 1, or 17 in edition 2: make it again with `ndigo job SHEET`" } else { "" };
             (unread(None, joined(&failure.reasons()) + or_job), String::new())
         }
     }

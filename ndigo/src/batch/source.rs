@@ -1,6 +1,6 @@
 //! The tables of all files, one after the other. A sheet is one table, a file of jobs has as many as jobs stand in it.
 use crate::fault::{instead_of, Failure};
-use crate::job;
+use crate::job::{self, Edition};
 use std::fs::File;
 use std::io::{BufRead, BufReader, Read, Seek};
 use std::iter::Peekable;
@@ -191,8 +191,8 @@ impl Source {
             let file = crate::work::shown_name(&file).to_string();
             match begun {
                 Err(fault) => break Table { file, job: None, content: Content::Unread(Failure::Unreadable(fault).to_string()) },
-                // no text begins with this byte
-                Ok((Some(job::SETTINGS), bytes, length)) => self.archive = Some(Archive { file, bytes, length, place: 0, jobs: 0, lost: false }),
+                // no text begins as a job does
+                Ok((Some(first), bytes, length)) if Edition::begun_by(first).is_some() => self.archive = Some(Archive { file, bytes, length, place: 0, jobs: 0, lost: false }),
                 Ok((_, bytes, _)) => break Table { file, job: None, content: Content::Sheet(bytes) },
             }
         };

@@ -41,7 +41,7 @@ fn overlaps(variants: &[Variant]) -> Vec<Vec<usize>> {
 }
 
 fn number_word(sheet: &Sheet) -> &'static str {
-    if sheet.has_records() { "record" } else { "row" }
+    if sheet.numbered { "record" } else { "row" }
 }
 
 fn size_words(size: i32) -> String {

@@ -20,7 +20,6 @@ struct Reader {
     /// Cells such as 1,200, as they stand.
     commas: Vec<String>,
     names: [HashMap<String, usize>; 3],
-    records: HashMap<u32, (String, usize)>,
     /// The haplotypes in the order in which they are first named, and the parts with the place of theirs.
     haplotypes: Vec<String>,
     parts: Vec<(usize, Sequence)>,
@@ -154,6 +153,7 @@ impl Reader {
         } else {
             self.begun[heading.section] = Some(heading.line);
         }
+        self.read.sheet.numbered |= heading.column("record").is_some();
         let found = heading.found();
         self.read.faults.extend(found.faults);
         self.columns.extend(found.passed_over);
@@ -225,8 +225,9 @@ impl Reader {
         Some(value)
     }
 
-    /// The record number; the outer none is a fault, the inner one a sheet without the column.
-    fn record(&mut self, row: &Row, name: Option<&String>) -> Option<Option<u32>> {
+    /// The record number; the outer none is a fault, the inner one a sheet without the column. One that another variant has is left to the
+    /// rules, which refuse it.
+    fn record(&mut self, row: &Row) -> Option<Option<u32>> {
         if !row.has("record") {
             return Some(None);
         }
@@ -234,13 +235,7 @@ impl Reader {
             let missing = wrong("the record number is missing", "write one for every variant, or leave the whole column out");
             return self.kept(row, "record", missing);
         }
-        let number = self.whole(row, "record", 0, u32::MAX.into())? as u32;
-        if let Some((other, line)) = self.records.get(&number) {
-            let taken = wrong(format!("record {number} is that of \"{other}\" on line {line} already"), "write a number that no other variant has");
-            return self.kept(row, "record", taken);
-        }
-        self.records.insert(number, (name.cloned().unwrap_or_default(), row.line));
-        Some(Some(number))
+        Some(Some(self.whole(row, "record", 0, u32::MAX.into())? as u32))
     }
 
     /// What variants and parts have in common; none where any of it is a fault.
@@ -257,7 +252,7 @@ impl Reader {
 
     fn variant(&mut self, row: &Row) {
         let name = self.name(row);
-        let record = self.record(row, name.as_ref());
+        let record = self.record(row);
         let start = self.whole(row, "start", 0, u64::MAX.into());
         let end = self.whole(row, "end", 0, u64::MAX.into());
         let sequence = self.sequence(row, name);

@@ -1,6 +1,7 @@
 //! From a sheet's values to its text. Reading it again gives the same values.
 use super::cells::letters_text;
-use crate::model::{Sequence, Sheet, SETTINGS};
+use crate::job::Edition;
+use crate::model::{Sequence, Sheet, LETTERS, SETTINGS};
 
 fn sign_tells(sequence: &Sequence) -> bool {
     sequence.negative == (sequence.size < 0)
@@ -22,12 +23,11 @@ fn headings(words: &[&str], unusual: bool) -> Vec<String> {
 
 fn variant_rows(sheet: &Sheet) -> Vec<Vec<String>> {
     let unusual = !sheet.variants.iter().all(|variant| sign_tells(&variant.sequence));
-    let numbered = sheet.has_records();
-    let words: &[&str] = if numbered { &["variant", "record", "start", "end", "size", "letters"] } else { &["variant", "start", "end", "size", "letters"] };
+    let words: &[&str] = if sheet.numbered { &["variant", "record", "start", "end", "size", "letters"] } else { &["variant", "start", "end", "size", "letters"] };
     let mut rows = vec![headings(words, unusual)];
-    for variant in &sheet.variants {
+    for (row, variant) in sheet.variants.iter().enumerate() {
         let mut cells = vec![variant.name().to_string()];
-        cells.extend(variant.record.map(|record| record.to_string()));
+        cells.extend(sheet.numbered.then(|| sheet.number(row).to_string()));
         cells.extend([variant.start.to_string(), variant.end.to_string()]);
         cells.extend(tail(&variant.sequence, unusual));
         rows.push(cells);
@@ -54,9 +54,11 @@ fn part_rows(sheet: &Sheet) -> Vec<Vec<String>> {
     rows
 }
 
+/// All settings; `letters` only where the job has a place for it, since naming it asks for one that has.
 fn setting_rows(sheet: &Sheet) -> Vec<Vec<String>> {
     let mut rows = vec![headings(&["setting", "value", "remark"], false)];
-    for (place, setting) in SETTINGS.iter().enumerate() {
+    let second = Edition::of(sheet) == Edition::Second;
+    for (place, setting) in SETTINGS.iter().enumerate().filter(|(place, _)| second || *place != LETTERS) {
         let remark = format!("default {}; {}", setting.default, setting.meaning);
         rows.push(vec![setting.name.into(), sheet.settings.text(place), remark]);
     }

@@ -170,6 +170,39 @@ fn jobs_one_behind_the_other() {
     assert_eq!(place.cells("job"), ["0"; 4]);
 }
 
+/// Jobs of both editions may stand in one file, and either may be the first; the records are each job's own.
+#[test]
+fn jobs_of_both_editions() {
+    let place = Place::new("editions");
+    let (one, two) = (worked_example(), second_edition(0, [4711, 98]));
+    let mixed = [&two[..42], &one[41..]].concat();
+    let jobs = [one, two, second_edition(1, [0, 1]), second_edition(0, [7, 7]), mixed, second_edition(0, [98, 0])];
+    let files = [place.put("first.jobs", jobs.concat()), place.put("second.jobs", jobs[1..].concat())];
+    assert_eq!(place.run(&files, &[]).status, 2);
+    let both = |cells: [&'static str; 6]| [&cells[..], &cells[1..]].concat();
+    assert_eq!(place.cells("job"), [&["0", "1", "2", "3", "4", "5"][..], &["0", "1", "2", "3", "4"]].concat());
+    assert_eq!(place.cells("records"), both(["0", "4711", "0", "", "", "98"]));
+    assert_eq!(place.cells("status"), both(["answered", "answered", "answered", "refused", "unread", "answered"]));
+    assert_eq!(place.cells("refused"), both(["", "", "", "14", "22", ""]));
+    let words = place.cells("words");
+    assert_eq!(words[3], told("the whole job", 14, "\"row-1\" has record 7, and so has \"row-0\"; write a number that no other variant has"));
+    assert!(words[4].starts_with(&format!("refused 22: out of place: the record at byte {} of the file, ", 155 + 3 * 164 + 42)), "{}", words[4]);
+}
+
+/// A sheet's job has the sheet's answer, its records among it, in either edition.
+#[test]
+fn a_job_answers_as_its_sheet() {
+    let place = Place::new("as-its-sheet");
+    let told = ["records", "refused", "score", "sizesim", "seqsim", "left_out", "scored", "complete"];
+    let names: Vec<String> = example_names().into_iter().filter(|name| ask("check", example(name), &[]).status < 2).collect();
+    let sheets: Vec<String> = names.iter().map(|name| place.put(&format!("{name}.tsv"), example(name))).collect();
+    place.run(&sheets, &[]);
+    let wanted = told.map(|heading| place.cells(heading));
+    let jobs: Vec<String> = names.iter().map(|name| place.put(&format!("{name}.job"), job(example(name)))).collect();
+    place.run(&jobs, &[]);
+    assert_eq!(told.map(|heading| place.cells(heading)), wanted);
+}
+
 #[test]
 fn a_spoilt_job_among_jobs() {
     let place = Place::new("spoilt");
@@ -233,7 +266,7 @@ fn what_is_neither_sheet_nor_job() {
     let inside = place.folder.to_str().unwrap().to_string();
     assert_eq!(place.run(&[spoilt, own, inside], &[]).status, 2);
     let words = place.cells("words");
-    assert!(words[0].ends_with("; or, if it is a job, its first byte must be 1: make it again with `ndigo job SHEET`"), "{}", words[0]);
+    assert!(words[0].ends_with("; or, if it is a job, its first byte must be 1, or 17 in edition 2: make it again with `ndigo job SHEET`"), "{}", words[0]);
     assert_eq!(words[1], "this is the output of ndigo batch; leave it out");
     assert_eq!(words[2], "cannot be read (Is a directory (os error 21)); name the sheets in it");
 }

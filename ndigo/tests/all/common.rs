@@ -52,9 +52,30 @@ pub fn example_names() -> Vec<String> {
     names
 }
 
-/// Those that the job form can say: it has no place for letters 1.
-pub fn examples_with_a_job() -> Vec<String> {
-    example_names().into_iter().filter(|name| !example(name).contains("\nletters\t1")).collect()
+/// Bytes from their hexadecimal digits.
+pub fn bytes(hex: &str) -> Vec<u8> {
+    let digits: Vec<char> = hex.chars().filter(|letter| !letter.is_whitespace()).collect();
+    digits.chunks(2).map(|pair| u8::from_str_radix(&pair.iter().collect::<String>(), 16).unwrap()).collect()
+}
+
+/// Document 01's worked example, field by field from its job form, numbers lowest byte first: settings (k 1, squish no, one-to-one
+/// no, full yes; maxpaths 10, maxnodes 10, fnmax 1, pileupmax 5, minkfreq 1; 0.5, 0.5, 0, 0), variants 10 to 10 and 20 to 20, each
+/// of size 2, not negative, two letters (AG, CT and fourteen zeros), a part of size 2 (AG), the end.
+pub fn worked_example() -> Vec<u8> {
+    bytes(
+        "01 01 00 00 01 0a000000 0a000000 01000000 05000000 01000000 0000003f 0000003f 00000000 00000000
+         02 0a00000000000000 0a00000000000000 02000000 00 02000000 04 4147 0000000000000000000000000000
+         02 1400000000000000 1400000000000000 02000000 00 02000000 04 4354 0000000000000000000000000000
+         03 02000000 00 02000000 04 4147 0000000000000000000000000000
+         00",
+    )
+}
+
+/// The same in edition 2, with letters and the two record numbers as they are given here.
+pub fn second_edition(letters: u8, records: [u32; 2]) -> Vec<u8> {
+    let first = worked_example();
+    let variant = |from: usize, record: u32| [&[0x12], &first[from + 1..from + 26], &record.to_le_bytes(), &first[from + 26..from + 43]].concat();
+    [&[0x11], &first[1..41], &[letters], &variant(41, records[0])[..], &variant(84, records[1]), &first[127..]].concat()
 }
 
 pub fn example(name: &str) -> String {

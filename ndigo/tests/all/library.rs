@@ -33,7 +33,7 @@ fn with_parts(variants: Vec<Variant>, chosen: &[bool], noise: &str) -> Sheet {
     let mut parts: Vec<Sequence> = variants.iter().zip(chosen).filter(|(_, chosen)| **chosen).take(5).map(|(variant, _)| variant.sequence.clone()).collect();
     parts.insert(parts.len() / 2, sequence("noise".into(), noise.len() as i32, noise));
     let settings = ndigomarr::Settings { k: 2, minkfreq: 1, sizesim: 0.5, seqsim: 0.5, fpenalty: 0.0625, ..Default::default() };
-    Sheet { settings: Settings::of_library(&settings), variants, parts, haplotypes: vec![] }
+    Sheet { settings: Settings::of_library(&settings), variants, parts, ..Sheet::default() }
 }
 
 /// Values around every limit: often accepted, often refused.
@@ -45,13 +45,16 @@ fn around_the_limits() -> impl Strategy<Value = Sheet> {
     let one = (0u64..6, 0u64..6, size, letters);
     let rows = prop_oneof![8 => proptest::collection::vec(one.clone(), 0..5), 1 => proptest::collection::vec(one, 64..67)];
     let long = (prop::bool::weighted(0.1), prop::bool::weighted(0.1));
-    (counts, float.clone(), float, rows, prop_oneof![8 => 0usize..4, 1 => 64usize..67], long).prop_map(|(counts, sizesim, fpenalty, rows, parts, long)| {
+    // where there are any: so many rows have numbers of their own, and those behind the same again
+    let different = prop_oneof![2 => Just(None), 1 => (1u32..6).prop_map(Some), 1 => Just(Some(u32::MAX))];
+    (counts, float.clone(), float, rows, prop_oneof![8 => 0usize..4, 1 => 64usize..67], long, different).prop_map(|(counts, sizesim, fpenalty, rows, parts, long, different)| {
         let settings = ndigomarr::Settings { k: counts.0 as u8, maxpaths: counts.1, maxnodes: counts.2, pileupmax: counts.3, letters: counts.4, sizesim, fpenalty, ..Default::default() };
-        let mut sheet = Sheet { settings: Settings::of_library(&settings), ..Sheet::default() };
+        let mut sheet = Sheet { settings: Settings::of_library(&settings), numbered: different.is_some(), ..Sheet::default() };
         for (row, (start, end, size, letters)) in rows.into_iter().enumerate() {
             // mostly in order
             let (start, end) = (start + row as u64 * 5, end + 1 + row as u64 * 5);
-            sheet.variants.push(Variant { start, end, record: None, sequence: sequence(format!("V{row}"), size, &letters) });
+            let record = different.map(|different| u32::MAX - row as u32 % different);
+            sheet.variants.push(Variant { start, end, record, sequence: sequence(format!("V{row}"), size, &letters) });
         }
         sheet.parts = (0..parts).map(|part| sequence(format!("P{part}"), 5, "AGCTA")).collect();
         // the last of them has too many letters, beyond the rows that are refused anyway too
@@ -104,7 +107,7 @@ proptest! {
             settings: Settings::of_library(&settings),
             variants: found.rows.iter().map(|&row| sheet.variants[row].clone()).collect(),
             parts: used.iter().map(|&part| sheet.parts[part].clone()).collect(),
-            haplotypes: vec![],
+            ..Sheet::default()
         };
         if !alone.variants.is_empty() {
             let again = answer(&alone).expect("within all limits");

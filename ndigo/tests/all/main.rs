@@ -10,6 +10,7 @@ mod haplotypes;
 mod jobs;
 mod library;
 mod messages;
+mod moves;
 mod paths;
 mod people;
 mod pictures;

@@ -76,9 +76,7 @@ fn bad_cells() -> Vec<Said> {
 }
 
 fn bad_records() -> Vec<Said> {
-    let twice = "line 5, column 2 (record): record 7 is that of \"A\" on line 2 already; write a number that no other variant has";
     let cases = vec![
-        (numbered("A\t7\t1\t1\t1\tAG\n# a remark\nB\t8\t1\t1\t1\tAG\nC\t07\t1\t1\t1\tAG"), twice.into()),
         (numbered("A\t7\t1\t1\t1\tAG\nB\t\t1\t1\t1\tAG"), format!("line 3, column 2 (record): {NO_RECORD}")),
         (HEADINGS.replace("letters", "letters\trecord") + "A\t1\t1\t1\tAG\n", format!("line 2, column 6 (record): {NO_RECORD}")),
     ];
@@ -168,7 +166,7 @@ fn help_states_every_default() {
     for setting in ndigo::model::SETTINGS {
         assert!(help.contains(&format!("  {:10}  {:5}  {}\n", setting.name, setting.default, setting.meaning)), "{}", setting.name);
     }
-    for command in ["answer", "check", "draw", "job", "show", "completions"] {
+    for command in ["answer", "check", "draw", "job", "show", "move", "completions"] {
         let outcome = call(&[command, "--help"], b"");
         assert_eq!(outcome.status, 0);
         assert!(outcome.text().contains(&format!("Usage: ndigo {command}")));
@@ -241,6 +239,17 @@ fn refused_sheets() -> Vec<(String, Vec<String>)> {
             told("line 3", 8, "\"B\" starts at 8, but \"A\" on line 2 starts at 9; sort the rows by start, or call with --sort"),
             told("line 2", 9, "\"A\" has size 131073, the limit is 131072"),
             told("line 3", 9, "\"B\" has size -131073, the limit is 131072"),
+        ]),
+        // each row behind the first of its number, after falling starts and before sizes
+        (numbered("A\t7\t1\t1\t1\tAGCT\n# a remark\nB\t8\t1\t1\t1\tAGCT\nC\t07\t0\t1\t1\tAGCT\nD\t7\t1\t1\t131073\tAGCT"), vec![
+            told("line 5", 8, "\"C\" starts at 0, but \"B\" on line 4 starts at 1; sort the rows by start, or call with --sort"),
+            told("line 5", 14, "\"C\" has record 7, and so has \"A\" on line 2; write a number that no other variant has"),
+            told("line 6", 14, "\"D\" has record 7, and so has \"A\" on line 2; write a number that no other variant has"),
+            told("line 6", 9, "\"D\" has size 131073, the limit is 131072"),
+        ]),
+        (numbered("A\t7\t1\t1\t1\tAGCT\nB\t7\t1\t1\t131073\tAGCT"), vec![
+            told("line 3", 14, "\"B\" has record 7, and so has \"A\" on line 2; write a number that no other variant has"),
+            told("line 3", 9, "\"B\" has size 131073, the limit is 131072"),
         ]),
         (format!("{HEADINGS}A\t1\t1\t1\t{}", "C".repeat(131_073)), vec![told("line 2", 13, "\"A\" has 131073 letters, the limit is 131072")]),
         (format!("{}Z\t99\t99\t1\t{}\n", table_of(66), "C".repeat(131_073)), vec![

@@ -51,10 +51,10 @@ found c = found2 (c .before .before .before .before)
 settings : (c : tie.Else4) → 41 ≤ length (now (begin (found c) .args .bytes))
 settings c = settings-there _ (good (found c))
 
-abbrev checked : tie.After-read-settings → tie.Else4
-checked c = c .before .before
+abbrev edition : tie.After-settings-by → tie.After-edition-of
+edition c = c .before .before
 
-abbrev head-read : tie.After-fill → tie.After-read-settings
+abbrev head-read : tie.After-fill → tie.After-settings-by
 head-read c = c .before .before .before .before .before .before .before .before .before .before .before
 
 abbrev filled : tie.After-slice-known16 → tie.After-fill
@@ -93,17 +93,20 @@ returns-4 c =
     let b = c .before .before in let p = b .before .before in
     crowded-letters _ (good (found2 p)) _ (rows-room (p .before .before)) (parts-room p) (b .if3 .left) (c .if4 .taken)
 
-sub-read-settings : tie.Need-sub-read-settings
-sub-read-settings c = let h = settings c in omega arith
+edition-of-requires : tie.Need-edition-of-requires
+edition-of-requires c κs = search needs
 
-part-read-settings-start : tie.Need-part-read-settings-start
-part-read-settings-start c = let h = settings c in omega arith
+sub-settings-by : tie.Need-sub-settings-by
+sub-settings-by c = let h = settings (c .before) in omega arith
 
-part-read-settings-end : tie.Need-part-read-settings-end
-part-read-settings-end c = search needs
+part-settings-by-start : tie.Need-part-settings-by-start
+part-settings-by-start c = let h = settings (c .before) in omega arith
 
-read-settings-requires : tie.Need-read-settings-requires
-read-settings-requires c κs = search needs
+part-settings-by-end : tie.Need-part-settings-by-end
+part-settings-by-end c = search needs
+
+settings-by-requires : tie.Need-settings-by-requires
+settings-by-requires c κs = search needs
 
 fill-requires : tie.Need-fill-requires
 fill-requires c κs = search needs
@@ -145,15 +148,16 @@ returns-6 : tie.Need-returns-6
 returns-6 c =
     let f = filled c in
     let h = head-read f in
-    let k = checked h in
+    let e = edition h in
+    let k = e .before in
     let b = k .before .before in
     let p = b .before .before in
     read-job _ (good (found k)) _ (rows-room (p .before .before)) (parts-room p) (b .if3 .left) (k .if4 .left) _ (f .fill .ensures .0) (f .fill .ensures .1 .0)
-    (f .fill .ensures .1 .1 .0) (f .fill .ensures .1 .1 .1) _ (h .read-settings .ensures)
+    (f .fill .ensures .1 .1 .0) (f .fill .ensures .1 .1 .1) _ _ (e .edition-of .ensures) (h .settings-by .ensures)
 
 pub read-job-spec : {M : Type 1} → statement M
 read-job-spec =
     tie.close
     (tie.spec scan-requires enum-known-found enum-known-found-2 rows-fit-requires returns parts-fit-requires returns-2 returns-3 returns-4
-    sub-read-settings part-read-settings-start part-read-settings-end read-settings-requires fill-requires returns-5 same-length same-length-2 same-length-3 same-length-4 same-length-5 same-length-6
+    edition-of-requires sub-settings-by part-settings-by-start part-settings-by-end settings-by-requires fill-requires returns-5 same-length same-length-2 same-length-3 same-length-4 same-length-5 same-length-6
     same-length-7 same-length-8 same-length-9 same-length-10 returns-6)

@@ -16,50 +16,50 @@ slices s =
     lent (now (s .args .starts)) (now (s .args .ends)) (now (s .args .sizes)) (now (s .args .negatives)) (now (s .args .letter-counts))
     (now (s .args .part-sizes)) (now (s .args .part-negatives)) (now (s .args .part-letter-counts)) (now (s .args .breaks)) (now (s .args .letters))
 
-abbrev start : tie.After-put-u8-arg → tie.Start
-start c = c .before .before .before .before .before .before .before .before .before .before
+abbrev start : tie.After-write-settings-record → tie.Start
+start c = c .before .before .before .before .before .before .before .before .before .before .before .before
 
-abbrev first : tie.After-write-settings → tie.After-put-u8
-first c = c .before .before .before .before
-
-abbrev settings : tie.After-write-variants → tie.After-write-settings
+abbrev settings : tie.After-settings-size → tie.After-write-settings-record
 settings c = c .before .before .before .before
+
+abbrev sized : tie.After-write-variants → tie.After-settings-size
+sized c = c .before
 
 abbrev variants : tie.After-write-haplotypes → tie.After-write-variants
 variants c = c .before .before .before .before
 
-abbrev haplotypes : tie.After-slice-known6 → tie.After-write-haplotypes
+abbrev haplotypes : tie.After-slice-known5 → tie.After-write-haplotypes
 haplotypes c = c .before .before .before .before .before .before
 
 abbrev begin : tie.After-write-variants → tie.Start
-begin c = start (first (settings c) .before)
+begin c = start (settings (sized c))
 
 -- the end fits behind the haplotypes
 end : (c : tie.After-write-haplotypes) → c .write-haplotypes .result + 1 ≤ length (now (begin (variants c) .args .out))
 end c =
     let v = variants c in
-    end-there _ (slices (begin v)) _ (begin v .pre) _ _ (v .write-variants .ensures .1) (v .write-variants .ensures .0 .next) _ (c .write-haplotypes .ensures .next)
+    end-there _ _ _ (slices (begin v)) _ (begin v .pre) _ _ _ (sized v .settings-size .ensures) (v .write-variants .ensures .1) (v .write-variants .ensures .0 .next) _
+    (c .write-haplotypes .ensures .next)
 
-put-u8-requires : tie.Need-put-u8-requires
-put-u8-requires c κs = search needs
+write-settings-record-requires : tie.Need-write-settings-record-requires
+write-settings-record-requires c κs = search needs
 
-write-settings-requires : tie.Need-write-settings-requires
-write-settings-requires c κs = search needs
+settings-size-requires : tie.Need-settings-size-requires
+settings-size-requires c κs = search needs
 
 write-variants-requires : tie.Need-write-variants-requires
 write-variants-requires c κs =
-    let t = c .before .before .before in
-    let f = first t in
-    variants-fit _ (slices (start (f .before))) _ (start (f .before) .pre) _ (t .write-settings .kept .0 ∙ f .put-u8 .kept .0)
+    let t = settings c in
+    variants-fit _ _ _ (slices (start t)) _ (start t .pre) _ _ (c .settings-size .ensures) (t .write-settings-record .kept .0)
 
 write-haplotypes-requires : tie.Need-write-haplotypes-requires
 write-haplotypes-requires c κs =
     let v = c .before .before .before in
-    haplotypes-fit _ (slices (begin v)) _ (begin v .pre) _ _ (v .write-variants .ensures .1) (v .write-variants .ensures .0 .next) _
-    (v .write-variants .kept .0 ∙ settings v .write-settings .kept .0 ∙ first (settings v) .put-u8 .kept .0)
+    haplotypes-fit _ _ _ (slices (begin v)) _ (begin v .pre) _ _ _ (sized v .settings-size .ensures) (v .write-variants .ensures .1) (v .write-variants .ensures .0 .next) _
+    (v .write-variants .kept .0 ∙ settings (sized v) .write-settings-record .kept .0)
 
-put-u8-requires-2 : tie.Need-put-u8-requires-2
-put-u8-requires-2 c κs = search needs
+put-u8-requires : tie.Need-put-u8-requires
+put-u8-requires c κs = search needs
 
 add-result : tie.Need-add-result
 add-result c = let p = haplotypes c in omega (arith, end p, begin (variants p) .good)
@@ -71,11 +71,12 @@ returns : tie.Need-returns
 returns c =
     let p = haplotypes c in
     let v = variants p in
-    let t = settings v in
-    job-stored _ (slices (begin v)) _ (begin v .pre) _ _ (v .write-variants .ensures .1) (v .write-variants .ensures .0 .next) _ _ _ _ _ _ _ (first t .put-u8 .ensures)
-    (t .write-settings .ensures) (v .write-variants .ensures .0 .is) (p .write-haplotypes .ensures .is) (p .write-haplotypes .ensures .next) (c .before .before .put-u82 .ensures)
+    job-stored _ _ _ (slices (begin v)) _ (begin v .pre) _ _ _ (sized v .settings-size .ensures) (v .write-variants .ensures .1) (v .write-variants .ensures .0 .next) _ _ _ _ _ _
+    (settings (sized v) .write-settings-record .ensures) (v .write-variants .ensures .0 .is) (p .write-haplotypes .ensures .is) (p .write-haplotypes .ensures .next)
+    (c .before .before .put-u8 .ensures)
 
 pub lay-job-spec : {M : Type 1} → statement M
 lay-job-spec =
     tie.close
-    (tie.spec put-u8-requires write-settings-requires write-variants-requires write-haplotypes-requires put-u8-requires-2 add-result same-length returns)
+    (tie.spec write-settings-record-requires settings-size-requires write-variants-requires write-haplotypes-requires put-u8-requires add-result
+    same-length returns)

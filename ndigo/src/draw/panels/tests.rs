@@ -62,6 +62,7 @@ fn the_longest_record_numbers() {
     for (row, variant) in sheet.variants.iter_mut().enumerate() {
         variant.record = Some(u32::MAX - row as u32);
     }
+    sheet.numbered = true;
     stand_apart(&sheet);
 }
 

@@ -40,10 +40,10 @@ pub fn counted(letters: u32, k: u8, text: &[u8], negative: bool) -> Vec<i32> {
 }
 
 impl Call {
-    /// The job's first haplotype, counted by its reading, the rows' own numbers as record numbers. A k that is refused anyway gets no features.
+    /// The job's first haplotype, counted by its reading, with its record numbers. A k that is refused anyway gets no features.
     pub fn of_job(job: &Job) -> Call {
         let features = |k, text: &[u8], negative| counted(job.settings.letters, k, text, negative);
-        Call::of_parts_by(job, &job.haplotypes[0], (0..).take(job.variants.len()).collect(), features)
+        Call::of_parts_by(job, &job.haplotypes[0], job.numbers(), features)
     }
 
     /// The job's table and these parts.

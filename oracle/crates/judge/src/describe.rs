@@ -1,6 +1,7 @@
 //! A job in one line of words, and bytes that are no job as hexadecimal.
 use crate::call::Call;
-use crate::job::{self, Job, Part, Settings};
+use crate::job::{self, Edition, Job, Part, Settings, Variant};
+use crate::moving;
 use crate::proposal::Proposal;
 use crate::rules::DOCUMENT;
 use crate::several::Several;
@@ -32,15 +33,17 @@ fn settings(s: &Settings) -> String {
 }
 
 pub fn job(job: &Job) -> String {
+    let number = |v: &Variant| if job.edition == Edition::Two { format!(" number {}", v.number) } else { String::new() };
     let variants: Vec<String> = job
         .variants
         .iter()
-        .map(|v| format!("{}-{} size {} {}", v.start, v.end, v.size, letters(&v.letters, v.negative)))
+        .map(|v| format!("{}-{} size {} {}{}", v.start, v.end, v.size, letters(&v.letters, v.negative), number(v)))
         .collect();
     let part = |p: &Part| format!("size {} {}", p.size, letters(&p.letters, p.negative));
     let list = |parts: &Vec<Part>| format!("parts [{}]", parts.iter().map(part).collect::<Vec<String>>().join(", "));
     let haplotypes: Vec<String> = job.haplotypes.iter().map(list).collect();
-    format!("{}; variants [{}]; {}", settings(&job.settings), variants.join(", "), haplotypes.join("; next "))
+    let edition = if job.edition == Edition::Two { "edition 2; " } else { "" };
+    format!("{edition}{}; variants [{}]; {}", settings(&job.settings), variants.join(", "), haplotypes.join("; next "))
 }
 
 pub fn bytes(bytes: &[u8]) -> String {
@@ -69,6 +72,10 @@ pub fn call(call: &Call) -> String {
         call.answer_room,
         call.record_buffer
     )
+}
+
+pub fn asked_of_mover(asked: &moving::Asked) -> String {
+    format!("moving to edition {} with room for {} bytes: {}", asked.edition, asked.lent.len(), bytes(&asked.bytes))
 }
 
 pub fn proposal(proposal: &Proposal) -> String {

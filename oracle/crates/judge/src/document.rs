@@ -2,7 +2,7 @@
 //! independent readings are compared. In the paper's order; what it says in one sentence is asked of `Rules`.
 use crate::answer::{self, Answer, Target};
 use crate::call::Call;
-use crate::job::Job;
+use crate::job::{Edition, Job};
 use crate::met::Met;
 use crate::program;
 use crate::proposal::{self, Checked, Proposal};
@@ -297,9 +297,13 @@ pub fn several_answers(rules: &Rules, several: &Several, met: &mut Met) -> Vec<A
     own.into_iter().enumerate().filter(|&(at, _)| rules.is_answered(at, first)).map(|(_, answer)| answer).collect()
 }
 
-/// All haplotypes of the job as a call, its features counted and its record numbers given by the rules.
+/// All haplotypes of the job as a call, its features counted by the rules, and its record numbers those that it has or that the rules give.
 fn several_of(rules: &Rules, job: &Job) -> Several {
-    Several::of_job_by(job, rules.present_numbers(job.variants.len()), |k, text, negative| features(rules, job.settings.letters, k, text, negative))
+    let numbers = match job.edition {
+        Edition::One => rules.present_numbers(job.variants.len()),
+        Edition::Two => job.variants.iter().map(|variant| variant.number).collect(),
+    };
+    Several::of_job_by(job, numbers, |k, text, negative| features(rules, job.settings.letters, k, text, negative))
 }
 
 /// The first alone.

@@ -1,6 +1,6 @@
 //! Short jobs, all of them: tables of up to three rows over a few bounds and sizes, every part count that the program
 //! takes, k one and two, and a few settings.
-use crate::job::{Job, Part, Settings, Variant};
+use crate::job::{Edition, Job, Part, Settings, Variant};
 
 const BOUNDS: [(u64, u64); 4] = [(0, 0), (0, 2), (1, 1), (1, 3)];
 const SIZES: [i32; 3] = [-1, 0, 1];
@@ -32,7 +32,7 @@ fn tables() -> Vec<Vec<Variant>> {
                 for size in SIZES {
                     let mut grown = table.clone();
                     let negative = size < 0;
-                    grown.push(Variant { start, end, size, negative, letters: letters.to_vec() });
+                    grown.push(Variant { start, end, size, negative, letters: letters.to_vec(), number: 0 });
                     next.push(grown);
                 }
             }
@@ -84,6 +84,7 @@ pub fn jobs() -> impl Iterator<Item = Job> {
         PART_SIZES.into_iter().flat_map(move |sizes| {
             let (variants, parts) = (variants.clone(), parts(sizes));
             settings.clone().into_iter().map(move |settings| Job {
+                edition: Edition::One,
                 settings,
                 variants: variants.clone(),
                 haplotypes: vec![parts.clone()],

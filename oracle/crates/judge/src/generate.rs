@@ -4,7 +4,8 @@
 use crate::answer::Answer;
 use crate::call::{counted, queue_need, Call};
 use crate::document::list_score;
-use crate::job::{record_length, shape, Job, Part, Settings, Variant};
+use crate::job::{self, record_length, shape, Edition, Job, Part, Settings, Variant, LETTERS_AT};
+use crate::moving::{self, other_edition};
 use crate::proposal::{self, Proposal};
 use crate::random::Random;
 use crate::rules::{DOCUMENT, SIZE_LIMIT};
@@ -245,11 +246,11 @@ pub fn job(r: &mut Random, size: Size) -> Job {
         .into_iter()
         .map(|(start, end)| {
             let (size, negative, letters) = event(r, &pool, size);
-            Variant { start, end, size, negative, letters: at_least(r, settings.k, letters) }
+            Variant { start, end, size, negative, letters: at_least(r, settings.k, letters), number: 0 }
         })
         .collect();
     let parts = part_list(r, &variants, &pool, m, size);
-    let mut job = Job { settings, variants, haplotypes: vec![parts] };
+    let mut job = Job { edition: Edition::One, settings, variants, haplotypes: vec![parts] };
     match r.below(20) {
         0 | 1 => job.haplotypes[0].iter_mut().for_each(|p| p.size = 0),
         2..=8 => loosen(r, &mut job.settings),
@@ -316,6 +317,7 @@ pub fn job_at_limits(r: &mut Random) -> Job {
             size: sign * limit,
             negative: r.chance(50),
             letters: letters.clone(),
+            number: 0,
         })
         .collect();
     let part = |_| Part { size: sign * limit, negative: r.chance(50), letters: letters.clone() };
@@ -343,7 +345,23 @@ pub fn cost(call: &Call) -> u64 {
     chains(call, limit) * (lists(call.part_sizes.len(), &call.settings) * entries + 8 * v)
 }
 
-/// What only the library can be asked: the reading of letters, often 1 and now and then one that there is not. With 1 most variants keep a window.
+/// With letters 1: most variants keep a window.
+fn keep_windows(r: &mut Random, job: &mut Job) {
+    if r.chance(10) {
+        return;
+    }
+    let k = usize::from(job.settings.k);
+    for variant in &mut job.variants {
+        let letters = &mut variant.letters;
+        if letters.len() >= k && (1..=6).contains(&k) && DOCUMENT.is_blank(&counted(1, job.settings.k, letters, false)) {
+            let place = r.pick(&[0, letters.len()]);
+            let read: Vec<u8> = (0..k).map(|_| r.pick(b"ACGTacgt")).collect();
+            letters.splice(place..place, read);
+        }
+    }
+}
+
+/// The reading of letters as the library is asked for it, often 1 and now and then one that there is not.
 fn read_by(r: &mut Random, job: &mut Job) {
     job.settings.letters = match r.below(20) {
         0..=8 => 1,
@@ -359,18 +377,7 @@ fn read_by(r: &mut Random, job: &mut Job) {
         }
         return;
     }
-    if r.chance(10) {
-        return;
-    }
-    let k = usize::from(job.settings.k);
-    for variant in &mut job.variants {
-        let letters = &mut variant.letters;
-        if letters.len() >= k && (1..=6).contains(&k) && DOCUMENT.is_blank(&counted(1, job.settings.k, letters, false)) {
-            let place = r.pick(&[0, letters.len()]);
-            let read: Vec<u8> = (0..k).map(|_| r.pick(b"ACGTacgt")).collect();
-            letters.splice(place..place, read);
-        }
-    }
+    keep_windows(r, job);
 }
 
 /// A library call of at most the given cost; more costly ones score fewer chains.
@@ -811,10 +818,12 @@ fn disturb_record(r: &mut Random, bytes: &mut Vec<u8>) {
         }
         _ => match record[0] {
             0x00 => bytes.push(0),
-            0x01 => bytes[body + shape.flags.start + r.below(3) as usize] = 2,
+            0x01 => bytes[body + r.pick(shape.flags)] = 2,
+            0x11 if r.chance(50) => bytes[body + LETTERS_AT] = r.pick(&[2, 3, 255]),
+            0x11 => bytes[body + r.pick(shape.flags)] = 2,
             0x04 => bytes[body + 15] = 1,
             0x05 => bytes[at] = r.pick(&[0x00, 0x01, 0x02, 0x06]),
-            _ if r.chance(50) => bytes[body + shape.flags.start] = 2,
+            _ if r.chance(50) => bytes[body + shape.flags[0]] = 2,
             _ => {
                 let count = body + shape.count.expect("a variant or a part");
                 bytes[count..count + 4].copy_from_slice(&r.pick(&[131_072u32, 131_073, 17, 0, u32::MAX]).to_le_bytes());
@@ -847,6 +856,121 @@ pub fn input(r: &mut Random) -> Vec<u8> {
         disturb_bytes(r, &mut bytes);
     }
     bytes
+}
+
+/// The job in edition 2: letters 0 or 1, and record numbers of all kinds; now and then one is repeated, more often where the job is refused anyway.
+fn edition_two(r: &mut Random, job: &mut Job) {
+    let refused = Call::of_job(job).refusal(&DOCUMENT) != 0;
+    job.edition = Edition::Two;
+    let mut numbers = different(r, job.variants.len());
+    if r.chance(if refused { 40 } else { 5 }) {
+        repeat(r, &mut numbers);
+    }
+    job.variants.iter_mut().zip(numbers).for_each(|(variant, number)| variant.number = number);
+    if r.chance(45) {
+        job.settings.letters = 1;
+        keep_windows(r, job);
+    }
+}
+
+/// A job of the other edition put into the bytes of one: its settings or its first variant between two records or in the place of one, or a record's
+/// kind alone.
+fn mix_editions(r: &mut Random, bytes: &mut Vec<u8>) {
+    let of_an_edition = |bytes: &[u8]| records(bytes).into_iter().filter(|&(at, _)| matches!(bytes[at], 0x01 | 0x02 | 0x11 | 0x12)).collect::<Vec<_>>();
+    let (at, length) = r.pick(&records(bytes));
+    if r.chance(30) {
+        let (at, _) = r.pick(&of_an_edition(bytes));
+        bytes[at] ^= 0x10;
+        return;
+    }
+    let Ok(good) = job::read(&DOCUMENT, bytes) else { return };
+    let other = other_edition(&good).bytes();
+    let (from, taken) = r.pick(&of_an_edition(&other));
+    let until = if r.chance(50) { at } else { at + length };
+    bytes.splice(at..until, other[from..from + taken].to_vec());
+}
+
+/// A job of edition 2 for the program, of one haplotype or several, with faults of the form and editions mixed.
+pub fn edition_two_input(r: &mut Random) -> Vec<u8> {
+    let mut job = if r.chance(25) { several_job_or_refused(r, PROGRAM) } else { job(r, PROGRAM) };
+    if r.chance(10) && !job.variants.is_empty() {
+        disturb_job(r, &mut job);
+    }
+    edition_two(r, &mut job);
+    if r.chance(1) && !job.variants.is_empty() {
+        // near the program's longest input, so that one edition is too long and the other is not
+        let want = r.pick(&[32_700u64, 32_760, 32_768, 32_800]);
+        let have = job.bytes().len() as u64;
+        job.variants[0].letters = (0..want.saturating_sub(have) * 16 / 17).map(|_| r.pick(b"ACGT")).collect();
+    }
+    let mut bytes = job.bytes();
+    match r.below(25) {
+        0 => disturb_bytes(r, &mut bytes),
+        1 => disturb_record(r, &mut bytes),
+        2 => mix_editions(r, &mut bytes),
+        3 if r.chance(50) => {
+            bytes = other_edition(&job).bytes();
+            mix_editions(r, &mut bytes);
+        }
+        _ => {}
+    }
+    bytes
+}
+
+/// A call of the mover: a job of either edition, of the program's size or now and then over it, the way back open more often than not; in now and then
+/// bad form; to either edition or none; with room for it, one byte less, or anything.
+pub fn move_asked(r: &mut Random) -> moving::Asked {
+    let size = if r.chance(4) { LIBRARY } else { PROGRAM };
+    let mut job = if r.chance(30) { several_job_or_refused(r, size) } else { job(r, size) };
+    if r.chance(20) && !job.variants.is_empty() {
+        disturb_job(r, &mut job);
+    }
+    if r.chance(30) {
+        let bits = [f32::NAN.to_bits(), 0x7fa0_0001, 0xffc0_1234, 0x7f80_0001, 0x8000_0000, r.next() as u32].map(f32::from_bits);
+        let s = &mut job.settings;
+        (s.sizesim, s.seqsim, s.fpenalty, s.gpenalty) = (r.pick(&bits), r.pick(&bits), r.pick(&bits), r.pick(&bits));
+    }
+    if r.chance(60) {
+        edition_two(r, &mut job);
+        if r.chance(70) {
+            job.variants.iter_mut().zip(0..).for_each(|(variant, row)| variant.number = row);
+            off_its_row(r, &mut job);
+        }
+        job.settings.letters = r.pick(&[0, 0, 0, 1]);
+    }
+    if r.chance(2) && !job.variants.is_empty() {
+        let length = r.pick(&[30_000, 31_000, 60_000, 131_072]);
+        job.variants[0].letters = (0..length).map(|_| r.pick(b"ACGTN")).collect();
+    }
+    let need = other_edition(&job).bytes().len();
+    let mut bytes = job.bytes();
+    match r.below(12) {
+        0 => disturb_bytes(r, &mut bytes),
+        1 => disturb_record(r, &mut bytes),
+        2 if r.chance(50) => mix_editions(r, &mut bytes),
+        _ => {}
+    }
+    let other = if job.edition == Edition::One { 2 } else { 1 };
+    let edition = if r.chance(80) { other } else { r.pick(&[0, 1, 2, 2, 3, 257, u32::MAX]) };
+    let room = match r.below(12) {
+        0 | 1 => need - 1,
+        2 => r.below(need as u64) as usize,
+        3 | 4 => need + r.pick(&[1, 7, 100]),
+        5 => bytes.len(),
+        _ => need,
+    };
+    moving::Asked { bytes, edition, lent: (0..room).map(|_| r.next() as u8).collect() }
+}
+
+/// Now and then one record number that is not its row.
+fn off_its_row(r: &mut Random, job: &mut Job) {
+    let v = job.variants.len() as u64;
+    if v == 0 || !r.chance(20) {
+        return;
+    }
+    let any = r.below(v);
+    let at = r.pick(&[0, v - 1, any]) as usize;
+    job.variants[at].number = r.pick(&[at as u32 + 1, at.wrapping_sub(1) as u32, at as u32 | 0x100, at as u32 | 0x1_0000, at as u32 | 0x8000_0000, 0, u32::MAX]);
 }
 
 /// Rows of the table that may be a chain: each with some chance where it overlaps none before it, now and then where it does.

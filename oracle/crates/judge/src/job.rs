@@ -1,6 +1,5 @@
-//! A job and its bytes (document 01, "Job form and program"; document 02, P1).
+//! A job and its bytes in either edition (document 01, "Job form and program"; document 02, P1 and P7).
 use crate::rules::Rules;
-use std::ops::Range;
 
 pub const LETTER_LIMIT: u32 = 131_072;
 
@@ -15,7 +14,7 @@ pub struct Settings {
     pub fnmax: u32,
     pub pileupmax: u32,
     pub minkfreq: u32,
-    /// document 02, P6: the library's word; a job has no place for it
+    /// document 02, P6: a word of the library's; a job of edition 2 has a byte for it, one of edition 1 no place
     pub letters: u32,
     pub sizesim: f32,
     pub seqsim: f32,
@@ -46,6 +45,8 @@ pub struct Variant {
     pub size: i32,
     pub negative: bool,
     pub letters: Vec<u8>,
+    /// the record number, for which edition 1 has no place
+    pub number: u32,
 }
 
 #[derive(Clone, Debug, PartialEq, Eq)]
@@ -55,8 +56,16 @@ pub struct Part {
     pub letters: Vec<u8>,
 }
 
+/// Document 02, P7: which kinds of settings and variant a job has.
+#[derive(Clone, Copy, Debug, PartialEq, Eq)]
+pub enum Edition {
+    One,
+    Two,
+}
+
 #[derive(Clone, Debug)]
 pub struct Job {
+    pub edition: Edition,
     pub settings: Settings,
     pub variants: Vec<Variant>,
     /// the parts of each; never none
@@ -82,27 +91,21 @@ fn put_part(bytes: &mut Vec<u8>, p: &Part) {
 impl Job {
     /// A job of its own with these parts over the same table.
     pub fn with_parts(&self, parts: &[Part]) -> Job {
-        Job { settings: self.settings.clone(), variants: self.variants.clone(), haplotypes: vec![parts.to_vec()] }
+        Job { edition: self.edition, settings: self.settings.clone(), variants: self.variants.clone(), haplotypes: vec![parts.to_vec()] }
+    }
+
+    /// "A job in the present form gets its row numbers as record numbers."
+    pub fn numbers(&self) -> Vec<u32> {
+        match self.edition {
+            Edition::One => (0..).take(self.variants.len()).collect(),
+            Edition::Two => self.variants.iter().map(|v| v.number).collect(),
+        }
     }
 
     pub fn bytes(&self) -> Vec<u8> {
-        let s = &self.settings;
-        let mut bytes = vec![0x01, s.k, s.squish as u8, s.one_to_one as u8, s.full as u8];
-        for whole in s.wholes() {
-            bytes.extend_from_slice(&whole.to_le_bytes());
-        }
-        for float in s.floats() {
-            bytes.extend_from_slice(&float.to_bits().to_le_bytes());
-        }
-        for v in &self.variants {
-            bytes.push(0x02);
-            bytes.extend_from_slice(&v.start.to_le_bytes());
-            bytes.extend_from_slice(&v.end.to_le_bytes());
-            bytes.extend_from_slice(&v.size.to_le_bytes());
-            bytes.push(v.negative as u8);
-            bytes.extend_from_slice(&(v.letters.len() as u32).to_le_bytes());
-            put_letters(&mut bytes, &v.letters);
-        }
+        let mut bytes = vec![];
+        self.put_settings(&mut bytes);
+        self.variants.iter().for_each(|v| self.put_variant(&mut bytes, v));
         for (i, parts) in self.haplotypes.iter().enumerate() {
             if i > 0 {
                 bytes.push(0x05);
@@ -112,24 +115,58 @@ impl Job {
         bytes.push(0x00);
         bytes
     }
+
+    fn put_settings(&self, bytes: &mut Vec<u8>) {
+        let s = &self.settings;
+        let kind = if self.edition == Edition::Two { 0x11 } else { 0x01 };
+        bytes.extend([kind, s.k, s.squish as u8, s.one_to_one as u8, s.full as u8]);
+        for whole in s.wholes() {
+            bytes.extend_from_slice(&whole.to_le_bytes());
+        }
+        for float in s.floats() {
+            bytes.extend_from_slice(&float.to_bits().to_le_bytes());
+        }
+        if self.edition == Edition::Two {
+            bytes.push(s.letters as u8);
+        }
+    }
+
+    fn put_variant(&self, bytes: &mut Vec<u8>, v: &Variant) {
+        bytes.push(if self.edition == Edition::Two { 0x12 } else { 0x02 });
+        bytes.extend_from_slice(&v.start.to_le_bytes());
+        bytes.extend_from_slice(&v.end.to_le_bytes());
+        bytes.extend_from_slice(&v.size.to_le_bytes());
+        bytes.push(v.negative as u8);
+        bytes.extend_from_slice(&(v.letters.len() as u32).to_le_bytes());
+        if self.edition == Edition::Two {
+            bytes.extend_from_slice(&v.number.to_le_bytes());
+        }
+        put_letters(bytes, &v.letters);
+    }
 }
 
 /// What a record's kind fixes: the length of its body, and where in it the flags and the letter count stand.
 pub struct Shape {
     pub body: usize,
-    pub flags: Range<usize>,
+    pub flags: &'static [usize],
     pub count: Option<usize>,
 }
 
+/// Where edition 2's settings have `letters`, and its variants their record number: behind what edition 1's have.
+pub const LETTERS_AT: usize = 40;
+pub const NUMBER_AT: usize = 25;
+
 /// The kinds of records; there is no other.
 pub fn shape(kind: u8) -> Option<Shape> {
-    let (body, flags, count) = match kind {
-        0x00 => (0, 0..0, None),
-        0x01 => (40, 1..4, None),
-        0x02 => (25, 20..21, Some(21)),
-        0x03 => (9, 4..5, Some(5)),
-        0x04 => (16, 0..0, None),
-        0x05 => (0, 0..0, None),
+    let (body, flags, count): (_, &[usize], _) = match kind {
+        0x00 => (0, &[], None),
+        0x01 => (40, &[1, 2, 3], None),
+        0x02 => (25, &[20], Some(21)),
+        0x03 => (9, &[4], Some(5)),
+        0x04 => (16, &[], None),
+        0x05 => (0, &[], None),
+        0x11 => (41, &[1, 2, 3], None),
+        0x12 => (29, &[20], Some(21)),
         _ => return None,
     };
     Some(Shape { body, flags, count })
@@ -161,6 +198,8 @@ fn f32_at(bytes: &[u8], at: usize) -> f32 {
 
 struct Reader<'a> {
     rules: &'a Rules,
+    /// the kind of the first record, which decides the edition
+    first: u8,
     stage: Stage,
     owed: usize,
     settings: Option<Settings>,
@@ -174,10 +213,10 @@ impl Reader<'_> {
             return kind == 0x04;
         }
         match (&self.stage, kind) {
-            (Stage::Front, _) => kind == 0x01,
+            (Stage::Front, _) => matches!(kind, 0x01 | 0x11),
             (_, 0x05) => self.rules.next_may_begin(self.parts().len()),
-            (Stage::Variants, _) => matches!(kind, 0x00 | 0x02 | 0x03),
-            (Stage::Parts, _) => matches!(kind, 0x00 | 0x03),
+            (Stage::Variants, 0x02 | 0x12) => self.rules.is_of_the_edition(self.first, kind),
+            (_, _) => matches!(kind, 0x00 | 0x03),
         }
     }
 
@@ -194,7 +233,7 @@ impl Reader<'_> {
             21 => after.len() < shape.body,
             22 => !self.in_place(kind),
             27 => kind == 0x05 && self.rules.count_is_refused(self.haplotypes.len() + 1),
-            24 => after[shape.flags].iter().any(|&flag| flag > 1),
+            24 => shape.flags.iter().any(|&at| after[at] > 1) || kind == 0x11 && self.rules.letters_are_no_flag(after[LETTERS_AT]),
             13 => shape.count.is_some_and(|at| u32_at(after, at) > LETTER_LIMIT),
             23 => kind == 0x04 && after[self.owed.min(16)..16].iter().any(|&padding| padding != 0),
             25 => kind == 0x00 && !after.is_empty(),
@@ -204,15 +243,16 @@ impl Reader<'_> {
 
     fn take(&mut self, kind: u8, body: &[u8]) {
         match kind {
-            0x01 => self.take_settings(body),
-            0x02 => self.take_variant(body),
+            0x01 | 0x11 => self.take_settings(kind, body),
+            0x02 | 0x12 => self.take_variant(body),
             0x03 => self.take_part(body),
             0x05 => self.begin_next(),
             _ => self.take_letters(body),
         }
     }
 
-    fn take_settings(&mut self, body: &[u8]) {
+    fn take_settings(&mut self, kind: u8, body: &[u8]) {
+        self.first = kind;
         self.stage = Stage::Variants;
         self.settings = Some(Settings {
             k: body[0],
@@ -224,7 +264,7 @@ impl Reader<'_> {
             fnmax: u32_at(body, 12),
             pileupmax: u32_at(body, 16),
             minkfreq: u32_at(body, 20),
-            letters: self.rules.present_letters(),
+            letters: body.get(LETTERS_AT).map_or(self.rules.present_letters(), |&held| self.rules.letters_of(held)),
             sizesim: f32_at(body, 24),
             seqsim: f32_at(body, 28),
             fpenalty: f32_at(body, 32),
@@ -234,7 +274,10 @@ impl Reader<'_> {
 
     fn take_variant(&mut self, body: &[u8]) {
         self.owed = u32_at(body, 21) as usize;
+        let held = body.get(NUMBER_AT..NUMBER_AT + 4).map(|held| u32_at(held, 0));
+        let row = self.variants.len();
         self.variants.push(Variant {
+            number: held.map_or(row as u32, |held| self.rules.record_number(held, row)),
             start: u64_at(body, 0),
             end: u64_at(body, 8),
             size: u32_at(body, 16) as i32,
@@ -273,6 +316,7 @@ impl Reader<'_> {
 pub fn read(rules: &Rules, bytes: &[u8]) -> Result<Job, u32> {
     let mut reader = Reader {
         rules,
+        first: 0,
         stage: Stage::Front,
         owed: 0,
         settings: None,
@@ -293,6 +337,7 @@ pub fn read(rules: &Rules, bytes: &[u8]) -> Result<Job, u32> {
         left = next;
     }
     Ok(Job {
+        edition: if reader.first == 0x11 { Edition::Two } else { Edition::One },
         settings: reader.settings.unwrap(),
         variants: reader.variants,
         haplotypes: reader.haplotypes,

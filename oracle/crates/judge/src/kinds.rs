@@ -1,8 +1,9 @@
 //! What a job reached, in words that are counted.
 use crate::answer::{Answer, Target};
 use crate::call::{magnitudes, Call};
-use crate::job::Job;
+use crate::job::{self, Edition, Job};
 use crate::met::Met;
+use crate::moving::{self, Asked};
 use crate::rules::DOCUMENT;
 use crate::rust::{By, Judged};
 use crate::several::Several;
@@ -275,6 +276,61 @@ pub fn of_several(counts: &mut Counts, several: &Several, judged: &[Judged]) {
     }
     for (is, kind) in seen {
         *counts.entry(kind).or_default() += u64::from(is);
+    }
+}
+
+/// What an input shows that may be of edition 2 (document 02, P7); it is a job unless the form is at fault. A kind that none shows is counted too, as 0.
+pub fn of_edition(counts: &mut Counts, bytes: &[u8], job: Option<&Job>, answers: &[Answer]) {
+    let two = bytes.first() == Some(&0x11);
+    let refusal = if let [only] = answers { only.refusal } else { 0 };
+    let answered = answers.iter().any(|answer| answer.refusal == 0 && !answer.rows.is_empty());
+    let held = |letters: u32| job.is_some_and(|job| job.edition == Edition::Two && job.settings.letters == letters);
+    let own = |answer: &Answer| !answer.records.is_empty() && answer.records != answer.rows;
+    let seen = [
+        (!two, "edition: other than 2"),
+        (held(0) && answered, "edition: 2, letters 0, rows answered"),
+        (held(1) && answered, "edition: 2, letters 1, rows answered"),
+        (held(1) && refusal == 16, "edition: 2, letters 1, refused 16"),
+        (two && answers.len() > 1, "edition: 2, several haplotypes"),
+        (answers.iter().any(own), "edition: 2, records other than the rows"),
+        (two && refusal == 14, "edition: 2, refused 14"),
+        (two && refusal == 22, "edition: 2, refused 22"),
+        (two && refusal == 24, "edition: 2, refused 24"),
+        (two && bytes.len() > 32_768, "edition: 2, over 32,768 bytes"),
+    ];
+    for (is, kind) in seen {
+        *counts.entry(kind.to_string()).or_default() += u64::from(is);
+    }
+}
+
+/// What a call of the mover shows. A kind that none shows is counted too, as 0.
+pub fn of_move(counts: &mut Counts, asked: &Asked, seen: &moving::Seen) {
+    let need = job::read(&DOCUMENT, &asked.bytes).map_or(0, |job| moving::other_edition(&job).bytes().len());
+    let nan = || job::read(&DOCUMENT, &asked.bytes).is_ok_and(|job| job.settings.floats().iter().any(|x| x.is_nan() && x.to_bits() != f32::NAN.to_bits()));
+    let moved = seen.refusal == 0;
+    let there = (1..=2).contains(&asked.edition);
+    let kinds = [
+        (moved && asked.edition == 1, "moved to edition 1"),
+        (moved && asked.edition == 2, "moved to edition 2"),
+        (moved && asked.lent.len() == need, "moved with room just enough"),
+        (moved && asked.lent.len() > need, "moved with more room"),
+        (moved && nan(), "moved with a NaN of other bits"),
+        (moved && asked.bytes.len() > 32_768, "moved, longer than the program reads"),
+        (seen.refusal == 22 && need > 0 && there, "move refused 22, in the edition asked for"),
+        (seen.refusal == 22 && need > 0 && !there, "move refused 22, no such edition"),
+        (seen.refusal == 28, "move refused 28"),
+        (seen.refusal == 28 && asked.lent.len() < need, "move refused 28, and too little room"),
+        (seen.refusal == 29, "move refused 29"),
+        (seen.refusal == 29 && asked.lent.len() < need, "move refused 29, and too little room"),
+        (seen.refusal == 30, "move refused 30"),
+        (seen.refusal == 30 && asked.lent.len() + 1 == need, "move refused 30, one byte less"),
+        (need == 0 && !there, "move refused by the form, and no such edition"),
+    ];
+    for (is, kind) in kinds {
+        *counts.entry(kind.to_string()).or_default() += u64::from(is);
+    }
+    if need == 0 {
+        add(counts, format!("move refused by the form: {}", seen.refusal));
     }
 }
 

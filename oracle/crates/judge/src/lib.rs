@@ -2,6 +2,7 @@
 //!
 //! - `job`: a job, its bytes, and the faults of the job form.
 //! - `call`: a haplotype as the library is asked for it, its rows counted, and the refusals 1 to 12, 14 and 16; `several`: several over one table.
+//! - `moving`: a job moved from one edition of the form to the other, by the judge and by the document.
 //! - `proposal`: a path that someone else proposes, and the judge's answer to it.
 //! - `rust`: the answer by kanpig's Rust, unchanged or ordered.
 //! - `answer`: an answer and its eight lines.
@@ -25,6 +26,7 @@ pub mod library;
 pub mod met;
 pub mod meta;
 pub mod mistakes;
+pub mod moving;
 pub mod program;
 pub mod proposal;
 pub mod random;

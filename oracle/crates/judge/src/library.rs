@@ -2,6 +2,7 @@
 use crate::answer::Answer;
 use crate::call::Call;
 use crate::kinds::Counts;
+use crate::moving;
 use crate::proposal::{Checked, Proposal};
 use crate::random::Random;
 use crate::several::{Seen, Several};
@@ -34,6 +35,16 @@ pub fn answer(_call: &Call) -> Result<Said, String> {
 }
 
 #[cfg(not(feature = "linked"))]
+pub fn program_text(_bytes: &[u8]) -> Result<String, String> {
+    Err("the library is not linked".to_string())
+}
+
+#[cfg(not(feature = "linked"))]
+pub fn move_job(_asked: &moving::Asked) -> Result<moving::Seen, String> {
+    Err("the library is not linked".to_string())
+}
+
+#[cfg(not(feature = "linked"))]
 pub fn check_path(_call: &Call, _proposal: &Proposal) -> Result<Checked, String> {
     Err("the library is not linked".to_string())
 }
@@ -49,7 +60,7 @@ pub fn counts_alike(_text: &[u8], _k: u8, _negative: bool, _counts: &mut Counts)
 }
 
 #[cfg(feature = "linked")]
-pub use linked::{answer, check_path, counts_alike, several, smaller_call};
+pub use linked::{answer, check_path, counts_alike, move_job, program_text, several, smaller_call};
 
 #[cfg(feature = "linked")]
 mod linked {
@@ -91,6 +102,8 @@ mod linked {
             part_sizes: *const i32, part_sizes_len: usize, part_features: *const i32, part_features_len: usize,
             rows: *const u32, rows_len: usize, positions: *const u32, positions_len: usize, score: f32, yes: *mut u32,
         ) -> u32;
+        fn nd_answer(job: *const u8, job_len: usize, text: *mut [u8; 8192]) -> u32;
+        fn nd_move_job(job: *const u8, job_len: usize, edition: u32, out: *mut u8, out_len: usize, written: *mut u64) -> u32;
         fn nd_count_chains(starts: *const u64, starts_len: usize, ends: *const u64, ends_len: usize, full: bool, cap: u32, count: *mut u32) -> u32;
         fn nd_seq_to_kmer(text: *const u8, text_len: usize, k: u8, negative: bool, letters: u8, row: *mut i32, row_len: usize) -> u32;
         fn nd_seqsim(a: *const i32, a_len: usize, b: *const i32, b_len: usize, minkfreq: u32, place: *mut f32) -> u32;
@@ -217,6 +230,33 @@ mod linked {
             guards_unchanged: !guards.contains(&false),
             seen: Seen { returned, rows: rows.lent().to_vec(), records: records.lent().to_vec(), reports: reports.lent().to_vec() },
         })
+    }
+
+    /// What the program would print for these bytes, by the library. The text's room holds marks before the call, so that its rest is seen to be left alone.
+    pub fn program_text(bytes: &[u8]) -> Result<String, String> {
+        const ROOM: usize = 8192;
+        let mut text = Lent::new(&[MARK as u8; ROOM], MARK_KEY as u8);
+        // SAFETY: the job comes with its length, and the text has its fixed one.
+        let length = unsafe { nd_answer(bytes.as_ptr(), bytes.len(), text.place().cast()) } as usize;
+        if length > ROOM {
+            return Err(format!("{length} bytes of text"));
+        }
+        if !text.is_guarded() || text.lent()[length..].iter().any(|&byte| byte != MARK as u8) {
+            return Err("a byte behind the text changed".to_string());
+        }
+        Ok(String::from_utf8_lossy(&text.lent()[..length]).into_owned())
+    }
+
+    pub fn move_job(asked: &moving::Asked) -> Result<moving::Seen, String> {
+        let mut lent = Lent::new(&asked.lent, MARK_KEY as u8);
+        let mut written = MARK_KEY;
+        let room = lent.lent().len();
+        // SAFETY: every pointer comes with its slice's length, and no two overlap.
+        let refusal = unsafe { nd_move_job(asked.bytes.as_ptr(), asked.bytes.len(), asked.edition, lent.place(), room, &mut written) };
+        if !lent.is_guarded() {
+            return Err("a byte beside the lent room changed".to_string());
+        }
+        Ok(moving::Seen { refusal, written, lent: lent.lent().to_vec() })
     }
 
     /// The number that the check returns, and its word.

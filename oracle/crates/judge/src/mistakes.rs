@@ -187,6 +187,61 @@ mistakes! {
     "letters 1 refused": letters_are_refused = |letters| letters > 0;
     "letters compared by a byte": letters_are_refused = |letters| DOCUMENT.letters_are_refused(letters & 0xff);
     "letters not looked at": letters_are_refused = |_| false;
+    "a variant of either edition taken": is_of_the_edition = |_, _| true;
+    "a variant of edition 1 taken behind settings of edition 2": is_of_the_edition = |first, kind| kind == 0x02 || DOCUMENT.is_of_the_edition(first, kind);
+    "a variant of edition 2 taken behind settings of edition 1": is_of_the_edition = |first, kind| kind == 0x12 || DOCUMENT.is_of_the_edition(first, kind);
+    "letters 2 accepted in a job": letters_are_no_flag = |held| held > 2;
+    "a job's letters 1 a 24": letters_are_no_flag = |held| held > 0;
+    "a job's letters not looked at": letters_are_no_flag = |_| false;
+    "a job's letters lost": letters_of = |_| 0;
+    "a job's letters turned round": letters_of = |held| u32::from(held == 0);
+    "a job's record numbers off by one": record_number = |held, _| held.wrapping_add(1);
+    "a job's record numbers lost, the rows in their place": record_number = |_, row| row as u32;
+    "a job's record numbers read highest byte first": record_number = |held, _| held.swap_bytes();
+    "a job's record numbers read as 16 bits": record_number = |held, _| held & 0xffff;
+    "22 and 28 in each other's place in moving": move_refusals = || &[20, 28, 22, 29, 30];
+    "22 and 29 in each other's place in moving": move_refusals = || &[20, 29, 28, 22, 30];
+    "22 and 30 in each other's place in moving": move_refusals = || &[20, 30, 28, 29, 22];
+    "28 and 29 in each other's place in moving": move_refusals = || &[20, 22, 29, 28, 30];
+    "28 and 30 in each other's place in moving": move_refusals = || &[20, 22, 30, 29, 28];
+    "29 and 30 in each other's place in moving": move_refusals = || &[20, 22, 28, 30, 29];
+    "22 looked for before the form in moving": move_refusals = || &[22, 20, 28, 29, 30];
+    "28 looked for before the form in moving": move_refusals = || &[28, 20, 22, 29, 30];
+    "29 looked for before the form in moving": move_refusals = || &[29, 20, 22, 28, 30];
+    "30 looked for before the form in moving": move_refusals = || &[30, 20, 22, 28, 29];
+    "the form not looked at in moving": move_refusals = || &[22, 28, 29, 30];
+    "a job moved to the edition that it has": move_is_none = |_, asked| !(1..=2).contains(&asked);
+    "edition 0 taken as 1": move_is_none = |own, asked| DOCUMENT.move_is_none(own, asked.max(1));
+    "an edition over 2 taken as 2": move_is_none = |own, asked| DOCUMENT.move_is_none(own, asked.min(2));
+    "record numbers lost on the way back": number_would_be_lost = |_, _| false;
+    "28 for a number over its row only": number_would_be_lost = |number, row| number as usize > row;
+    "28 for the first row only": number_would_be_lost = |number, row| row == 0 && number != 0;
+    "28 for a number that is its row": number_would_be_lost = |number, row| number as usize == row;
+    "letters lost on the way back": reading_would_be_lost = |_| false;
+    "29 for letters 0": reading_would_be_lost = |held| held == 0;
+    "room just enough refused in moving": room_is_little = |room, need| room <= need;
+    "one byte too little taken in moving": room_is_little = |room, need| room + 1 < need;
+    "the room not looked at in moving": room_is_little = |_, _| false;
+    "26 asked of a job to be moved": move_asks_too = || &[26];
+    "the table's refusals asked of a job to be moved": move_asks_too = || &[1, 2, 3, 4, 7, 8, 14, 9, 16];
+    "a repeated number refused in moving": move_asks_too = || &[14];
+    "a NaN's bits lost in moving": shared_bytes = |body| {
+        let is_nan = |word: &[u8]| word.try_into().is_ok_and(|four| f32::from_le_bytes(four).is_nan());
+        let plain = |word: &[u8]| if is_nan(word) { f32::NAN.to_le_bytes().to_vec() } else { word.to_vec() };
+        if body.len() == 40 { [body[..24].to_vec(), body[24..].chunks(4).flat_map(plain).collect()].concat() } else { body.to_vec() }
+    };
+    "minus zero made plain in moving": shared_bytes = |body| {
+        let plain = |word: &[u8]| if word == [0, 0, 0, 0x80] { vec![0; 4] } else { word.to_vec() };
+        if body.len() == 40 { [body[..24].to_vec(), body[24..].chunks(4).flat_map(plain).collect()].concat() } else { body.to_vec() }
+    };
+    "record numbers from 1 in moving": moved_number = |row| row as u32 + 1;
+    "record numbers 0 in moving": moved_number = |_| 0;
+    "letters 1 in moving": moved_letters = || 1;
+    "a refused move clears what is lent": lent_after = |before, moved, refused| if refused { vec![0; before.len()] } else { DOCUMENT.lent_after(before, moved, refused) };
+    "what fits written by a refused move": lent_after = |before, moved, _| DOCUMENT.lent_after(before, &moved[..moved.len().min(before.len())], false);
+    "the rest of what is lent to a move set to 0": lent_after =
+        |before, moved, refused| if refused { before.to_vec() } else { DOCUMENT.lent_after(&vec![0; before.len()], moved, refused) };
+    "a refused move tells the length": written = |length, _| length as u64;
     "16 looked for before 10": refusals = || &[1, 2, 3, 4, 27, 5, 6, 7, 8, 14, 9, 16, 10, 11, 12];
     "16 looked for before 9": refusals = || &[1, 2, 3, 4, 27, 5, 6, 7, 8, 14, 16, 9, 10, 11, 12];
     "16 looked for after 11": refusals = || &[1, 2, 3, 4, 27, 5, 6, 7, 8, 14, 9, 10, 11, 16, 12];

@@ -380,6 +380,83 @@ rules! {
         0
     }
 
+    // Document 02, P7: job form, edition 2, and the way back
+
+    /// "the two editions are not mixed in one job": whether a variant of this kind stands in a job whose first record has that kind
+    fn is_of_the_edition(first: u8, kind: u8) -> bool {
+        matches!((first, kind), (0x01, 0x02) | (0x11, 0x12))
+    }
+
+    /// "`letters` over 1 is 24"
+    fn letters_are_no_flag(held: u8) -> bool {
+        held > 1
+    }
+
+    /// "the old 40 bytes and `letters`"
+    fn letters_of(held: u8) -> u32 {
+        held.into()
+    }
+
+    /// "the old 25 bytes and the record number"
+    fn record_number(held: u32, _row: usize) -> u32 {
+        held
+    }
+
+    /// "for moving, after form faults and in this order, 22 .., 28 .., 29 .., 30"; 20 stands for whatever fault the form has
+    fn move_refusals() -> &'static [u32] {
+        &[20, 22, 28, 29, 30]
+    }
+
+    /// 22: "for a job already in the edition asked for", and for an edition that there is not
+    fn move_is_none(own: u32, asked: u32) -> bool {
+        own == asked || !(1..=2).contains(&asked)
+    }
+
+    /// 28: "when a record number is not its row"
+    fn number_would_be_lost(number: u32, row: usize) -> bool {
+        number as usize != row
+    }
+
+    /// 29: "when letters is 1"
+    fn reading_would_be_lost(held: u8) -> bool {
+        held == 1
+    }
+
+    /// 30: "for too little room"
+    fn room_is_little(room: usize, need: usize) -> bool {
+        room < need
+    }
+
+    /// "an accepted edition 1 job": accepted is its form; "1 to 12 and 26 play no part". Which of a search's refusals are asked before 22
+    fn move_asks_too() -> &'static [u32] {
+        &[]
+    }
+
+    /// It "copies what the editions share byte for byte, so that a NaN's bits survive": a body of settings, or of a variant
+    fn shared_bytes(body: &[u8]) -> Vec<u8> {
+        body.to_vec()
+    }
+
+    /// "with row numbers as record numbers"
+    fn moved_number(row: usize) -> u32 {
+        row as u32
+    }
+
+    /// "and letters 0"
+    fn moved_letters() -> u8 {
+        0
+    }
+
+    /// What is lent after moving: the job at its front, its rest unchanged; nothing is written on a refusal.
+    fn lent_after(before: &[u8], moved: &[u8], refused: bool) -> Vec<u8> {
+        if refused { before.to_vec() } else { moved.iter().chain(before.iter().skip(moved.len())).copied().collect() }
+    }
+
+    /// It "returns how many bytes it wrote", on a refusal 0.
+    fn written(length: usize, refused: bool) -> u64 {
+        if refused { 0 } else { length as u64 }
+    }
+
     // Document 02, P11: rows that can match nothing
 
     /// 16: a row that "is all zero"

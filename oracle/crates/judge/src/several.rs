@@ -49,7 +49,7 @@ impl Several {
     /// All haplotypes of a job, with the room that they need.
     pub fn of_job(job: &Job) -> Several {
         let features = |k, text: &[u8], negative| counted(job.settings.letters, k, text, negative);
-        Several::of_job_by(job, (0..).take(job.variants.len()).collect(), features)
+        Several::of_job_by(job, job.numbers(), features)
     }
 
     pub fn of_job_by(job: &Job, numbers: Vec<u32>, features: impl Fn(u8, &[u8], bool) -> Vec<i32>) -> Several {

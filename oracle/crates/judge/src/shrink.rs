@@ -1,6 +1,6 @@
 //! The smallest job or call found that still shows something: pieces are left out or made plain as long as it still does.
 use crate::call::{queue_need, Call};
-use crate::job::{self, Job, Settings};
+use crate::job::{self, Edition, Job, Settings};
 use crate::rules::DOCUMENT;
 use crate::several::Several;
 use std::collections::BTreeSet;
@@ -49,6 +49,7 @@ fn smaller(job: &Job) -> Vec<Job> {
             with(&|j| j.variants[i].size = size);
         }
         with(&|j| j.variants[i].negative = false);
+        with(&|j| j.variants[i].number = i as u32);
         for (start, end) in [(0, 0), (i as u64, i as u64), (v.start / 2, v.end / 2), (v.start, v.start), (v.start, v.end.saturating_sub(1))] {
             with(&|j| (j.variants[i].start, j.variants[i].end) = (start, end));
         }
@@ -70,6 +71,7 @@ fn smaller(job: &Job) -> Vec<Job> {
         }
     }
     with(&|j| j.settings.k = 1);
+    with(&|j| (j.edition, j.settings.letters) = (Edition::One, 0));
     for settings in plainer(&job.settings) {
         with(&|j| j.settings = settings.clone());
     }
@@ -101,8 +103,9 @@ fn weight(job: &Job) -> u64 {
         .iter()
         .map(|v| 1000 + sequence(&v.letters, v.size, v.negative) + (v.start >> 1) .min(1 << 40) + v.end.min(1 << 40))
         .sum();
+    let odd_numbers = job.numbers().iter().zip(0..).filter(|&(&number, row)| number != row).count() as u64;
     let parts: u64 = job.haplotypes.iter().flatten().map(|p| 1000 + sequence(&p.letters, p.size, p.negative)).sum();
-    variants + parts + 1000 * job.haplotypes.len() as u64 + settings_weight(&job.settings)
+    variants + parts + 1000 * job.haplotypes.len() as u64 + settings_weight(&job.settings) + odd_numbers + 4 * u64::from(job.edition == Edition::Two)
 }
 
 /// Steps as long as some smaller job still shows it.

@@ -20,7 +20,7 @@ same-length c = search needs
 returns : tie.Need-returns
 returns c =
     let w = c .before .before in
-    block-printed _ _ _ _ (headed w .put-hap .ensures) (w .put-search .ensures)
+    block-printed _ _ _ _ _ (headed w .put-hap .ensures) (w .put-search .ensures)
 
 pub put-block-spec : {M : Type 1} → statement M
 put-block-spec = tie.close (tie.spec put-hap-requires put-search-requires same-length returns)

@@ -16,13 +16,13 @@ parts s = partsOf (now (s .args .part-sizes)) (now (s .args .part-features))
 
 -- the places: one haplotype, and of several what the whole is refused by
 abbrev one : tie.Then1 → tie.Start
-one c = c .before .before .before .before .before
+one c = c .before .before .before .before .before .before
 
 abbrev several : tie.Else1 → tie.Start
-several c = c .before .before .before .before .before
+several c = c .before .before .before .before .before .before
 
 put-search-requires : tie.Need-put-search-requires
-put-search-requires c κs = one (c .before) .pre .variants
+put-search-requires c κs = search needs
 
 same-length : tie.Need-same-length
 same-length c = search needs
@@ -30,10 +30,10 @@ same-length c = search needs
 returns : tie.Need-returns
 returns c =
     let w = c .before .before in let t = w .before .before in let s = one t in let a = s .args in
-    printed-within (omega arith) (printed-as (w .put-search .ensures) (one-text (a .s) (table s) (parts s) (a .width) (now (a .breaks)) (s .pre) (t .if1 .taken)))
+    printed-within (omega arith) (printed-as (w .put-search .ensures) (one-text (a .s) (table s) (now (a .numbers)) (parts s) (a .width) (now (a .breaks)) (s .pre) (t .if1 .taken)))
 
 whole-fault-requires : tie.Need-whole-fault-requires
-whole-fault-requires c κs = several c .pre .variants
+whole-fault-requires c κs = search needs
 
 put-refused-requires : tie.Need-put-refused-requires
 put-refused-requires c κs = search needs
@@ -45,7 +45,7 @@ returns-2 : tie.Need-returns-2
 returns-2 c =
     let w = c .before .before in let t = w .before .before in let f = t .before in let e = f .before in let s = several e in let a = s .args in
     printed-as (printed-refused _ (omega arith) (w .put-refused .ensures))
-    (whole-refused (a .s) (table s) (parts s) (a .width) (now (a .breaks)) (s .pre) (e .if1 .left) _ (f .whole-fault .ensures) (t .if2 .taken))
+    (whole-refused (a .s) (table s) (now (a .numbers)) (parts s) (a .width) (now (a .breaks)) (s .pre) (e .if1 .left) _ (f .whole-fault .ensures) (t .if2 .taken))
 
 put-blocks-requires : tie.Need-put-blocks-requires
 put-blocks-requires c κs = several (c .before .before .before) .pre
@@ -57,7 +57,7 @@ returns-3 : tie.Need-returns-3
 returns-3 c =
     let w = c .before .before in let t = w .before .before in let f = t .before in let e = f .before in let s = several e in let a = s .args in
     printed-as (w .put-blocks .ensures)
-    (whole-accepted (a .s) (table s) (parts s) (a .width) (now (a .breaks)) (s .pre) (e .if1 .left) _ (f .whole-fault .ensures) (t .if2 .left))
+    (whole-accepted (a .s) (table s) (now (a .numbers)) (parts s) (a .width) (now (a .breaks)) (s .pre) (e .if1 .left) _ (f .whole-fault .ensures) (t .if2 .left))
 
 pub put-haplotypes-spec : {M : Type 1} → statement M
 put-haplotypes-spec =

@@ -19,7 +19,7 @@ slices s =
 
 -- the places: once the haplotypes are looked at, once the width is known, once the variants' rows are counted, and once the parts' rows are
 abbrev start : tie.After-over-parts → tie.Start
-start c = c .before .before .before .before .before .before .before .before .before .before
+start c = c .before .before .before .before .before .before .before .before .before .before .before
 
 abbrev passed : tie.After-entries → tie.Else1
 passed c = c .before
@@ -47,7 +47,7 @@ parts-room : (c : tie.After-entries) → length (now (begin c .args .part-counts
 parts-room c = let k = small c in parts-end _ _ _ (slices (begin c)) (begin c .pre) (k .0) (k .1) (c .entries .ensures)
 
 over-parts-requires : tie.Need-over-parts-requires
-over-parts-requires c κs = c .before .before .before .before .before .before .before .before .before .pre .rising
+over-parts-requires c κs = c .before .before .before .before .before .before .before .before .before .before .pre .rising
 
 limit-fault-requires : tie.Need-limit-fault-requires
 limit-fault-requires c κs = search needs
@@ -62,7 +62,7 @@ returns : tie.Need-returns
 returns c =
     let p = c .before .before in let t = p .before .before in let f = t .before in let o = f .before in
     printed-as (printed-refused _ (omega arith) (p .put-refused .ensures))
-    (limit-text (start o .args .s) (slices (start o)) _ (o .over-parts .ensures) _ (f .limit-fault .ensures) (t .if1 .taken))
+    (limit-text (start o .args .s) _ (slices (start o)) _ (o .over-parts .ensures) _ (f .limit-fault .ensures) (t .if1 .taken))
 
 entries-requires : tie.Need-entries-requires
 entries-requires c κs = search needs
@@ -133,7 +133,7 @@ put-haplotypes-requires c κs =
     let d = c .before .before .before in
     let r = counted d in
     let e = wide r in
-    blocks-fit _ _ _ (slices (begin e)) (begin e .pre) (small e .0) (small e .1) (e .entries .ensures) _ _ (d .before .count-rows2 .ensures .kept ∙ sym (r .before .before .part-table .ensures))
+    blocks-fit _ _ _ (slices (begin e)) (begin e .pre) (small e .0) (small e .1) (e .entries .ensures) _ (d .before .count-rows2 .ensures .kept ∙ sym (r .before .before .part-table .ensures))
 
 same-length-2 : tie.Need-same-length-2
 same-length-2 c = search needs
@@ -146,7 +146,7 @@ returns-2 c =
     let e = wide r in let s = begin e in let l = passed e in let o = l .before .before in
     let wide-is = power-is _ _ _ (slices s) (s .pre) (small e .0) (small e .1) (e .entries .ensures) in
     printed-as (w .put-haplotypes .ensures)
-    (counted-text (s .args .s) (slices s) _ (o .over-parts .ensures) _ (l .before .limit-fault .ensures) (e .entries .result) (r .count-rows .result) (q .count-rows2 .result) _ _ _ _
+    (counted-text (s .args .s) _ (slices s) _ (o .over-parts .ensures) _ (l .before .limit-fault .ensures) (e .entries .result) (r .count-rows .result) (q .count-rows2 .result) _ _ _ _
     wide-is (l .if1 .left) (r .count-rows .ensures) (q .count-rows2 .ensures))
 
 pub answer-held-spec : {M : Type 1} → statement M

@@ -2,7 +2,7 @@
 use borrow.Author.Needs.{needs}
 use native.Mathlib.Omega.{arith}
 use denote.Ref.{now}
-use Rattle.form.proofs.FormLaws.{count-is, follows-is, follows-any, follows-settings, follows-variant, follows-part, follows-next, follows-end, follows-unknown}
+use Rattle.form.proofs.FormLaws.{count-is, follows-is, follows-any, follows-settings, follows-variant, follows-part, follows-next, follows-settings2, follows-variant2, follows-end, follows-unknown}
 use Rattle.form.proofs.records.after_record.Statement.{statement}
 use Rattle.form.proofs.records.after_record.Tie as tie
 
@@ -30,6 +30,12 @@ enum-told-6 c = search needs
 enum-told-7 : tie.Need-enum-told-7
 enum-told-7 c = search needs
 
+enum-told-8 : tie.Need-enum-told-8
+enum-told-8 c = search needs
+
+enum-told-9 : tie.Need-enum-told-9
+enum-told-9 c = search needs
+
 after-letters-requires : tie.Need-after-letters-requires
 after-letters-requires c κs = omega arith
 
@@ -41,6 +47,9 @@ add-t7 c = search needs
 
 add-t8 : tie.Need-add-t8
 add-t8 c = search needs
+
+add-t9 : tie.Need-add-t9
+add-t9 c = search needs
 
 returns : tie.Need-returns
 returns c =
@@ -70,15 +79,25 @@ returns-5 c =
 returns-6 : tie.Need-returns-6
 returns-6 c =
     let t = c in let n = t .before .before in let a = n .before .before .args in
-    follows-is (t .enum-told6 .given .1) (follows-end (a .st) (now (a .b)) _ (count-is (now (a .b)) (t .enum-told6 .given .1) (n .count-of .ensures)))
+    follows-is (t .enum-told6 .given .1) (follows-settings2 (a .st) (now (a .b)) _ (count-is (now (a .b)) (t .enum-told6 .given .1) (n .count-of .ensures)))
 
 returns-7 : tie.Need-returns-7
 returns-7 c =
+    let t = c .before in let n = t .before .before in let a = n .before .before .args in
+    follows-is (t .enum-told7 .given .1) (follows-variant2 (a .st) (now (a .b)) _ (count-is (now (a .b)) (t .enum-told7 .given .1) (n .count-of .ensures)))
+
+returns-8 : tie.Need-returns-8
+returns-8 c =
     let t = c in let n = t .before .before in let a = n .before .before .args in
-    follows-is (t .enum-told7 .given .1) (follows-unknown (a .st) (now (a .b)) _ (count-is (now (a .b)) (t .enum-told7 .given .1) (n .count-of .ensures)))
+    follows-is (t .enum-told8 .given .1) (follows-end (a .st) (now (a .b)) _ (count-is (now (a .b)) (t .enum-told8 .given .1) (n .count-of .ensures)))
+
+returns-9 : tie.Need-returns-9
+returns-9 c =
+    let t = c in let n = t .before .before in let a = n .before .before .args in
+    follows-is (t .enum-told9 .given .1) (follows-unknown (a .st) (now (a .b)) _ (count-is (now (a .b)) (t .enum-told9 .given .1) (n .count-of .ensures)))
 
 pub after-record-spec : {M : Type 1} → statement M
 after-record-spec =
     tie.close
-    (tie.spec count-of-requires enum-told after-letters-requires enum-told-2 enum-told-3 add-t6 enum-told-4 add-t7 enum-told-5 add-t8 enum-told-6 enum-told-7
-    returns returns-2 returns-3 returns-4 returns-5 returns-6 returns-7)
+    (tie.spec count-of-requires enum-told after-letters-requires enum-told-2 enum-told-3 add-t6 enum-told-4 add-t7 enum-told-5 add-t8 enum-told-6 enum-told-7 add-t9 enum-told-8 enum-told-9
+    returns returns-2 returns-3 returns-4 returns-5 returns-6 returns-7 returns-8 returns-9)

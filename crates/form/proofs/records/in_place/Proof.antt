@@ -28,6 +28,12 @@ enum-told-6 c = search needs
 enum-told-7 : tie.Need-enum-told-7
 enum-told-7 c = search needs
 
+enum-told-8 : tie.Need-enum-told-8
+enum-told-8 c = search needs
+
+enum-told-9 : tie.Need-enum-told-9
+enum-told-9 c = search needs
+
 returns : tie.Need-returns
 unfolding inPlace
 returns c = let t = c .before in let st = t .before .before .args .st in ap (λ (k : Kind). inPlace st k) (sym (t .enum-told .given .1))
@@ -74,10 +80,26 @@ returns-11 c = let t = c .before .before in let st = t .before .before .args .st
 
 returns-12 : tie.Need-returns-12
 unfolding inPlace
-returns-12 c = let st = c .before .before .args .st in ap (λ (k : Kind). inPlace st k) (sym (c .enum-told7 .given .1))
+returns-12 c = let i = c .before in let t = i .before .before in let st = t .before .before .args .st in none-owed _ (i .if6 .taken) ∙ ap (λ (k : Kind). inPlace st k) (sym (t .enum-told7 .given .1))
+
+returns-13 : tie.Need-returns-13
+unfolding inPlace
+returns-13 c = let t = c .before .before in let st = t .before .before .args .st in some-owed _ _ (c .if6 .left) ∙ ap (λ (k : Kind). inPlace st k) (sym (t .enum-told7 .given .1))
+
+returns-14 : tie.Need-returns-14
+unfolding inPlace
+returns-14 c = let i = c .before in let t = i .before .before in let st = t .before .before .args .st in none-owed _ (i .if7 .taken) ∙ ap (λ (k : Kind). inPlace st k) (sym (t .enum-told8 .given .1))
+
+returns-15 : tie.Need-returns-15
+unfolding inPlace
+returns-15 c = let t = c .before .before in let st = t .before .before .args .st in some-owed _ _ (c .if7 .left) ∙ ap (λ (k : Kind). inPlace st k) (sym (t .enum-told8 .given .1))
+
+returns-16 : tie.Need-returns-16
+unfolding inPlace
+returns-16 c = let st = c .before .before .args .st in ap (λ (k : Kind). inPlace st k) (sym (c .enum-told9 .given .1))
 
 pub in-place-spec : {M : Type 1} → statement M
 in-place-spec =
     tie.close
-    (tie.spec enum-told enum-told-2 enum-told-3 enum-told-4 enum-told-5 enum-told-6 enum-told-7
-    returns returns-2 returns-3 returns-4 returns-5 returns-6 returns-7 returns-8 returns-9 returns-10 returns-11 returns-12)
+    (tie.spec enum-told enum-told-2 enum-told-3 enum-told-4 enum-told-5 enum-told-6 enum-told-7 enum-told-8 enum-told-9
+    returns returns-2 returns-3 returns-4 returns-5 returns-6 returns-7 returns-8 returns-9 returns-10 returns-11 returns-12 returns-13 returns-14 returns-15 returns-16)

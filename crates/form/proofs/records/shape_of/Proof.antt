@@ -26,6 +26,12 @@ enum-told-6 c = search needs
 enum-told-7 : tie.Need-enum-told-7
 enum-told-7 c = search needs
 
+enum-told-8 : tie.Need-enum-told-8
+enum-told-8 c = search needs
+
+enum-told-9 : tie.Need-enum-told-9
+enum-told-9 c = search needs
+
 returns : tie.Need-returns
 returns c = ap shapeOf (sym (c .enum-told .given .1))
 
@@ -47,8 +53,14 @@ returns-6 c = ap shapeOf (sym (c .enum-told6 .given .1))
 returns-7 : tie.Need-returns-7
 returns-7 c = ap shapeOf (sym (c .enum-told7 .given .1))
 
+returns-8 : tie.Need-returns-8
+returns-8 c = ap shapeOf (sym (c .enum-told8 .given .1))
+
+returns-9 : tie.Need-returns-9
+returns-9 c = ap shapeOf (sym (c .enum-told9 .given .1))
+
 pub shape-of-spec : {M : Type 1} → statement M
 shape-of-spec =
     tie.close
-    (tie.spec enum-told enum-told-2 enum-told-3 enum-told-4 enum-told-5 enum-told-6 enum-told-7
-    returns returns-2 returns-3 returns-4 returns-5 returns-6 returns-7)
+    (tie.spec enum-told enum-told-2 enum-told-3 enum-told-4 enum-told-5 enum-told-6 enum-told-7 enum-told-8 enum-told-9
+    returns returns-2 returns-3 returns-4 returns-5 returns-6 returns-7 returns-8 returns-9)

@@ -7,8 +7,7 @@ use borrow.Author.Tests.{not-true, not-false}
 use borrow.Author.Needs.{needs}
 use Rattle.params.specs.Numbers.{firstOf, settingsRules}
 use Rattle.params.specs.declared.Settings.{Settings}
-use Rattle.form.specs.Form.{areFlags}
-use Rattle.form.specs.Settings41.{lettersPlace}
+use Rattle.form.specs.Form.{areFlags, lettersPlace}
 use Rattle.form.proofs.Settings41Laws.{flags-first, flags-last, flags-both}
 use Rattle.form.proofs.settings.settings41_fault.Statement.{statement}
 use Rattle.form.proofs.settings.settings41_fault.Tie as tie

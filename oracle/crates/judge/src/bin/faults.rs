@@ -4,14 +4,14 @@
 use judge::answer::Answer;
 use judge::call::{counted, Call};
 use judge::document::{call_answer, checked, features, program_text, record_buffer, several_answers};
-use judge::generate::{self, input, several_call, several_input, small_call, PROGRAM};
+use judge::generate::{self, edition_two_input, input, move_asked, several_call, several_input, small_call, PROGRAM};
 use judge::met::Met;
 use judge::mistakes::{Mistake, MISTAKES};
 use judge::proposal::{Checked, Proposal};
 use judge::random::Random;
 use judge::rules::{Rules, DOCUMENT};
 use judge::several::{self, Several};
-use judge::{describe, exhaust, meta, program, proposal, rust, shrink};
+use judge::{describe, exhaust, meta, moving, program, proposal, rust, shrink};
 use std::process::ExitCode;
 
 /// What anyone outside sees of a call: the answer, and what the second buffer holds after it.
@@ -90,6 +90,7 @@ struct Asked {
     calls: Vec<(Seen, Call)>,
     several: Vec<(several::Seen, Several)>,
     proposals: Vec<(Checked, Call, Proposal)>,
+    moves: Vec<(moving::Seen, moving::Asked)>,
 }
 
 /// A call and a path proposed for it, behind the judge's answer.
@@ -105,6 +106,7 @@ impl Asked {
         let mut inputs: Vec<Vec<u8>> = exhaust::jobs().step_by(97).map(|job| job.bytes()).collect();
         inputs.extend((0..count).map(|i| input(&mut Random::new(i))));
         inputs.extend((0..count / 5).map(|i| several_input(&mut Random::new(i))));
+        inputs.extend((0..count / 2).map(|i| edition_two_input(&mut Random::new(i))));
         let calls = (0..count / 2).map(|i| small_call(&mut Random::new(i)));
         let several = (0..count / 5).map(|i| several_call(&mut Random::new(i), PROGRAM, 20_000));
         Asked {
@@ -112,6 +114,7 @@ impl Asked {
             calls: calls.map(|call| (must_be(&call), call)).collect(),
             several: several.map(|several| (several_must_be(&several), several)).collect(),
             proposals: (0..count / 2).map(proposed).collect(),
+            moves: (0..count / 2).map(|i| move_asked(&mut Random::new(i))).map(|asked| (moving::judged(&asked), asked)).collect(),
         }
     }
 
@@ -142,6 +145,14 @@ impl Asked {
             checked(rules, call, one) != *must
         };
         (0..self.proposals.len()).filter(differs).collect()
+    }
+}
+
+impl Asked {
+    /// Those of the moves.
+    fn by_moves(&self, rules: &Rules) -> Vec<usize> {
+        let differs = |&at: &usize| moving::moved(rules, &self.moves[at].1) != self.moves[at].0;
+        (0..self.moves.len()).filter(differs).collect()
     }
 }
 
@@ -186,6 +197,17 @@ fn tell_proposal(rules: &Rules, asked: &Asked, found: &[usize]) {
     println!("    would be {:?}", checked(rules, call, one));
 }
 
+fn tell_move(rules: &Rules, asked: &Asked, found: &[usize]) {
+    let words = |seen: moving::Seen| {
+        let front: String = seen.lent.iter().take(60).map(|byte| format!("{byte:02x}")).collect();
+        format!("refused {}, {} bytes written, what is lent then {front}..", seen.refusal, seen.written)
+    };
+    let (must, one) = &asked.moves[*found.iter().min_by_key(|&&at| asked.moves[at].1.bytes.len()).expect("some move shows it")];
+    println!("    {}", describe::asked_of_mover(one));
+    println!("    must be  {}", words(must.clone()));
+    println!("    would be {}", words(moving::moved(rules, one)));
+}
+
 /// Whether it is caught, and by what.
 fn is_caught(words: &str, rules: &Rules, asked: &Asked) -> bool {
     let found = asked.by_inputs(rules);
@@ -212,6 +234,12 @@ fn is_caught(words: &str, rules: &Rules, asked: &Asked) -> bool {
         tell_proposal(rules, asked, &found);
         return true;
     }
+    let found = asked.by_moves(rules);
+    if let Some(first) = found.first() {
+        println!("caught {words}: first at move {}, {} of {}", first + 1, found.len(), asked.moves.len());
+        tell_move(rules, asked, &found);
+        return true;
+    }
     let shown = smaller_calls(rules);
     match &shown {
         Some(shown) => println!("caught {words}: by a smaller call; no answer can show it\n    {shown}"),
@@ -227,16 +255,18 @@ fn main() -> ExitCode {
     let call = asked.by_calls(&DOCUMENT).first().map(|&at| describe::call(&asked.calls[at].1));
     let several = asked.by_several(&DOCUMENT).first().map(|&at| describe::several(&asked.several[at].1));
     let path = asked.by_proposals(&DOCUMENT).first().map(|&at| describe::proposal(&asked.proposals[at].2));
-    if let Some(words) = input.or(call).or(several).or(path).or(smaller_calls(&DOCUMENT)) {
+    let moved = asked.by_moves(&DOCUMENT).first().map(|&at| describe::asked_of_mover(&asked.moves[at].1));
+    if let Some(words) = input.or(call).or(several).or(path).or(moved).or(smaller_calls(&DOCUMENT)) {
         println!("with nothing planted: {words}");
         return ExitCode::FAILURE;
     }
     println!(
-        "nothing planted: {} inputs, {} library calls, {} for several haplotypes and {} proposed paths, no difference",
+        "nothing planted: {} inputs, {} library calls, {} for several haplotypes, {} proposed paths and {} moves, no difference",
         asked.inputs.len(),
         asked.calls.len(),
         asked.several.len(),
-        asked.proposals.len()
+        asked.proposals.len(),
+        asked.moves.len()
     );
     let unplanted: Vec<&str> = Rules::NAMES.iter().copied().filter(|&rule| MISTAKES.iter().all(|mistake| mistake.rule != rule)).collect();
     if !unplanted.is_empty() {

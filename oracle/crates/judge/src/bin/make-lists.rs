@@ -6,14 +6,14 @@
 use judge::answer::{self, Answer, Target};
 use judge::call::Call;
 use judge::document::{call_answer, call_of, program_answers, program_text};
-use judge::generate::{cost, disturb_job, input, several_input, LIBRARY};
-use judge::job::{self, record_length, Job, Part, Settings, Variant};
+use judge::generate::{cost, disturb_job, edition_two_input, input, several_input, LIBRARY};
+use judge::job::{self, record_length, Edition, Job, Part, Settings, Variant};
 use judge::kinds::{self, Counts};
 use judge::met::Met;
 use judge::mistakes::MISTAKES;
 use judge::random::Random;
 use judge::rules::{Rules, DOCUMENT};
-use judge::{exhaust, generate, program, rust};
+use judge::{exhaust, generate, moving, program, rust};
 use std::collections::{BTreeMap, BTreeSet};
 use std::path::Path;
 use std::{fs, io};
@@ -42,7 +42,7 @@ fn plain() -> Settings {
 }
 
 fn variant(start: u64, end: u64, size: i32, letters: &[u8]) -> Variant {
-    Variant { start, end, size, negative: false, letters: letters.to_vec() }
+    Variant { start, end, size, negative: false, letters: letters.to_vec(), number: 0 }
 }
 
 fn part(size: i32, letters: &[u8]) -> Part {
@@ -52,6 +52,7 @@ fn part(size: i32, letters: &[u8]) -> Part {
 /// Document 01's own example.
 fn example() -> Job {
     Job {
+        edition: Edition::One,
         settings: plain(),
         variants: vec![variant(10, 10, 2, b"AG"), variant(20, 20, 2, b"CT")],
         haplotypes: vec![vec![part(2, b"AG")]],
@@ -219,6 +220,69 @@ fn next_in_place() -> Vec<Vec<u8>> {
     orders.into_iter().map(|records| records.iter().flat_map(|record| record.iter().copied()).collect()).collect()
 }
 
+/// Document 01's example in edition 2 with these record numbers.
+fn example_two(numbers: [u32; 2]) -> Job {
+    let mut job = Job { edition: Edition::Two, ..example() };
+    job.variants.iter_mut().zip(numbers).for_each(|(variant, number)| variant.number = number);
+    job
+}
+
+/// Edition 2 (document 02, P7): every limit and every place of 0x05 once more, moved; letters, record numbers, and the editions mixed.
+fn edition_two_at_limits() -> Vec<Vec<u8>> {
+    let moved = |bytes: &Vec<u8>| job::read(&DOCUMENT, bytes).ok().map(|job| moving::other_edition(&job).bytes());
+    let mut all: Vec<Vec<u8>> = [at_limits(), few_letters(), several_at_limits(), next_in_place()].concat().iter().filter_map(moved).collect();
+    all.retain(|bytes| bytes.len() < 2_000);
+    for numbers in [[0, 1], [1, 0], [7, u32::MAX], [u32::MAX, 0], [7, 7], [0, 0], [1, 0x1_0001], [0x0100_0000, 1]] {
+        let mut with = |change: &dyn Fn(&mut Job)| {
+            let mut job = example_two(numbers);
+            change(&mut job);
+            all.push(job.bytes());
+        };
+        with(&|_| ());
+        with(&|j| j.settings.one_to_one = true);
+        with(&|j| j.variants[1].size = 131_073);
+        with(&|j| j.variants[1].start = 9);
+        with(&|j| j.variants[1].letters.clear());
+        with(&|j| j.haplotypes = two_without());
+    }
+    for letters in [0, 1, 2, 255] {
+        for text in [b"NN".as_slice(), b"AN", b"nAG", b"AG-", b"RA"] {
+            let mut job = example_two([5, 3]);
+            job.settings.letters = letters;
+            job.variants[0].letters = text.to_vec();
+            all.push(job.bytes());
+            (job.variants[0].letters, job.haplotypes) = (b"AA".to_vec(), vec![vec![part(2, text)]]);
+            all.push(job.bytes());
+        }
+    }
+    all.extend(mixed_editions());
+    all
+}
+
+/// Settings and a variant of the other edition at every place.
+fn mixed_editions() -> Vec<Vec<u8>> {
+    let (one, two) = (example().bytes(), example_two([0, 1]).bytes());
+    let records = |bytes: &[u8]| {
+        let (mut found, mut left) = (vec![], bytes.to_vec());
+        while !left.is_empty() {
+            let behind = left.split_off(record_length(left[0]));
+            found.push(std::mem::replace(&mut left, behind));
+        }
+        found
+    };
+    let mut all = vec![];
+    for (own, other) in [(records(&one), records(&two)), (records(&two), records(&one))] {
+        for at in 0..own.len() {
+            for foreign in &other[..2] {
+                all.push([own[..at].concat(), foreign.clone(), own[at..].concat()].concat());
+                all.push([own[..at].concat(), foreign.clone(), own[at + 1..].concat()].concat());
+                all.push([own[..at].concat(), foreign[..foreign.len() - 1].to_vec()].concat());
+            }
+        }
+    }
+    all
+}
+
 fn catches(differs: impl Fn(&Rules) -> bool) -> impl Iterator<Item = String> {
     MISTAKES.iter().filter(move |mistake| differs(&mistake.rules)).map(|mistake| format!("catches: {}", mistake.words))
 }
@@ -264,7 +328,7 @@ fn with_kinds(mut inputs: Vec<Vec<u8>>) -> Vec<(Vec<u8>, BTreeSet<String>)> {
     inputs.into_iter().map(|bytes| (bytes.clone(), shown(&bytes))).collect()
 }
 
-/// Jobs of one haplotype, and behind them those of several.
+/// Jobs of one haplotype, behind them those of several, and then those of edition 2.
 fn program_list() -> Vec<Vec<u8>> {
     let mut have = BTreeMap::new();
     let mut list: Vec<Vec<u8>> = [at_limits(), few_letters()].concat();
@@ -278,6 +342,11 @@ fn program_list() -> Vec<Vec<u8>> {
     list.extend(at_limits);
     let several = (0..6_000).map(|i| several_input(&mut Random::new(0x5eed_2222 + i)));
     list.extend(cover(with_kinds(several.filter(|bytes| bytes.len() < 1_000).collect()), &mut have));
+    let at_limits = edition_two_at_limits();
+    take_all(&at_limits, &mut have);
+    list.extend(at_limits);
+    let editions = (0..6_000).map(|i| edition_two_input(&mut Random::new(0x5eed_3333 + i)));
+    list.extend(cover(with_kinds(editions.filter(|bytes| bytes.len() < 1_000).collect()), &mut have));
     for (kind, count) in have {
         println!("{count:>6}  {kind}");
     }
@@ -328,7 +397,7 @@ impl Stored {
 
     fn record(&self) -> Vec<u8> {
         let (job, call) = (&self.job, &self.call);
-        let bare = Job { settings: job.settings.clone(), variants: vec![], haplotypes: vec![vec![]] };
+        let bare = Job { variants: vec![], haplotypes: vec![vec![]], ..job.clone() };
         let mut bytes = bare.bytes();
         let word = |bytes: &mut Vec<u8>, x: u32| bytes.extend_from_slice(&x.to_le_bytes());
         let lengths = [

@@ -1,5 +1,5 @@
 //! The differential run: generated jobs put to the program and to the linked library, and every answer compared with
-//! the judge's; and texts put to the library's counter in both readings of letters. `run [--short] [--no-program] [--no-library] [--seed N]
+//! the judge's; texts put to the library's counter in both readings of letters; and jobs moved from one edition to the other, there and back. `run [--short] [--no-program] [--no-library] [--seed N]
 //! [--inputs N] [--calls N] [--every N]`; `--every` takes each N-th of the jobs that are made exhaustively
 use judge::answer::{self, Answer};
 use judge::call::Call;
@@ -12,7 +12,7 @@ use judge::random::Random;
 use judge::rules::DOCUMENT;
 use judge::rust::Judged;
 use judge::several::Several;
-use judge::{describe, exhaust, library, program, proposal, rust, shrink};
+use judge::{describe, exhaust, library, moving, program, proposal, rust, shrink};
 use std::io::{self, Read, Write};
 use std::process::{Command, ExitCode, Stdio};
 use std::sync::atomic::{AtomicU64, Ordering};
@@ -97,6 +97,68 @@ fn printed(program: &str, bytes: &[u8]) -> io::Result<String> {
     child.stdout.take().unwrap().read_to_string(&mut text)?;
     let status = child.wait()?;
     Ok(if status.success() { text } else { format!("{text}{status}\n") })
+}
+
+/// An input of either edition, put to the library's own call for a whole job, and each fifth to the program too.
+fn compare_edition_two(tally: &mut Tally, number: u64, o: &Options) {
+    let bytes = generate::edition_two_input(&mut seeded(o, 7, number));
+    let must = program::answers(&bytes);
+    kinds::of_edition(&mut tally.counts, &bytes, job::read(&DOCUMENT, &bytes).ok().as_ref(), &must);
+    if o.library {
+        tally.compared += 1;
+        let differs = |one: &[u8]| library::program_text(one) != Ok(program::text(one));
+        if differs(&bytes) {
+            tally.differ(|| {
+                let small = shrink::bytes(bytes.clone(), differs);
+                format!("{}\n  must be\n{}  is {:?}", describe::bytes(&small), program::text(&small), library::program_text(&small))
+            });
+        }
+    }
+    if number % 5 == 0 || !o.library {
+        compare_input(tally, bytes, o);
+    } else if program_answers(&DOCUMENT, &bytes, &mut Met::default()) != must {
+        tally.differ(|| format!("the second reading says otherwise of {}", describe::bytes(&bytes)));
+    }
+}
+
+/// A move by the judge, by the document and by the library; and where it is made, the way back, and both jobs' answers.
+fn compare_move(tally: &mut Tally, asked: &moving::Asked, o: &Options) {
+    let must = moving::judged(asked);
+    kinds::of_move(&mut tally.counts, asked, &must);
+    let second = moving::moved(&DOCUMENT, asked);
+    if second != must {
+        tally.differ(|| format!("the second reading says {second:?}, the judge {must:?} of {}", describe::asked_of_mover(asked)));
+    }
+    if !o.library {
+        return;
+    }
+    tally.compared += 1;
+    let said = library::move_job(asked);
+    if said.as_ref() != Ok(&must) {
+        return tally.differ(|| format!("must be {must:?}\n  is {said:?}\n  of {}", describe::asked_of_mover(asked)));
+    }
+    if must.refusal == 0 {
+        if let Err(words) = library_goes_back(asked, &must) {
+            tally.differ(|| format!("{words}: {}", describe::asked_of_mover(asked)));
+        }
+    }
+}
+
+/// "There and back gives the first bytes". "Answers to a job and its moved form are equal, where 26 isn't given to one of them for its length."
+fn library_goes_back(asked: &moving::Asked, seen: &moving::Seen) -> Result<(), String> {
+    let there = &seen.lent[..seen.written as usize];
+    let back = moving::Asked { bytes: there.to_vec(), edition: 3 - asked.edition, lent: vec![0xa5; asked.bytes.len()] };
+    let first = moving::Seen { refusal: 0, written: asked.bytes.len() as u64, lent: asked.bytes.clone() };
+    let said = library::move_job(&back)?;
+    if said != first {
+        return Err(format!("the way back gives {said:?}"));
+    }
+    let (one, other) = (library::program_text(&asked.bytes)?, library::program_text(there)?);
+    let too_long = |bytes: &[u8]| bytes.len() > 32_768;
+    if one != other && !too_long(&asked.bytes) && !too_long(there) {
+        return Err(format!("the job's answer is {one:?}, its moved form's {other:?}"));
+    }
+    Ok(())
 }
 
 fn compare_input(tally: &mut Tally, bytes: Vec<u8>, o: &Options) {
@@ -359,10 +421,15 @@ fn main() -> ExitCode {
         compare_proposal(tally, &call, &mut r, &o);
     });
     report("proposed paths", 2 * o.calls, &proposals);
-    let all = [&all_short, &inputs, &several_inputs, &calls, &several_calls, &smaller, &texts, &long_texts, &proposals];
+    let editions = work(o.inputs, |tally, i| compare_edition_two(tally, i, &o));
+    report("program size, edition 2", o.inputs, &editions);
+    let moves = work(o.inputs, |tally, i| compare_move(tally, &generate::move_asked(&mut seeded(&o, 8, i)), &o));
+    report("jobs moved to the other edition", o.inputs, &moves);
+    let all = [&all_short, &inputs, &several_inputs, &calls, &several_calls, &smaller, &texts, &long_texts, &proposals, &editions, &moves];
     let differences: u64 = all.iter().map(|tally| tally.differences).sum();
     println!(
-        "compared {} program-size and {} library-size jobs, {} and {} with several haplotypes, {} smaller calls, {} counts in both readings and {} proposed paths: {}",
+        "compared {} program-size and {} library-size jobs, {} and {} with several haplotypes, {} smaller calls, {} counts in both readings, {} proposed paths, \
+         {} jobs of edition 2 and {} moves: {}",
         all_short.compared + inputs.compared,
         calls.compared,
         several_inputs.compared,
@@ -370,6 +437,8 @@ fn main() -> ExitCode {
         smaller.compared,
         texts.compared + long_texts.compared,
         proposals.compared,
+        editions.compared,
+        moves.compared,
         if differences == 0 { "no difference off the list".to_string() } else { format!("{differences} differences") }
     );
     ExitCode::from((differences > 0) as u8)

@@ -1,0 +1,4 @@
+pub mod Moving
+pub mod Steps
+pub mod ThereAndBack
+pub mod Promises
