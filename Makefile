@@ -51,9 +51,9 @@ texts:
 	tools/test_ndform
 	rt fmt --check
 
-# The wrong answers that rt ci does not try, in folders of their own.
+# The wrong answers that rt ci does not try, in folders of their own. What is run beside them is one thing after the other and has the way first.
 wrong:
-	tools/wrong
+	nice tools/wrong
 
 # What is run, one after the other, since two rt in one folder mix their logs. One archive serves all that link it.
 runs:

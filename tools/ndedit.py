@@ -51,26 +51,34 @@ def edits_of(root, folders=FOLDERS):
     return sorted(map(read_edit, paths), key=lambda edit: (edit.crate, edit.name))
 
 
-def apply_edit(folder, edit):
-    """Makes an edit's replacements in a crate's folder, as rt must-fail reads them."""
-    path, old, pairs = None, "", 0
+def replacements(edit):
+    """The replacements of an edit, as rt must-fail reads them: line number, file, old text and new."""
+    file, old, found = "", "", []
     for number, line in enumerate(edit.path.read_text(encoding="utf-8").splitlines(), 1):
         word, _, rest = line.partition(":")
         value = rest.removeprefix(" ")
         if word == "file":
             if not re.match("(src|specs)/", value) or ".." in Path(value).parts:
                 raise Fault(f"{edit.path}:{number}: 'file: {value}' is no file below src/ or specs/ of the crate; {EXAMPLE}")
-            path = folder / value
+            file = value
         elif word == "old":
             old = value
         elif word == "new":
-            text = path.read_text(encoding="utf-8") if path and path.is_file() else ""
-            if not old or text.count(old) != 1:
-                raise Fault(f"{edit.path}:{number}: 'old:' stands {text.count(old) if old else 0} times in the file; write a text that stands there once")
-            path.write_text(text.replace(old, value), encoding="utf-8")
-            old, pairs = "", pairs + 1
-    if not pairs:
+            found.append((number, file, old, value))
+            old = ""
+    if not found:
         raise Fault(f"{edit.path}: no 'old:' and 'new:'; {EXAMPLE}")
+    return found
+
+
+def apply_edit(folder, edit):
+    """Makes an edit's replacements in a crate's folder."""
+    for number, file, old, new in replacements(edit):
+        path = folder / file
+        text = path.read_text(encoding="utf-8") if path.is_file() else ""
+        if not old or text.count(old) != 1:
+            raise Fault(f"{edit.path}:{number}: 'old:' stands {text.count(old) if old else 0} times in the file; write a text that stands there once")
+        path.write_text(text.replace(old, new), encoding="utf-8")
 
 
 def beside(root, copy):
@@ -88,17 +96,33 @@ def beside(root, copy):
     return copy
 
 
-def copy_with(root, copy, edit):
-    """A repository beside this one in which the edit is made. rt dev's own folder is copied, so that only what the edit touches is checked."""
+def copy_with(root, copy, edits):
+    """A repository beside this one in which these edits of one crate are made. rt dev's own folder is copied, so that only what they touch is checked."""
     beside(root, copy)
-    crate, known = copy / "crates" / edit.crate, root / "target" / "inc" / edit.crate
+    name = edits[0].crate
+    crate, known = copy / "crates" / name, root / "target" / "inc" / name
     crate.unlink()
-    shutil.copytree(root / "crates" / edit.crate, crate)
+    shutil.copytree(root / "crates" / name, crate)
     (copy / "target" / "inc").mkdir()
     if known.is_dir():
         subprocess.run(["cp", "-R", "--reflink=auto", str(known), str(copy / "target" / "inc")], check=True)
-    apply_edit(crate, edit)
+    for edit in edits:
+        apply_edit(crate, edit)
     return copy
+
+
+def hand_on(root, name):
+    """Puts what rt check has checked of a crate into rt dev's folder, where that has none of it. rt dev takes from there only what is still as the files
+    have it, so this saves time and says nothing."""
+    library, known = root / "target" / "rlib" / f"{name}.rlib", root / "target" / "inc" / name
+    build = re.search(r"^rattle-build (.*)$", (library / "format").read_text(encoding="utf-8"), re.M) if (library / "format").is_file() else None
+    if build and (library / "toolchain" / "checked").is_dir():
+        shutil.copytree(library / "toolchain" / "checked", known / build[1].replace("/", "_"), copy_function=copy_new, dirs_exist_ok=True)
+
+
+def copy_new(source, copy):
+    if not Path(copy).exists():
+        shutil.copyfile(source, copy)
 
 
 def dev(root, name):
