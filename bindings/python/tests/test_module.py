@@ -322,7 +322,7 @@ def test_every_answer_carries_the_haplotypes_data():
     with pytest.raises(Refused) as refusal:
         ndigomarr.apply_haplotype(Settings(k=0), table, haplotype)
     assert refusal.value.meta is haplotype.meta and pickle.loads(pickle.dumps(refusal.value)).meta == haplotype.meta
-    large = Haplotype(1, ndigomarr.HaplotypeMeta.new(1, 2))
+    large = Haplotype(1, meta=ndigomarr.HaplotypeMeta.new(1, 2))
     large.add(131073, "AG")
     answers = ndigomarr.apply_haplotypes(SETTINGS, table, [haplotype, large])
     assert answers[0].meta is haplotype.meta and answers[1].number == 9 and answers[1].meta is large.meta
