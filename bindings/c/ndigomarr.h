@@ -180,7 +180,8 @@ struct nd_settings {
 #define ND_SETTINGS_DEFAULT {4, 0, 0, 1, 4095, 5000, 3, 12, 2, 0, 0.9f, 0.9f, 0.1f, 0.02f}
 
 /* The path of a table that best explains a haplotype. Rows are row numbers of the table handed
- * over, from 0, ascending, at the front of rows. Of equally good paths the later one wins.
+ * over, from 0, ascending, at the front of rows. Of two equally good paths the one scored later wins,
+ * which need not be the lower in the table.
  * record_numbers has a number of the caller's own for each variant, no two alike (the row numbers
  * will do); those of the answer's rows stand at the front of records, in the rows' order. They
  * change nothing else of an answer. What lies in rows and records behind that stays as it was.
