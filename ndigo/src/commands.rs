@@ -92,7 +92,7 @@ pub enum Command {
         #[command(flatten)]
         time: Time,
     },
-    /// The sheet as job bytes, the form that the program ndigomarr reads: in edition 2 where the sheet has a column 'record' or the setting 'letters', else in edition 1
+    /// The sheet as job bytes, the form that the program ndigomarr reads: in edition 2 where the sheet has a column 'record' or the setting 'letters', or --settings brings letters 1, else in edition 1
     Job {
         #[command(flatten)]
         sheets: Sheets,
@@ -234,8 +234,9 @@ one without parts. Every section may have a column 'remark'; other
 columns are passed over with a note. A line whose one filled cell begins with # is a remark too. Letters are A to
 Z in either case; other bytes are written hex:4e2e. A float is written in decimal, or as its 32 bits: bits:7fc00000.
 
-A sheet's job is of edition 2 of the job form where the sheet has a column 'record' or names the setting 'letters',
-and of edition 1, which has a place for neither, where it does not; 'ndigo move' turns the one into the other.
+A sheet's job is of edition 2 of the job form where the sheet has a column 'record' or names the setting 'letters', or
+a version of a book (--settings) brings letters 1; else of edition 1, which has a place for neither. 'ndigo move' turns
+the one into the other.
 
 Status: 0 done, 1 refused by the rules (of check-path also a no), 2 cannot be read, 3 cannot be written.
 
