@@ -22,9 +22,10 @@ extern "C" {
 #endif
 
 /* The refusals, each with the table's words. 1 to 14, 16 and 27 are returned, and some of them stand in
- * nd_answer's text too; 20 to 26 stand there alone; 30 is the Rattle reader's and writer's; 40 to
- * 44 are BED's; 44 and 49 the companions sheet's; 45 to 48 the book's, which gives 24 and 1 to 3 too;
- * 50 to 53 those of a haplotype's data.
+ * nd_answer's text too; 20 to 25 stand there, and nd_move_job returns them, beside 13, 27 and its own
+ * 28 to 30; 26 stands in that text alone; 40 to 44 are BED's; 44 and 49 the companions sheet's; 45 to
+ * 48 the book's, which gives 24 and 1 to 3 too; 50 to 53 those of a haplotype's data; 54 is
+ * nd_check_path's.
  * Made from docs/refusals.tsv by tools/refusals --write. */
 enum nd_refusal {
     ND_ACCEPTED = 0,
@@ -179,7 +180,8 @@ struct nd_settings {
 #define ND_SETTINGS_DEFAULT {4, 0, 0, 1, 4095, 5000, 3, 12, 2, 0, 0.9f, 0.9f, 0.1f, 0.02f}
 
 /* The path of a table that best explains a haplotype. Rows are row numbers of the table handed
- * over, from 0, ascending, at the front of rows. Of equally good paths the later one wins.
+ * over, from 0, ascending, at the front of rows. Of two equally good paths the one scored later wins,
+ * which need not be the lower in the table.
  * record_numbers has a number of the caller's own for each variant, no two alike (the row numbers
  * will do); those of the answer's rows stand at the front of records, in the rows' order. They
  * change nothing else of an answer. What lies in rows and records behind that stays as it was.
@@ -362,8 +364,8 @@ uint32_t nd_book_restore(uint8_t *book, size_t book_len, uint32_t version, uint3
 /* A job's bytes in the edition of the form asked for, 1 or 2, at the front of out, whose rest stays
  * as it was. *written is how many bytes, 0 on a refusal, which changes nothing else. To edition 2 the
  * row numbers become record numbers and letters is 0; a job grows by 1 + 4 V bytes. Refuses by the
- * form's first fault (20 to 27, 13), then 22 (a job already in that edition, or no such edition), 28
- * (a record number is not its row), 29 (letters is 1), 30 (too little room). */
+ * form's first fault (20 to 25, 27, 13), then 22 (a job already in that edition, or no such edition),
+ * 28 (a record number is not its row), 29 (letters is 1), 30 (too little room). */
 uint32_t nd_move_job(const uint8_t *job, size_t job_len, uint32_t edition, uint8_t *out,
                      size_t out_len, uint64_t *written);
 

@@ -16,6 +16,7 @@ pub struct Cli {
 #[derive(Debug, Subcommand)]
 pub enum Command {
     /// The best path, in the names of the sheet
+    #[command(after_long_help = READING)]
     Answer {
         #[command(flatten)]
         sheets: Sheets,
@@ -49,6 +50,7 @@ pub enum Command {
         haplotype: Option<String>,
     },
     /// The table and the parts as a picture (SVG), with the chosen path marked
+    #[command(after_long_help = READING)]
     Draw {
         #[command(flatten)]
         sheets: Sheets,
@@ -59,6 +61,7 @@ pub enum Command {
         into: Into,
     },
     /// The best path, and a longer look for a better one, by a search that is not proved; what it finds is put to a check that is
+    #[command(after_long_help = READING)]
     Deeper {
         #[command(flatten)]
         sheets: Sheets,
@@ -66,7 +69,7 @@ pub enum Command {
         time: Time,
     },
     /// Many sheets or jobs into one table: a line a haplotype, on all cores; stopped and started again it does what is missing
-    #[command(mut_arg("seconds", |seconds| seconds.requires("deeper")))]
+    #[command(mut_arg("seconds", |seconds| seconds.requires("deeper")), after_long_help = READING)]
     Batch {
         /// Sheets, jobs, or files of jobs one behind the other; - is standard input
         #[arg(required_unless_present = "list", value_name = "FILE")]
@@ -89,7 +92,7 @@ pub enum Command {
         #[command(flatten)]
         time: Time,
     },
-    /// The sheet as job bytes, the form that the program ndigomarr reads: in edition 2 where the sheet has a column 'record' or the setting 'letters', else in edition 1
+    /// The sheet as job bytes, the form that the program ndigomarr reads: in edition 2 where the sheet has a column 'record' or the setting 'letters', or --settings brings letters 1, else in edition 1
     Job {
         #[command(flatten)]
         sheets: Sheets,
@@ -116,6 +119,7 @@ pub enum Command {
         into: Into,
     },
     /// The answer's rows as BED, under one name
+    #[command(after_long_help = READING)]
     Bed {
         #[command(flatten)]
         sheets: Sheets,
@@ -204,6 +208,14 @@ pub struct Into {
     pub into: Option<PathBuf>,
 }
 
+/// What is misread in an answer, for every command that gives one.
+const READING: &str = "\
+Three things to know before you read an answer. Rows are row numbers of the table handed over, from 0, not names, and
+a copy sorted since has other rows, so join by record number (the column 'record'). The search stops after maxpaths + 1
+paths, and the answer says whether those were all ('complete'): if not, better ones may exist. Of two equally good paths
+the one scored later wins, which need not be the lower in the table; no answer tells whether others are just as good.
+";
+
 const SHEET: &str = "\
 A sheet is text, its cells parted by tabs, commas, semicolons or runs of blanks; each heading row tells which.
 Three heading rows begin its three sections; each may be left out, and the columns after the first may stand in
@@ -222,8 +234,9 @@ one without parts. Every section may have a column 'remark'; other
 columns are passed over with a note. A line whose one filled cell begins with # is a remark too. Letters are A to
 Z in either case; other bytes are written hex:4e2e. A float is written in decimal, or as its 32 bits: bits:7fc00000.
 
-A sheet's job is of edition 2 of the job form where the sheet has a column 'record' or names the setting 'letters',
-and of edition 1, which has a place for neither, where it does not; 'ndigo move' turns the one into the other.
+A sheet's job is of edition 2 of the job form where the sheet has a column 'record' or names the setting 'letters', or
+a version of a book (--settings) brings letters 1; else of edition 1, which has a place for neither. 'ndigo move' turns
+the one into the other.
 
 Status: 0 done, 1 refused by the rules (of check-path also a no), 2 cannot be read, 3 cannot be written.
 
@@ -233,7 +246,7 @@ The settings, each with the default it has when left out:
 /// The settings with their defaults, from the one list of them.
 fn settings_help() -> String {
     let lines = SETTINGS.iter().map(|setting| format!("  {:10}  {:5}  {}\n", setting.name, setting.default, setting.meaning));
-    format!("{SHEET}\n{}", lines.collect::<String>())
+    format!("{READING}\n{SHEET}\n{}", lines.collect::<String>())
 }
 
 pub fn grammar() -> clap::Command {

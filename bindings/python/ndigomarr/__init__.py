@@ -2,7 +2,8 @@
 
 A module over the library whose every function is proved to meet its contract. Four things to know about an :class:`Answer`: its rows are row
 numbers of the :class:`Table` handed over, from 0; its records are those rows' record numbers; the search stops after ``maxpaths`` + 1 paths, and
-``complete`` says whether those were all; of two equally good paths the later one wins.
+``complete`` says whether those were all: if not, better ones may exist; of two equally good paths the one scored later wins, which need not be the
+lower in the table.
 
 >>> import ndigomarr
 >>> settings = ndigomarr.Settings(k=1, minkfreq=1)

@@ -149,6 +149,7 @@ def move_job(job: bytes, edition: int) -> bytes:
     """A job's bytes in the edition of the form asked for, 1 or 2; there and back gives the first bytes.
 
     Refused by the form's first fault, then by 22 (already in that edition, or no such edition), 28 (a record number is not its row), 29 (letters is 1).
+    The room is made large enough, so 30 is never given.
 
     >>> job = bytes([1] + 41 * [0])
     >>> second = move_job(job, 2)
@@ -158,7 +159,7 @@ def move_job(job: bytes, edition: int) -> bytes:
     given = text_of(job)
     # a variant of at least 26 bytes grows by 4, and the settings by 1
     out, written = (ctypes.c_uint8 * (len(given) + 1 + 4 * (len(given) // 26)))(), ctypes.c_uint64()
-    accepted(LIBRARY.nd_move_job(given, len(given), edition, out, len(out), ctypes.byref(written)))
+    accepted(LIBRARY.nd_move_job(given, len(given), word(edition), out, len(out), ctypes.byref(written)))
     return bytes(out[:written.value])
 
 

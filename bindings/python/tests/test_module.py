@@ -3,6 +3,7 @@ import doctest
 import itertools
 import pathlib
 import pickle
+import sys
 from fractions import Fraction
 
 import pytest
@@ -11,6 +12,9 @@ import ndigomarr
 from ndigomarr import Haplotype, Refused, Settings, Table, _library, _meta, _refusals
 
 ROOT = pathlib.Path(__file__).resolve().parents[3]
+sys.path.insert(0, str(ROOT / "tools"))
+import ndform  # noqa: E402
+
 SETTINGS = Settings(k=1, minkfreq=1)
 
 
@@ -21,6 +25,17 @@ def worked():
     haplotype = Haplotype(1)
     haplotype.insertion("AG")
     return table, haplotype
+
+
+def example(name):
+    return (ROOT / "examples" / f"{name}.job").read_bytes()
+
+
+def second_edition(job, letters=0, number=lambda row: row):
+    """A good job of edition 1 as the tools' own form writes it in edition 2, which shares nothing with the library."""
+    held = ndform.read(job)
+    rows = [row._replace(number=number(at)) for at, row in enumerate(held.variants)]
+    return ndform.write(held._replace(edition=2, settings=held.settings | {"letters": letters}, variants=rows))
 
 
 def test_the_worked_example():
@@ -188,6 +203,11 @@ def test_a_variant_with_fewer_letters_than_k(settings):
     lambda: Table(1).add(-1, 1, 1, "A"),
     lambda: Table(1).add(1, 1, 1 << 31, "A"),
     lambda: Table(1).insertion(1, "A", record=1 << 32),
+    lambda: ndigomarr.move_job(example("worked"), 2**32 + 2),
+    lambda: ndigomarr.move_job(second_edition(example("worked")), 2**32 + 1),
+    lambda: ndigomarr.move_job(example("worked"), 2**32),
+    lambda: ndigomarr.move_job(example("worked"), -1),
+    lambda: ndigomarr.move_job(b"", -(2**32) + 2),
 ])
 def test_a_number_that_no_type_holds_is_told_before_the_call(call):
     with pytest.raises(OverflowError):
@@ -200,6 +220,7 @@ def test_a_number_that_no_type_holds_is_told_before_the_call(call):
     lambda: ndigomarr.count_chains([1.0], [1]),
     lambda: ndigomarr.apply_haplotype(Settings(k=1, maxpaths=9.5), *worked()),
     lambda: Table(1).add(10.9, 11, 1, "A"),
+    lambda: ndigomarr.move_job(example("worked"), 2.0),
 ])
 def test_what_is_no_whole_number_is_told(call):
     with pytest.raises(TypeError):
@@ -255,7 +276,56 @@ def test_numpy_arrays_and_lists_alike():
 
 def test_the_program_answers():
     assert ndigomarr.answer(b"") == "refused 21\n"
-    assert ndigomarr.answer((ROOT / "examples/worked.job").read_bytes()).startswith("rows 0\nrecords 0\nscore 3f800000\n")
+    assert ndigomarr.answer(example("worked")).startswith("rows 0\nrecords 0\nscore 3f800000\n")
+
+
+IN_EDITION_1 = ["worked", "deletion", "squish", "bare-graph", "several-haplotypes", "refused-2-nan", "refused-4-no-variants", "refused-26-seventeen-variants"]
+
+
+@pytest.mark.parametrize("name", IN_EDITION_1)
+def test_a_job_moved_there_and_back(name):
+    first = example(name)
+    second = second_edition(first)
+    assert (first[0], second[0]) == (0x01, 0x11) and len(second) > len(first)
+    assert ndigomarr.move_job(first, 2) == second
+    assert ndigomarr.move_job(second, 1) == first
+    assert ndigomarr.move_job(bytearray(first), 2) == second
+    assert ndigomarr.answer(second) == ndigomarr.answer(first)
+
+
+def test_a_long_job_has_room():
+    """Variants without letters grow most: 4 bytes on 26."""
+    bare, lettered = ndform.variant(1, 1, 1, b""), ndform.variant(1, 1, 1, b"A" * ndform.LETTERS_LIMIT)
+    for first in (ndform.job(ndform.settings(), bare * 1000), ndform.job(ndform.settings(), lettered, bare)):
+        assert ndigomarr.move_job(first, 2) == second_edition(first)
+        assert ndigomarr.move_job(second_edition(first), 1) == first
+
+
+@pytest.mark.parametrize("number, job, edition", [
+    (22, example("worked"), 1),
+    (22, second_edition(example("worked")), 2),
+    *((22, example("worked"), edition) for edition in (0, 3, 257, 258, 2**32 - 1)),
+    *((22, second_edition(example("worked")), edition) for edition in (0, 3, 2**32 - 1)),
+    (22, example("refused-22-mixed-editions"), 2),
+    (28, second_edition(example("worked"), number=lambda row: row + 1), 1),
+    (28, second_edition(example("worked"), number=lambda row: row ^ 1), 1),
+    (28, second_edition(example("worked"), number=lambda row: 0), 1),
+    (28, second_edition(example("worked"), letters=1, number=lambda row: row or 2**32 - 1), 1),
+    (29, second_edition(example("worked"), letters=1), 1),
+    (29, second_edition(example("refused-4-no-variants"), letters=1), 1),
+    # 22 before 28 and 29; the form's faults before all
+    (22, second_edition(example("worked"), letters=1, number=lambda row: 7), 2),
+    (24, second_edition(example("worked"), letters=2, number=lambda row: 7), 1),
+    (21, b"", 1),
+    (21, example("worked")[:-1], 2),
+    (25, example("worked") + b"\0", 2),
+    (20, example("refused-20-unknown-kind"), 2),
+    (23, example("refused-23-padding"), 2),
+    (24, example("refused-24-letters-2"), 1),
+    (27, example("refused-27-seventeen-haplotypes"), 2),
+])
+def test_a_job_that_is_not_moved(number, job, edition):
+    assert refused(ndigomarr.move_job, job, edition) == number
 
 
 def test_bed_there_and_back():
@@ -322,7 +392,7 @@ def test_every_answer_carries_the_haplotypes_data():
     with pytest.raises(Refused) as refusal:
         ndigomarr.apply_haplotype(Settings(k=0), table, haplotype)
     assert refusal.value.meta is haplotype.meta and pickle.loads(pickle.dumps(refusal.value)).meta == haplotype.meta
-    large = Haplotype(1, ndigomarr.HaplotypeMeta.new(1, 2))
+    large = Haplotype(1, meta=ndigomarr.HaplotypeMeta.new(1, 2))
     large.add(131073, "AG")
     answers = ndigomarr.apply_haplotypes(SETTINGS, table, [haplotype, large])
     assert answers[0].meta is haplotype.meta and answers[1].number == 9 and answers[1].meta is large.meta

@@ -4,7 +4,8 @@
 //! know about an [`Answer`]: its rows are row numbers of the [`Table`] handed over, from 0; its
 //! records are those rows' record numbers, which are the row numbers unless the table has others
 //! ([`Table::with_record_numbers`]); the search stops after `maxpaths` + 1 paths, and `complete` says
-//! whether those were all; of two equally good paths the later one wins.
+//! whether those were all: if not, better ones may exist; of two equally good paths the one scored
+//! later wins, which need not be the lower in the table.
 //!
 //! ```
 //! use ndigomarr::{apply_haplotype, Settings, Target};

@@ -179,6 +179,17 @@ fn help_states_every_default() {
     assert!(call(&["completions", "bash"], b"").text().contains("ndigo"));
 }
 
+/// The three things that people misread, in the long help of every command that gives an answer; the man pages are made from it.
+#[test]
+fn help_tells_what_is_misread_in_an_answer() {
+    for command in [&[][..], &["answer"], &["draw"], &["deeper"], &["batch"], &["bed"]] {
+        let help = call(&[command, &["--help"]].concat(), b"").text().split_whitespace().collect::<Vec<_>>().join(" ");
+        for words in ["not names, and a copy sorted since has other rows", "whether those were all ('complete'): if not, better ones may exist", "the one scored later wins, which need not be the lower in the table"] {
+            assert!(help.contains(words), "{command:?}: {words}");
+        }
+    }
+}
+
 /// A full disk or a closed pipe is told and is a 3, for answers, help and files alike.
 #[test]
 fn what_cannot_be_written() {
