@@ -38,6 +38,8 @@ texts:
 	tools/test_promises
 	tools/uses
 	tools/test_uses
+	tools/lines
+	tools/test_lines
 	tools/refusals
 	tools/test_refusals
 	tools/settings

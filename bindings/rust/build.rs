@@ -62,7 +62,11 @@ fn installed_library() -> Result<(), String> {
     let asked = Command::new("pkg-config").args(["--variable=libdir", "ndigomarr"]).output();
     let told = match asked {
         Ok(told) if told.status.success() => told.stdout,
-        Ok(_) => return Err("pkg-config knows no ndigomarr: run make install in Ndigomarr's repository and set PKG_CONFIG_PATH to PREFIX/lib/pkgconfig, or set NDIGOMARR_ARCHIVE to a libndigomarr.a".to_string()),
+        Ok(_) => return Err(concat!(
+            "pkg-config knows no ndigomarr: run make install in Ndigomarr's repository and set PKG_CONFIG_PATH to PREFIX/lib/pkgconfig, ",
+            "or set NDIGOMARR_ARCHIVE to a libndigomarr.a"
+        )
+        .to_string()),
         Err(_) => return Err("pkg-config is not installed: install it, or set NDIGOMARR_ARCHIVE to a libndigomarr.a".to_string()),
     };
     let folder = PathBuf::from(String::from_utf8_lossy(&told).trim());

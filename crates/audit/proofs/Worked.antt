@@ -32,7 +32,8 @@ use Rattle.audit.specs.Worked.{Worked}
 pub worked : Worked
 unfolding answerOf rowsOf searched firstFault badK badFloat badNumber anyBelow startAfterEnd fallingStart badSize badRow allZero emptyRow littleQueueRoom magnitudeSum best resultOf scored left after
     pick extensions extends edge overlapsOf distanceTo sizeOf sizeFrom positionsFrom chainScore totalScore afterLists afterList listScore greaterOf partLists fallingLists choices
-    featuresOf featuresFrom rowPlus zeros sumBy codeOf numberOf readBy allRead firstWindow windowsReading windowsOf timesIn tableFrom countsReading countsOf countsBy le2 le4 le8 signedOf wordOf bytes2 bytes4 bytes8 settingsIn numberBytes floatBytes
+    featuresOf featuresFrom rowPlus zeros sumBy codeOf numberOf readBy allRead firstWindow windowsReading windowsOf timesIn tableFrom countsReading countsOf countsBy
+    le2 le4 le8 signedOf wordOf bytes2 bytes4 bytes8 settingsIn numberBytes floatBytes
     settingsBytes kindOf bodyLen inPlace flagsOk countOf padOk tooMany faultOf afterRecord run lettersIn lettersAfter variantOf partOf variantHere partHere gather toFirst haplotypesHere
     haplotypesIn jobOf readJob padded lettersRecords sequenceBytes partBody variantBody variantBytes partBytes variantsBytes partsBytes furtherBytes haplotypesBytes jobBytes bytesOf
     digitsWithin hexDigit hex2 hex4 hex8 numberLine floatLine flagLine entryText entriesText listLine isWhole similarityLines reachLines eightLines refusedText hapText variantFeatures

@@ -13,7 +13,7 @@ use Rattle.params.specs.Numbers.{Rule, firstOf, anyBelow}
 use Rattle.params.proofs.CheckLaws.{given, passed, Passed, stops, goes-on, none-given, any-where, or-no}
 use Rattle.form.specs.Form.{allZero}
 use Rattle.form.specs.Settings41.{settings41Rules, settings41Fault}
-use Rattle.book.specs.Book.{bookKind, recordLen, placeOf, versionsOf, settingsIn, settingsAt, goodRecord, badVersion, broken, recordOf}
+use Rattle.book.specs.Book.{bookKind, recordLen, placeOf, versionsOf, savedIn, settingsAt, goodRecord, badVersion, broken, versionRecord}
 use Rattle.book.specs.Changes.{roomRules, saveRules, readRules, saveFault, readFault, restoreFault, appended, changedUnless, savedCase, savedOf, afterSave, restoredOf, afterRestore}
 use Rattle.book.specs.declared.Saved.the-variants.{Version, Refused}
 
@@ -22,7 +22,7 @@ pub record Good (book : List ℕ) (at version : ℕ) : Type 0 where
   pub kind : getD book at 0 ≡ bookKind
   pub whole : at + recordLen ≤ length book
   pub numbered : getD book (at + 1) 0 ≡ version
-  pub accepted : settings41Fault (settingsIn book at) ≡ 0
+  pub accepted : settings41Fault (savedIn book at) ≡ 0
 
 module _ (book : List ℕ) (at version : ℕ) where
   pub good-told : goodRecord book at version ≡ true → Good book at version
@@ -31,7 +31,7 @@ module _ (book : List ℕ) (at version : ℕ) where
       let k : Bool = eqb (getD book at 0) bookKind in
       let w : Bool = leb (at + recordLen) (length book) in
       let n : Bool = eqb (getD book (at + 1) 0) version in
-      let a : Bool = eqb (settings41Fault (settingsIn book at)) 0 in
+      let a : Bool = eqb (settings41Fault (savedIn book at)) 0 in
       let kw = and-both k (w && (n && a)) e in
       let wn = and-both w (n && a) (kw .1) in
       let na = and-both n a (wn .1) in
@@ -43,7 +43,7 @@ module _ (book : List ℕ) (at version : ℕ) where
     eq-eqb (getD book at 0) bookKind (g .kind),
     le-leb (at + recordLen) (length book) (g .whole),
     eq-eqb (getD book (at + 1) 0) version (g .numbered),
-    eq-eqb (settings41Fault (settingsIn book at)) 0 (g .accepted),
+    eq-eqb (settings41Fault (savedIn book at)) 0 (g .accepted),
   )
 
 -- ---- a book that keeps the rules
@@ -167,24 +167,24 @@ changed f zero new old e z = refl
 changed f (suc g) new old e z = absurd (omega arith)
 
 -- the bytes from a place on up to the next record are its settings
-pub slice-settings : (book : List ℕ) (at : ℕ) → take (at + 2 + 41 - (at + 2)) (drop (at + 2) book) ≡ settingsIn book at
+pub slice-settings : (book : List ℕ) (at : ℕ) → take (at + 2 + 41 - (at + 2)) (drop (at + 2) book) ≡ savedIn book at
 slice-settings book at = let e : at + 2 + 41 - (at + 2) ≡ 41 = omega arith in rw e
 
-pub long-settings : (book : List ℕ) (at : ℕ) → at + recordLen ≤ length book → length (settingsIn book at) ≡ 41
+pub long-settings : (book : List ℕ) (at : ℕ) → at + recordLen ≤ length book → length (savedIn book at) ≡ 41
 long-settings book at h = length-take-le 41 (drop (at + 2) book) (simp length-drop (omega arith))
 
 pub slice-long : (book : List ℕ) (at : ℕ) → at + recordLen ≤ length book → length (take (at + 2 + 41 - (at + 2)) (drop (at + 2) book)) ≡ 41
 slice-long book at h = ap length (slice-settings book at) ∙ long-settings book at h
 
 -- one record laid behind the last
-laid-record : (book settings line : List ℕ) (n : ℕ) → length settings ≡ 41 → n ≡ versionsOf book → line ≡ recordOf (n + 1) settings
+laid-record : (book settings line : List ℕ) (n : ℕ) → length settings ≡ 41 → n ≡ versionsOf book → line ≡ versionRecord (n + 1) settings
     → take (43 * n) book ++ line ++ drop (43 * n + length line) book ≡ appended book settings
 unfolding appended
 laid-record book settings line n l is e =
     let long : length line ≡ 43 = ap length e ∙ ap (λ (m : ℕ). suc (suc m)) l in
     rw (long, e, is)
 
-pub line-room : (book settings line : List ℕ) (n version : ℕ) → length settings ≡ 41 → n ≡ versionsOf book → line ≡ recordOf version settings → Ready book
+pub line-room : (book settings line : List ℕ) (n version : ℕ) → length settings ≡ 41 → n ≡ versionsOf book → line ≡ versionRecord version settings → Ready book
     → 43 * n + length line ≤ length book
 line-room book settings line n version l is e r =
     let long : length line ≡ 43 = ap length e ∙ ap (λ (m : ℕ). suc (suc m)) l in
@@ -201,7 +201,7 @@ module _ (book settings : List ℕ) (fault : ℕ) (e : fault ≡ saveFault book 
       let p = none-given (saveRules book settings) refl (sym e ∙ z) in
       ready book (p .0) (rooms (settings41Rules settings) (roomRules book) (p .1))
 
-  pub save-done : fault ≡ 0 → length settings ≡ 41 → (n : ℕ) → n ≡ versionsOf book → (line : List ℕ) → line ≡ recordOf (n + 1) settings
+  pub save-done : fault ≡ 0 → length settings ≡ 41 → (n : ℕ) → n ≡ versionsOf book → (line : List ℕ) → line ≡ versionRecord (n + 1) settings
       → (after : List ℕ) → after ≡ take (43 * n) book ++ line ++ drop (43 * n + length line) book
       → (Version (n + 1) ≡ savedOf book settings) × (after ≡ afterSave book settings)
   unfolding savedOf afterSave
@@ -226,14 +226,14 @@ module _ (book : List ℕ) (v fault : ℕ) (e : fault ≡ restoreFault book v) w
   pub restore-ready : fault ≡ 0 → Ready book
   restore-ready z = let p = none-first z in ready book (p .0) (rooms (readRules book v) (roomRules book) p)
 
-  pub restore-done : fault ≡ 0 → (n : ℕ) → n ≡ versionsOf book → (line : List ℕ) → line ≡ recordOf (n + 1) (take (43 * (v - 1) + 2 + 41 - (43 * (v - 1) + 2)) (drop (43 * (v - 1) + 2) book))
+  pub restore-done : fault ≡ 0 → (n : ℕ) → n ≡ versionsOf book → (line : List ℕ) → line ≡ versionRecord (n + 1) (take (43 * (v - 1) + 2 + 41 - (43 * (v - 1) + 2)) (drop (43 * (v - 1) + 2) book))
       → (after : List ℕ) → after ≡ take (43 * n) book ++ line ++ drop (43 * n + length line) book
       → (Version (n + 1) ≡ restoredOf book v) × (after ≡ afterRestore book v)
   unfolding restoredOf afterRestore settingsAt
   restore-done z n is line r after a =
-      let settings : List ℕ = settingsIn book (placeOf (v - 1)) in
+      let settings : List ℕ = savedIn book (placeOf (v - 1)) in
       let long : length settings ≡ 41 = long-settings book (placeOf (v - 1)) (restore-found z .whole) in
-      let r′ : line ≡ recordOf (n + 1) settings = r ∙ ap (recordOf (n + 1)) (slice-settings book (43 * (v - 1))) in
+      let r′ : line ≡ versionRecord (n + 1) settings = r ∙ ap (versionRecord (n + 1)) (slice-settings book (43 * (v - 1))) in
       (ap (λ (m : ℕ). Version (m + 1)) is ∙ version-case fault _ _ e z, a ∙ laid-record book settings line n long is r′ ∙ changed fault _ _ _ e z)
 
 -- settings read: they take the whole of the place that was lent
@@ -245,8 +245,8 @@ pub read-done : (book settings : List ℕ) (v fault : ℕ) → fault ≡ readFau
 unfolding settingsAt
 read-done book settings v fault e z l after a =
     let whole = found book v fault e z .whole in
-    let rest : drop (0 + length (settingsIn book (placeOf (v - 1)))) settings ≡ [] =
-    drop-of-length-le settings {i = 0 + length (settingsIn book (placeOf (v - 1)))} (rw (long-settings book (placeOf (v - 1)) whole) (omega arith)) in
-    let read : after ≡ settingsIn book (placeOf (v - 1)) ++ drop (0 + length (settingsIn book (placeOf (v - 1)))) settings =
+    let rest : drop (0 + length (savedIn book (placeOf (v - 1)))) settings ≡ [] =
+    drop-of-length-le settings {i = 0 + length (savedIn book (placeOf (v - 1)))} (rw (long-settings book (placeOf (v - 1)) whole) (omega arith)) in
+    let read : after ≡ savedIn book (placeOf (v - 1)) ++ drop (0 + length (savedIn book (placeOf (v - 1)))) settings =
     rw (slice-settings book (43 * (v - 1))) at a in
-    (sym z ∙ e, read ∙ ap (λ (r : List ℕ). settingsIn book (placeOf (v - 1)) ++ r) rest ∙ append-nil _ ∙ changed fault _ _ _ e z)
+    (sym z ∙ e, read ∙ ap (λ (r : List ℕ). savedIn book (placeOf (v - 1)) ++ r) rest ∙ append-nil _ ∙ changed fault _ _ _ e z)

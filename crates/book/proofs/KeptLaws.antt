@@ -9,9 +9,9 @@ use mathlib.Core.List.{List, [], _∷_}
 use lib.ListN.{length, getD, replicate}
 use Rattle.form.specs.Form.{allZero}
 use Rattle.form.specs.Settings41.{settings41Fault}
-use Rattle.book.specs.Book.{settingsLen, placeOf, versionsOf, settingsIn, settingsAt}
+use Rattle.book.specs.Book.{savedLen, placeOf, versionsOf, savedIn, settingsAt}
 use Rattle.book.specs.Changes.{saveFault, readFault, restoreFault, nextVersion, appended, changedUnless, savedCase, savedOf, afterSave, restoredOf, afterRestore}
-use Rattle.book.specs.Kept.{Sound, Change, Save, Restore, afterAll, Lent, BookKept}
+use Rattle.book.specs.Kept.{Sound, Change, Save, Restore, afterAll, SavedWhole, BookKept}
 use Rattle.book.proofs.FaultLaws.{Good, good-at, read-there, Found, found, save-room, restore-room, restore-found, kept-refused, changed, long-settings}
 use Rattle.book.proofs.SavedLaws.{versions-are, sound-made, before-kept, new-there, behind-kept, long-kept, settings-new, versions-new, sound-new, old-settings}
 
@@ -22,14 +22,14 @@ Reads book v settings = (readFault book v ≡ 0) × (settingsAt book v ≡ setti
 there : (book : List ℕ) (v : ℕ) → readFault book v ≡ 0 → Found book v
 there book v e = found book v 0 (sym e) refl
 
-module _ (book settings : List ℕ) (long : length settings ≡ settingsLen) (none : saveFault book settings ≡ 0) where
+module _ (book settings : List ℕ) (long : length settings ≡ savedLen) (none : saveFault book settings ≡ 0) where
   reads-new : Reads (appended book settings) (nextVersion book) settings
   unfolding settingsAt
   reads-new =
       let is = versions-new book settings long none in
       let back : nextVersion book - 1 ≡ versionsOf book = omega arith in (
         sym (read-there (appended book settings) (nextVersion book) (sound-new book settings long none) (omega arith) (nextVersion book) (sym is) (omega arith)),
-        ap (λ (i : ℕ). settingsIn (appended book settings) (placeOf i)) back ∙ settings-new book settings long none,
+        ap (λ (i : ℕ). savedIn (appended book settings) (placeOf i)) back ∙ settings-new book settings long none,
       )
 
   reads-old : (v : ℕ) → readFault book v ≡ 0 → Reads (appended book settings) v (settingsAt book v)
@@ -56,7 +56,7 @@ module _ (book : List ℕ) (v : ℕ) (e : readFault book v ≡ 0) where
   unfolding settingsAt
   held = let f = there book v e in let low = f .low in let high = f .high in good-at book (f .sound) (v - 1) (omega arith) .accepted
 
-  long-held : length (settingsAt book v) ≡ settingsLen
+  long-held : length (settingsAt book v) ≡ savedLen
   unfolding settingsAt
   long-held = long-settings book (placeOf (v - 1)) (there book v e .whole)
 
@@ -84,7 +84,7 @@ zero-or-not : (n : ℕ) → (n ≡ 0) ⊎ (n ≡ 0 → ⊥)
 zero-or-not zero = inl refl
 zero-or-not (suc n) = inr (λ e. omega arith)
 
-reads-after-save : (book : List ℕ) (v : ℕ) (settings : List ℕ) {kept : List ℕ} → Reads book v kept → length settings ≡ settingsLen → Reads (afterSave book settings) v kept
+reads-after-save : (book : List ℕ) (v : ℕ) (settings : List ℕ) {kept : List ℕ} → Reads book v kept → length settings ≡ savedLen → Reads (afterSave book settings) v kept
 reads-after-save book v settings {kept} r long = ⊎-elim
     (λ (none : saveFault book settings ≡ 0).
     let old = reads-old book settings long none v (r .0) in
@@ -100,7 +100,7 @@ reads-after-restore book v u {kept} r = ⊎-elim
     (λ (some : restoreFault book u ≡ 0 → ⊥). subst (λ (b : List ℕ). Reads b v kept) (sym (restore-refused book u some)) r)
     (zero-or-not (restoreFault book u))
 
-reads-later : (book : List ℕ) (v : ℕ) (kept : List ℕ) (later : List Change) → Reads book v kept → Lent later → Reads (afterAll book later) v kept
+reads-later : (book : List ℕ) (v : ℕ) (kept : List ℕ) (later : List Change) → Reads book v kept → SavedWhole later → Reads (afterAll book later) v kept
 unfolding afterAll
 reads-later book v kept [] r lent = r
 reads-later book v kept (Save settings ∷ later) r lent = reads-later (afterSave book settings) v kept later (reads-after-save book v settings r (lent .0)) (lent .1)

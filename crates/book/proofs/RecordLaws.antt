@@ -13,7 +13,7 @@ use Rattle.params.specs.Numbers.{anyBelow}
 use Rattle.params.proofs.CheckLaws.{any-here}
 use Rattle.form.specs.Form.{allZero}
 use Rattle.form.specs.Settings41.{settings41Fault}
-use Rattle.book.specs.Book.{bookKind, recordLen, placeOf, versionsFrom, versionsOf, settingsIn, goodRecord, badVersion, broken, recordOf}
+use Rattle.book.specs.Book.{bookKind, recordLen, placeOf, versionsFrom, versionsOf, savedIn, goodRecord, badVersion, broken, versionRecord}
 
 -- ---- records counted: those before and those from here on are all
 pub from-none : (book : List ℕ) (i n : ℕ) → getD book (placeOf i) 0 ≡ 0 → versionsFrom book i n ≡ 0
@@ -64,7 +64,7 @@ module _ (book : List ℕ) (at version : ℕ) where
   other-version k h v = rw (eq-eqb (getD book at 0) bookKind k, le-leb (at + recordLen) (length book) (omega arith), ne-eqb (getD book (at + 1) 0) version v)
 
   pub by-settings : getD book at 0 ≡ bookKind → recordLen ≤ length book - at → getD book (at + 1) 0 ≡ version
-      → eqb (settings41Fault (settingsIn book at)) 0 ≡ goodRecord book at version
+      → eqb (settings41Fault (savedIn book at)) 0 ≡ goodRecord book at version
   unfolding goodRecord
   by-settings k h v = rw (eq-eqb (getD book at 0) bookKind k, le-leb (at + recordLen) (length book) (omega arith), eq-eqb (getD book (at + 1) 0) version v)
 
@@ -112,5 +112,5 @@ laid-whole out at from i h l =
     rw (e, take-all (length from) from (omega arith))
 
 pub record-made : (v : ℕ) (settings : List ℕ) → length settings ≡ 41
-    → take 2 (set (set (replicate 43 0) 0 bookKind) 1 v) ++ settings ++ drop (2 + length settings) (set (set (replicate 43 0) 0 bookKind) 1 v) ≡ recordOf v settings
-record-made v settings e = rw e (append-nil (recordOf v settings))
+    → take 2 (set (set (replicate 43 0) 0 bookKind) 1 v) ++ settings ++ drop (2 + length settings) (set (set (replicate 43 0) 0 bookKind) 1 v) ≡ versionRecord v settings
+record-made v settings e = rw e (append-nil (versionRecord v settings))

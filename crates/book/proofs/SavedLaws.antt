@@ -14,7 +14,7 @@ use Rattle.params.specs.Numbers.{Rule, firstOf, anyBelow}
 use Rattle.params.proofs.CheckLaws.{passed, Passed, none-given, none-below}
 use Rattle.form.specs.Form.{allZero}
 use Rattle.form.specs.Settings41.{settings41Rules, settings41Fault}
-use Rattle.book.specs.Book.{bookKind, recordLen, placeOf, versionsOf, settingsIn, badVersion, broken, recordOf}
+use Rattle.book.specs.Book.{bookKind, recordLen, placeOf, versionsOf, savedIn, badVersion, broken, versionRecord}
 use Rattle.book.specs.Changes.{roomRules, saveRules, saveFault, nextVersion, appended}
 use Rattle.book.proofs.RecordLaws.{Counted, count-start, count-stop, count-on}
 use Rattle.book.proofs.FaultLaws.{Good, good-made, good-at, zeros-behind, Ready, save-ready}
@@ -73,7 +73,7 @@ module _ (book settings : List ℕ) (long : length settings ≡ 41) (none : save
   end = placeOf n
 
   abbrev line : List ℕ
-  line = recordOf (n + 1) settings
+  line = versionRecord (n + 1) settings
 
   abbrev new : List ℕ
   new = appended book settings
@@ -137,7 +137,7 @@ module _ (book settings : List ℕ) (long : length settings ≡ 41) (none : save
   byte-new j h =
       sym (getD-drop end new j 0) ∙ sym (getD-take 43 (drop end new) j 0 h) ∙ ap (λ (l : List ℕ). getD l j 0) new-there
 
-  pub settings-new : settingsIn new end ≡ settings
+  pub settings-new : savedIn new end ≡ settings
   settings-new =
       ap (take 41) (sym (drop-drop 2 end new) ∙ ap (drop 2) from-end) ∙ take-at settings (drop (end + 43) book) 41 long
 
@@ -182,5 +182,5 @@ module _ (book settings : List ℕ) (long : length settings ≡ 41) (none : save
   pub sound-new : broken new ≡ false
   sound-new = sound-made new (n + 1) versions-new all-good zeros
 
-  pub old-settings : (i : ℕ) → i < n → settingsIn new (placeOf i) ≡ settingsIn book (placeOf i)
+  pub old-settings : (i : ℕ) → i < n → savedIn new (placeOf i) ≡ savedIn book (placeOf i)
   old-settings i h = part-kept (placeOf i + 2) 41 (omega arith)

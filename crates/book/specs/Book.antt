@@ -12,8 +12,8 @@ abbrev pub bookKind : ℕ
 bookKind = 0x21
 
 -- the settings bytes, and with kind and version before them the record
-abbrev pub settingsLen : ℕ
-settingsLen = 41
+abbrev pub savedLen : ℕ
+savedLen = 41
 
 abbrev pub recordLen : ℕ
 recordLen = 43
@@ -36,12 +36,12 @@ unfoldable pub versionsOf : List ℕ → ℕ
 versionsOf book = versionsFrom book 0 (length book)
 
 -- the settings bytes of the record at a place
-abbrev pub settingsIn : List ℕ → ℕ → List ℕ
-settingsIn book at = take settingsLen (drop (at + 2) book)
+abbrev pub savedIn : List ℕ → ℕ → List ℕ
+savedIn book at = take savedLen (drop (at + 2) book)
 
 -- the settings saved under version v
 unfoldable pub settingsAt : List ℕ → ℕ → List ℕ
-settingsAt book v = settingsIn book (placeOf (v - 1))
+settingsAt book v = savedIn book (placeOf (v - 1))
 
 -- the record at a place is of the one kind, whole, has this version, and holds settings that we would not refuse
 unfoldable pub goodRecord : List ℕ → ℕ → ℕ → Bool
@@ -49,7 +49,7 @@ goodRecord book at version =
     eqb (getD book at 0) bookKind
     && (leb (at + recordLen) (length book)
     && (eqb (getD book (at + 1) 0) version
-    && eqb (settings41Fault (settingsIn book at)) 0))
+    && eqb (settings41Fault (savedIn book at)) 0))
 
 abbrev pub badVersion : List ℕ → ℕ → Bool
 badVersion book i = not (goodRecord book (placeOf i) (i + 1))
@@ -58,5 +58,5 @@ badVersion book i = not (goodRecord book (placeOf i) (i + 1))
 unfoldable pub broken : List ℕ → Bool
 broken book = anyBelow (versionsOf book) (badVersion book) || not (allZero (drop (placeOf (versionsOf book)) book))
 
-abbrev pub recordOf : ℕ → List ℕ → List ℕ
-recordOf version settings = bookKind ∷ version ∷ settings
+abbrev pub versionRecord : ℕ → List ℕ → List ℕ
+versionRecord version settings = bookKind ∷ version ∷ settings

@@ -6,7 +6,7 @@ use lib.Dec.{leb, ltb}
 use lib.ListN.{length, take, drop}
 use Rattle.params.specs.Numbers.{Rule, rule, firstOf}
 use Rattle.form.specs.Settings41.{settings41Rules}
-use Rattle.book.specs.Book.{recordLen, placeOf, versionsOf, settingsAt, broken, recordOf}
+use Rattle.book.specs.Book.{recordLen, placeOf, versionsOf, settingsAt, broken, versionRecord}
 use Rattle.book.specs.declared.Saved.{Saved}
 use Rattle.book.specs.declared.Saved.the-variants.{Version, Refused}
 
@@ -51,7 +51,7 @@ nextVersion book = versionsOf book + 1
 unfoldable pub appended : List ℕ → List ℕ → List ℕ
 appended book settings =
     let end = placeOf (versionsOf book) in
-    take end book ++ recordOf (nextVersion book) settings ++ drop (end + recordLen) book
+    take end book ++ versionRecord (nextVersion book) settings ++ drop (end + recordLen) book
 
 -- nothing is changed on a refusal
 abbrev pub changedUnless : {A : Type 0} → ℕ → A → A → A

@@ -4,7 +4,7 @@ use mathlib.Core.Path.{_≡_}
 use mathlib.Core.Bool.{false}
 use mathlib.Core.List.{List, [], _∷_}
 use lib.ListN.{length, getD, take, drop, replicate}
-use Rattle.book.specs.Book.{bookKind, settingsLen, recordLen, placeOf, versionsOf, settingsAt, broken, recordOf}
+use Rattle.book.specs.Book.{bookKind, savedLen, recordLen, placeOf, versionsOf, settingsAt, broken, versionRecord}
 use Rattle.book.specs.Changes.{saveFault, readFault, restoreFault, nextVersion, appended, savedOf, afterSave, restoredOf, afterRestore}
 
 -- 48 is not given
@@ -22,31 +22,31 @@ afterAll book (Save settings ∷ later) = afterAll (afterSave book settings) lat
 afterAll book (Restore v ∷ later) = afterAll (afterRestore book v) later
 
 -- settings are lent as their 41 bytes
-abbrev pub Lent : List Change → Type 0
-Lent [] = Unit {0}
-Lent (Save settings ∷ later) = (length settings ≡ settingsLen) × Lent later
-Lent (Restore v ∷ later) = Lent later
+abbrev pub SavedWhole : List Change → Type 0
+SavedWhole [] = Unit {0}
+SavedWhole (Save settings ∷ later) = (length settings ≡ savedLen) × SavedWhole later
+SavedWhole (Restore v ∷ later) = SavedWhole later
 
 pub record BookKept : Type 0 where
   -- a buffer of zeros is a book of no versions
   pub begins : (n : ℕ) → Sound (replicate n 0) × (versionsOf (replicate n 0) ≡ 0)
   -- saving appends one record and changes no other byte
-  pub before : (book settings : List ℕ) → length settings ≡ settingsLen → saveFault book settings ≡ 0
+  pub before : (book settings : List ℕ) → length settings ≡ savedLen → saveFault book settings ≡ 0
       → take (placeOf (versionsOf book)) (appended book settings) ≡ take (placeOf (versionsOf book)) book
-  pub new : (book settings : List ℕ) → length settings ≡ settingsLen → saveFault book settings ≡ 0
-      → take recordLen (drop (placeOf (versionsOf book)) (appended book settings)) ≡ recordOf (nextVersion book) settings
-  pub behind : (book settings : List ℕ) → length settings ≡ settingsLen → saveFault book settings ≡ 0
+  pub new : (book settings : List ℕ) → length settings ≡ savedLen → saveFault book settings ≡ 0
+      → take recordLen (drop (placeOf (versionsOf book)) (appended book settings)) ≡ versionRecord (nextVersion book) settings
+  pub behind : (book settings : List ℕ) → length settings ≡ savedLen → saveFault book settings ≡ 0
       → drop (placeOf (nextVersion book)) (appended book settings) ≡ drop (placeOf (nextVersion book)) book
-  pub as-long : (book settings : List ℕ) → length settings ≡ settingsLen → saveFault book settings ≡ 0 → length (appended book settings) ≡ length book
+  pub as-long : (book settings : List ℕ) → length settings ≡ savedLen → saveFault book settings ≡ 0 → length (appended book settings) ≡ length book
   -- it is a book again, of one version more
-  pub saved : (book settings : List ℕ) → length settings ≡ settingsLen → saveFault book settings ≡ 0
+  pub saved : (book settings : List ℕ) → length settings ≡ savedLen → saveFault book settings ≡ 0
       → Sound (appended book settings) × (versionsOf (appended book settings) ≡ nextVersion book)
   -- reading a version gives the settings saved under it, whatever was saved later
-  pub read-back : (book settings : List ℕ) (later : List Change) → length settings ≡ settingsLen → saveFault book settings ≡ 0 → Lent later
+  pub read-back : (book settings : List ℕ) (later : List Change) → length settings ≡ savedLen → saveFault book settings ≡ 0 → SavedWhole later
       → let then = afterAll (appended book settings) later in
       (readFault then (nextVersion book) ≡ 0) × (settingsAt then (nextVersion book) ≡ settings)
   -- and so each version that could be read before
-  pub still-read : (book : List ℕ) (v : ℕ) (later : List Change) → readFault book v ≡ 0 → Lent later
+  pub still-read : (book : List ℕ) (v : ℕ) (later : List Change) → readFault book v ≡ 0 → SavedWhole later
       → (readFault (afterAll book later) v ≡ 0) × (settingsAt (afterAll book later) v ≡ settingsAt book v)
   -- going back to a version is saving its settings again
   pub again : (book : List ℕ) (v : ℕ) → readFault book v ≡ 0

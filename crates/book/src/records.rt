@@ -6,7 +6,7 @@ ghost use mathlib.Core.List.{_++_};
 ghost use Prim.Native.Nat.{_+_, _*_, _<_, _≤_};
 ghost use lib.ListN.{length, take, drop};
 ghost use Rattle.form.specs.Form.{allZero};
-ghost use Rattle.book.specs.Book.{versionsOf, goodRecord, broken, recordOf};
+ghost use Rattle.book.specs.Book.{versionsOf, goodRecord, broken, versionRecord};
 
 // the byte that begins a record
 const KIND: u8 = 0x21;
@@ -91,7 +91,7 @@ pub(crate) fn lay(out: &mut [u8], at: usize, from: &[u8])
 
 pub(crate) fn record_of(version: usize, settings: &[u8]) -> [u8; 43]
     requires { ⌜ (version < 256) × (length (now settings) ≡ 41) ⌝ }
-    ensures { λ r. ⌜ r ≡ recordOf version (now (settings .entry)) ⌝ }
+    ensures { λ r. ⌜ r ≡ versionRecord version (now (settings .entry)) ⌝ }
 {
     let mut record = [0u8; 43];
     record[0] = KIND;

@@ -117,7 +117,12 @@ module _ (reading k width : ℕ) (negatives : List Bool) (counts letters : List 
           from-is = omega arith;
           within = omega arith;
           letters-left = omega arith;
-          whole = rw (front, append-assoc (take from table) rowHere (rowsFrom reading k (drop (row + 1) negatives) (drop (row + 1) counts) (drop (at + getD counts row 0) letters)), ← rows-here) (now .whole);
+          whole = rw (
+            front,
+            append-assoc (take from table) rowHere (rowsFrom reading k (drop (row + 1) negatives) (drop (row + 1) counts)
+                (drop (at + getD counts row 0) letters)),
+            ← rows-here,
+          ) (now .whole);
           kept = long ∙ now .kept;
         }
 

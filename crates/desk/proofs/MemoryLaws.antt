@@ -205,9 +205,13 @@ module _ (job : Job) (more : List ℕ) where
   table-held : tableFrom (job .settings .letters) (job .settings .k) (heldIn job more) ≡ tableOfJob job
   unfolding heldIn tableOfJob
   table-held =
-      rw (append-assoc (variantLetters (job .variants)) (partLetters (allParts job)) more, variant-rows (job .settings .letters) (job .settings .k) (job .variants) (partLetters (allParts job) ++ more))
+      rw (
+        append-assoc (variantLetters (job .variants)) (partLetters (allParts job)) more,
+        variant-rows (job .settings .letters) (job .settings .k) (job .variants) (partLetters (allParts job) ++ more),
+      )
 
-  parts-held : partsFrom (job .settings .letters) (job .settings .k) (heldIn job more) ≡ partsOf (map (λ (x : Part). x .size) (allParts job)) (partFeatures (job .settings .letters) (job .settings .k) (allParts job))
+  parts-held : partsFrom (job .settings .letters) (job .settings .k) (heldIn job more)
+      ≡ partsOf (map (λ (x : Part). x .size) (allParts job)) (partFeatures (job .settings .letters) (job .settings .k) (allParts job))
   unfolding heldIn
   parts-held =
       rw (

@@ -166,7 +166,8 @@ module _ (reading k : ℕ) where
       let n = features-length reading k xs in
       let d = add-mul (length done) (length xs) (4 ^ k) in
       let p = middle (map size done) (map size xs) (map size more) (length done) (length done + length xs) (length-map done size) (omega arith) in
-      let q = middle (partFeatures reading k done) (partFeatures reading k xs) (partFeatures reading k more) (length done * 4 ^ k) ((length done + length xs) * 4 ^ k) (features-length reading k done) (omega arith) in
+      let q = middle (partFeatures reading k done) (partFeatures reading k xs) (partFeatures reading k more)
+      (length done * 4 ^ k) ((length done + length xs) * 4 ^ k) (features-length reading k done) (omega arith) in
       rw (a, b, p, q)
 
   stretches-from : (done : List Part) (hs : List (List Part)) → stretches (4 ^ k) (length done) (endsFrom (length done) hs) (allOf (done ++ flatten hs)) ≡ map (partsOfHaplotype reading k) hs

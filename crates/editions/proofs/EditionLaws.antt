@@ -27,7 +27,7 @@ use Rattle.form.specs.Settings41.{settings41In}
 use Rattle.form.specs.Job.{variantOf, variantHere, numberHere, gather, editionOf, settingsBy, rowNumbers}
 use Rattle.form.proofs.FormLaws.{split, both, mixed}
 use Rattle.form.proofs.CountLaws.{tests, not-back, none-placed}
-use Rattle.editions.specs.Moving.{settingsByte, variantByte, byteIn, sharedLen, addedIn, rowAfter, movedFrom, moved, offRow}
+use Rattle.editions.specs.Moving.{settingsByte, variantByte, byteIn, sharedLen, addedIn, nextRow, movedFrom, moved, offRow}
 use Rattle.editions.specs.ThereAndBack.{AreBytes}
 use Rattle.editions.proofs.OrderedLaws.{Ordered, ends, goes}
 use Rattle.editions.proofs.AgreeLaws.{Agree, four-agree}
@@ -162,7 +162,7 @@ Unlettered s = eqb (settingsBy (editionOf s) (drop 1 s) .letters) 1 ≡ false
 pub settings-moved : (e : Edition) {s : List ℕ} {c : Counts} → First c s → Unlettered s → settingsBy e (drop 1 (moved e s)) ≡ settingsBy (editionOf s) (drop 1 s)
 settings-moved e {s} {c} (first k body rest l t f o) h =
     let kind : Kind = kindOf k in
-    let next : List ℕ = movedFrom e rest 0 (rowAfter kind 0) in
+    let next : List ℕ = movedFrom e rest 0 (nextRow kind 0) in
     let new : List ℕ = bodyIn e kind body 0 in
     let agree : Agree 40 (new ++ next) (body ++ rest) = subst (λ (m : ℕ). Agree m (new ++ next) (body ++ rest)) (shared-settings kind t) (body-agrees e kind body rest next 0 l) in
     ap (λ (q : List ℕ). settingsBy e (drop 1 q)) (moved-record e k body rest 0 l)
@@ -360,11 +360,11 @@ off-next n row ns h =
 -- one record
 record Stays (e : Edition) (kind : Kind) (body rest : List ℕ) (row : ℕ) : Type 0 where
   body-is : bodyIn e kind body row ≡ body
-  rest-is : Same e rest (rowAfter kind row)
+  rest-is : Same e rest (nextRow kind row)
 
 common : (e : Edition) (kind : Kind) (body rest : List ℕ) (row : ℕ) → length body ≡ bodyLen kind → isSettings kind ≡ false → isVariant kind ≡ false
     → Same e rest row → Stays e kind body rest row
-unfolding sharedLen addedIn rowAfter
+unfolding sharedLen addedIn nextRow
 common One kind body rest row l s v same = record { body-is = rw (s, v) (append-nil (take (bodyLen kind) body) ∙ take-all (bodyLen kind) body (omega arith)); rest-is = tt }
 common Two kind body rest row l s v same = record { body-is = rw (s, v) (append-nil (take (bodyLen kind) body) ∙ take-all (bodyLen kind) body (omega arith)); rest-is = rw v same }
 
@@ -389,7 +389,7 @@ module _ (k : ℕ) (body rest : List ℕ) (row : ℕ) (same : Same Two (k ∷ (b
       common Two kind body rest row l s v (ap (offRow row) (sym e) ∙ same .0, bytes-rest k body rest (same .1))
 
   numbered : kindOf k ≡ Variant2 → length body ≡ 29 → Stays Two Variant2 body rest row
-  unfolding bodyLen sharedLen addedIn rowAfter
+  unfolding bodyLen sharedLen addedIn nextRow
   numbered i l =
       let e : gather numberHere (k ∷ (body ++ rest)) 0 ≡ le4 body 25 ∷ gather numberHere rest 0 =
       gather-record numberHere k Variant2 body rest i l ∙ ap (λ (q : List ℕ). q ++ gather numberHere rest 0) (number-there body rest l) in
@@ -423,7 +423,7 @@ stays e {st} {s} {c} (goes k body rest l g f o) own row same =
     let p = own-kind e st kind own (none-placed st kind (body ++ rest) f) in
     let t = record-stays e k body rest row l (p .0) (p .1) same in
     moved-record e k body rest row l
-    ∙ rw (byte-own e k (tests st kind (body ++ rest) f .known) (p .0), t .body-is, stays e o (own-after e st kind (body ++ rest) own (p .1)) (rowAfter kind row) (t .rest-is))
+    ∙ rw (byte-own e k (tests st kind (body ++ rest) f .known) (p .0), t .body-is, stays e o (own-after e st kind (body ++ rest) own (p .1)) (nextRow kind row) (t .rest-is))
 
 -- ---- the whole job stays as it is in its own edition
 settings-stay : (e : Edition) (kind : Kind) (body : List ℕ) → length body ≡ bodyLen kind → isSettings kind ≡ true → cond (isSecond kind) Two One ≡ e
@@ -485,8 +485,8 @@ front-letters Next body rest l t i z = mixed (sym t)
 front-letters Variant2 body rest l t i z = mixed (sym t)
 front-letters Unknown body rest l t i z = mixed (sym t)
 
-row-kept : (e : Edition) (kind : Kind) (rest : List ℕ) (row : ℕ) → isVariant kind ≡ false → Same e rest row → Same e rest (rowAfter kind row)
-unfolding rowAfter
+row-kept : (e : Edition) (kind : Kind) (rest : List ℕ) (row : ℕ) → isVariant kind ≡ false → Same e rest row → Same e rest (nextRow kind row)
+unfolding nextRow
 row-kept e kind rest row v same = rw v same
 
 pub stays-whole : {s : List ℕ} {c : Counts} → First c s → Unlettered s → Same (editionOf s) s 0 → moved (editionOf s) s ≡ s
@@ -495,9 +495,9 @@ stays-whole {s} {c} (first k body rest l t f o) h same =
     let e : Edition = editionOf (k ∷ (body ++ rest)) in
     let v : isVariant kind ≡ false = settings-no-variant kind t in
     let p = settings-stay e kind body l t refl (λ (z : e ≡ Two). front-letters kind body rest l t z (letters-none kind (body ++ rest) t f h z)) in
-    let same′ : Same e rest (rowAfter kind 0) = row-kept e kind rest 0 v (rest-same e k body rest l v same) in
+    let same′ : Same e rest (nextRow kind 0) = row-kept e kind rest 0 v (rest-same e k body rest l v same) in
     moved-record e k body rest 0 l
-    ∙ rw (byte-own e k (tests outset kind (body ++ rest) f .known) (p .0), p .1, stays e o (own-begun kind (body ++ rest) t) (rowAfter kind 0) same′)
+    ∙ rw (byte-own e k (tests outset kind (body ++ rest) f .known) (p .0), p .1, stays e o (own-begun kind (body ++ rest) t) (nextRow kind 0) same′)
 
 -- ---- moving twice comes to the second move
 shared-in : (e : Edition) (kind : Kind) → sharedLen (kindIn e kind) ≡ sharedLen kind
@@ -521,8 +521,8 @@ unfolding addedIn
 added-in One e kind row = refl
 added-in Two e kind row = rw (sorted e kind .settings, sorted e kind .variant)
 
-row-in : (e : Edition) (kind : Kind) (row : ℕ) → rowAfter (kindIn e kind) row ≡ rowAfter kind row
-unfolding rowAfter
+row-in : (e : Edition) (kind : Kind) (row : ℕ) → nextRow (kindIn e kind) row ≡ nextRow kind row
+unfolding nextRow
 row-in e kind row = rw (sorted e kind .variant)
 
 byte-in : (d e : Edition) (k : ℕ) → byteIn d (byteIn e k) ≡ byteIn d k
@@ -545,13 +545,13 @@ pub moved-twice : (d e : Edition) {st : State} {s : List ℕ} {c : Counts} → O
 moved-twice d e {st} {s} {c} (ends k i f n) row = ap (λ (q : List ℕ). movedFrom d q 0 row) (moved-end e k row i)
 moved-twice d e {st} {s} {c} (goes k body rest l g f o) row =
     let kind : Kind = kindOf k in
-    let next : List ℕ = movedFrom e rest 0 (rowAfter kind row) in
+    let next : List ℕ = movedFrom e rest 0 (nextRow kind row) in
     let new : List ℕ = bodyIn e kind body row in
     let i : kindOf (byteIn e k) ≡ kindIn e kind = kind-moved e k in
     let long : length new ≡ bodyLen (kindOf (byteIn e k)) = rw i (long-body e kind body row l) in
     ap (λ (q : List ℕ). movedFrom d q 0 row) (moved-record e k body rest row l)
     ∙ moved-record d (byteIn e k) new next row long
-    ∙ rw (i, row-in e kind row, byte-in d e k, body-in d e kind body row l, moved-twice d e o (rowAfter kind row)) (sym (moved-record d k body rest row l))
+    ∙ rw (i, row-in e kind row, byte-in d e k, body-in d e kind body row l, moved-twice d e o (nextRow kind row)) (sym (moved-record d k body rest row l))
 
 -- ---- edition 2 is longer
 -- settings are still to come
@@ -606,10 +606,10 @@ unfolding gather variantHere
 end-variants k i = rw i
 
 long-record : (e : Edition) (k : ℕ) (body rest : List ℕ) (row : ℕ) → length body ≡ bodyLen (kindOf k)
-    → length (movedFrom e (k ∷ (body ++ rest)) 0 row) ≡ suc (bodyLen (kindIn e (kindOf k)) + length (movedFrom e rest 0 (rowAfter (kindOf k) row)))
+    → length (movedFrom e (k ∷ (body ++ rest)) 0 row) ≡ suc (bodyLen (kindIn e (kindOf k)) + length (movedFrom e rest 0 (nextRow (kindOf k) row)))
 long-record e k body rest row l =
     ap length (moved-record e k body rest row l)
-    ∙ ap suc (length-append (bodyIn e (kindOf k) body row) (movedFrom e rest 0 (rowAfter (kindOf k) row)) ∙ rw (long-body e (kindOf k) body row l))
+    ∙ ap suc (length-append (bodyIn e (kindOf k) body row) (movedFrom e rest 0 (nextRow (kindOf k) row)) ∙ rw (long-body e (kindOf k) body row l))
 
 longer : {st : State} {s : List ℕ} {c : Counts} → Ordered st s c → (row : ℕ)
     → length (movedFrom Two s 0 row) ≡ length (movedFrom One s 0 row) + (fresh (st .phase) + 4 * length (gather variantHere s 0))
@@ -624,7 +624,7 @@ longer {st} {s} {c} (goes k body rest l g f o) row =
     let more = longer-kind kind in
     let count = variants-count k body rest l in
     let turn = fresh-after st kind (body ++ rest) (none-placed st kind (body ++ rest) f) g in
-    let ih = longer o (rowAfter kind row) in
+    let ih = longer o (nextRow kind row) in
     omega (arith, two, one, more, count, turn, ih)
 
 pub longer-whole : {s : List ℕ} {c : Counts} → Ordered outset s c → length (moved Two s) ≡ length (moved One s) + (1 + 4 * length (gather variantHere s 0))
@@ -682,17 +682,17 @@ row-here false kind i body rest row l n m e h = number-none (kindIn Two kind) (b
 
 numbers-by : {st : State} {s : List ℕ} {c : Counts} → Ordered st s c → (row : ℕ) → row + length (gather variantHere s 0) ≤ 4294967296
     → gather numberHere (movedFrom Two s 0 row) 0 ≡ rowsFrom row (length (gather variantHere s 0))
-unfolding rowAfter rowsFrom
+unfolding nextRow rowsFrom
 numbers-by {st} {s} {c} (ends k i f n) row h = rw (moved-end Two k row i, end-variants k i, end-numbers k i)
 numbers-by {st} {s} {c} (goes k body rest l g f o) row h =
     let kind : Kind = kindOf k in
-    let next : List ℕ = movedFrom Two rest 0 (rowAfter kind row) in
+    let next : List ℕ = movedFrom Two rest 0 (nextRow kind row) in
     let v : ℕ = length (gather variantHere rest 0) in
     let count : length (gather variantHere (k ∷ (body ++ rest)) 0) ≡ cond (isVariant kind) 1 0 + v = variants-count k body rest l in
     let here : numberHere (kindIn Two kind) (bodyIn Two kind body row ++ next) ≡ cond (isVariant kind) (row ∷ []) [] = row-here (isVariant kind) kind refl body next row l v _ count h in
     ap (λ (q : List ℕ). gather numberHere q 0) (moved-record Two k body rest row l)
     ∙ gather-record numberHere (byteIn Two k) (kindIn Two kind) (bodyIn Two kind body row) next (kind-moved Two k) (long-body Two kind body row l)
-    ∙ rw (here, numbers-by o (rowAfter kind row) (row-room (isVariant kind) row v _ count h)) (rows-next (isVariant kind) row v _ count)
+    ∙ rw (here, numbers-by o (nextRow kind row) (row-room (isVariant kind) row v _ count h)) (rows-next (isVariant kind) row v _ count)
 
 pub numbers-new : {s : List ℕ} {c : Counts} → Ordered outset s c → length (gather variantHere s 0) ≤ 4294967296
     → gather numberHere (moved Two s) 0 ≡ rowNumbers (length (gather variantHere s 0))

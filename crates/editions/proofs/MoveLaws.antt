@@ -21,7 +21,7 @@ use Rattle.form.specs.Form.{kindOf, isEnd, isSettings, isVariant, isPart, isLet
 use Rattle.form.specs.Form.{inPlace, areFlags, flagsOk, countOf, padOk, tooMany, faultOf, after, counted}
 use Rattle.form.proofs.FormLaws.{split, both, mixed, fault-none, fault-none-end, pad-rest}
 use Rattle.form.proofs.CountLaws.{tests, not-back}
-use Rattle.editions.specs.Moving.{settingsByte, variantByte, byteIn, sharedLen, addedIn, recordIn, rowAfter, movedFrom}
+use Rattle.editions.specs.Moving.{settingsByte, variantByte, byteIn, sharedLen, addedIn, recordIn, nextRow, movedFrom}
 use Rattle.editions.proofs.OrderedLaws.{Ordered, ends, goes}
 use Rattle.editions.proofs.AgreeLaws.{Agree, flags-agree, four-agree, take-agree, front-agree}
 
@@ -124,11 +124,11 @@ move-skip e (k ∷ b) zero row = refl
 move-skip e (k ∷ b) (suc n) row = move-skip e b n row
 
 pub moved-record : (e : Edition) (k : ℕ) (body rest : List ℕ) (row : ℕ) → length body ≡ bodyLen (kindOf k)
-    → movedFrom e (k ∷ (body ++ rest)) 0 row ≡ byteIn e k ∷ (bodyIn e (kindOf k) body row ++ movedFrom e rest 0 (rowAfter (kindOf k) row))
+    → movedFrom e (k ∷ (body ++ rest)) 0 row ≡ byteIn e k ∷ (bodyIn e (kindOf k) body row ++ movedFrom e rest 0 (nextRow (kindOf k) row))
 unfolding movedFrom recordIn
 moved-record e k body rest row l =
     let h : sharedLen (kindOf k) ≤ length body = rw l (shared-within (kindOf k)) in
-    let next : ℕ = rowAfter (kindOf k) row in
+    let next : ℕ = nextRow (kindOf k) row in
     rw (take-append-le (sharedLen (kindOf k)) body rest h)
     (ap (λ (q : List ℕ). byteIn e k ∷ (bodyIn e (kindOf k) body row ++ q))
     (move-skip e (body ++ rest) (bodyLen (kindOf k)) next ∙ ap (λ (q : List ℕ). movedFrom e q 0 next) (drop-at body rest (bodyLen (kindOf k)) l)))
@@ -397,7 +397,7 @@ moved-ordered e {st} {s} {c} (ends k i f n) st′ alike row =
     subst (λ (q : List ℕ). Ordered st′ q c) (sym (moved-end e k row i)) (ends k i f′ (same-counts e st st′ alike ∙ n))
 moved-ordered e {st} {s} {c} (goes k body rest l g f o) st′ alike row =
     let kind : Kind = kindOf k in
-    let next : List ℕ = movedFrom e rest 0 (rowAfter kind row) in
+    let next : List ℕ = movedFrom e rest 0 (nextRow kind row) in
     let new : List ℕ = bodyIn e kind body row in
     let agree : Agree (sharedLen kind) (new ++ next) (body ++ rest) = body-agrees e kind body rest next row l in
     let long : length new ≡ bodyLen (kindIn e kind) = long-body e kind body row l in
@@ -407,4 +407,4 @@ moved-ordered e {st} {s} {c} (goes k body rest l g f o) st′ alike row =
     after-moved e st st′ alike kind (body ++ rest) (new ++ next) (count-moved e kind (body ++ rest) (new ++ next) agree) in
     subst (λ (q : List ℕ). Ordered st′ q c) (sym (moved-record e k body rest row l))
     (goes-by (byteIn e k) (kindIn e kind) new next (kind-moved e k) long (sorted e kind .end ∙ g) none
-    (moved-ordered e o (after st′ (kindIn e kind) (new ++ next)) same (rowAfter kind row)))
+    (moved-ordered e o (after st′ (kindIn e kind) (new ++ next)) same (nextRow kind row)))

@@ -22,7 +22,7 @@ use Rattle.form.proofs.FormLaws.{split, mixed, letters-kind}
 use Rattle.form.proofs.GatherLaws.{gather-skip}
 use Rattle.form.proofs.HaplotypeLaws.{haplotypes-record}
 use Rattle.form.proofs.CountLaws.{none-placed, owed-none}
-use Rattle.editions.specs.Moving.{byteIn, sharedLen, addedIn, rowAfter, movedFrom}
+use Rattle.editions.specs.Moving.{byteIn, sharedLen, addedIn, nextRow, movedFrom}
 use Rattle.editions.proofs.OrderedLaws.{Ordered, ends, goes}
 use Rattle.editions.proofs.AgreeLaws.{Agree, four-agree, eight-agree}
 use Rattle.editions.proofs.MoveLaws.{sorted, kindIn, kind-moved, bodyIn, long-body, body-agrees, count-moved, moved-record, moved-end}
@@ -102,12 +102,12 @@ owed-letters e {st} {s} {c} (goes k body rest l g f o) row j h = ⊎-elim
     let i : kindOf k ≡ Letters = letters-kind (kindOf k) t in
     let long : length body ≡ 16 = l ∙ ap bodyLen i in
     let behind : after st (kindOf k) (body ++ rest) .left ≡ st .left - 16 = ap (λ (kind : Kind). after st kind (body ++ rest) .left) i ∙ owed-behind st (body ++ rest) in
-    let next : List ℕ = movedFrom e rest 0 (rowAfter (kindOf k) row) in
+    let next : List ℕ = movedFrom e rest 0 (nextRow (kindOf k) row) in
     let is : movedFrom e (k ∷ (body ++ rest)) 0 row ≡ k ∷ (body ++ next) =
     moved-record e k body rest row l ∙ ap (λ (kind : Kind). byteIn e k ∷ (bodyIn e kind body row ++ next)) i
     ∙ ap (λ (q : List ℕ). byteIn e k ∷ (q ++ next)) (body-same e body row long) ∙ ap (λ (m : ℕ). m ∷ (body ++ next)) (byte-same e k i) in
     ap (λ (q : List ℕ). getD q (place j) 0) is
-    ∙ letters-in-place k body next rest (st .left) long (λ (m : ℕ) (q : m < st .left - 16). owed-letters e o (rowAfter (kindOf k) row) m (omega arith)) j h)
+    ∙ letters-in-place k body next rest (st .left) long (λ (m : ℕ) (q : m < st .left - 16). owed-letters e o (nextRow (kindOf k) row) m (omega arith)) j h)
     (λ (t : isLetters (kindOf k) ≡ false).
     let z : st .left ≡ 0 = owed-none st (kindOf k) (none-placed st (kindOf k) (body ++ rest) f) t in
     let no : ⊥ = omega arith in absurd no)
@@ -149,7 +149,7 @@ owes st kind b h = sym (rw h)
 module _ (e : Edition) (st : State) (c : Counts) (kind : Kind) (body rest : List ℕ) (row : ℕ) (long : length body ≡ bodyLen kind)
     (o : Ordered (after st kind (body ++ rest)) rest c) where
   abbrev next : List ℕ
-  next = movedFrom e rest 0 (rowAfter kind row)
+  next = movedFrom e rest 0 (nextRow kind row)
 
   abbrev new : List ℕ
   new = bodyIn e kind body row
@@ -162,7 +162,7 @@ module _ (e : Edition) (st : State) (c : Counts) (kind : Kind) (body rest : List
   letters-behind h =
       let n : countOf (kindIn e kind) (new ++ next) ≡ countOf kind (body ++ rest) = count-moved e kind (body ++ rest) (new ++ next) agree in
       rw (n, drop-at new next (bodyLen (kindIn e kind)) (long-body e kind body row long), drop-at body rest (bodyLen kind) long)
-      (letters-moved e o (rowAfter kind row) (countOf kind (body ++ rest)) (owes st kind (body ++ rest) h))
+      (letters-moved e o (nextRow kind row) (countOf kind (body ++ rest)) (owes st kind (body ++ rest) h))
 
   pub variant-same : 25 ≤ sharedLen kind → isLetters kind ≡ false → variantOf (kindIn e kind) (new ++ next) ≡ variantOf kind (body ++ rest)
   unfolding variantOf
@@ -199,7 +199,7 @@ module _ (e : Edition) (st : State) (c : Counts) (kind : Kind) (body rest : List
 
 parts-there : (e : Edition) (st : State) (c : Counts) (kind : Kind) (body rest : List ℕ) (row : ℕ) (long : length body ≡ bodyLen kind)
     (o : Ordered (after st kind (body ++ rest)) rest c) → isPart kind ≡ true
-    → partHere (kindIn e kind) (bodyIn e kind body row ++ movedFrom e rest 0 (rowAfter kind row)) ≡ partHere kind (body ++ rest)
+    → partHere (kindIn e kind) (bodyIn e kind body row ++ movedFrom e rest 0 (nextRow kind row)) ≡ partHere kind (body ++ rest)
 unfolding partHere sharedLen bodyLen
 parts-there e st c PartRecord body rest row long o t =
     let n = whole-new e st c PartRecord body rest row long o in
@@ -216,14 +216,14 @@ parts-there e st c Unknown body rest row long o t = mixed (sym t)
 
 module _ (e : Edition) (st : State) (c : Counts) (kind : Kind) (body rest : List ℕ) (row : ℕ) (long : length body ≡ bodyLen kind)
     (o : Ordered (after st kind (body ++ rest)) rest c) where
-  parts-here : partHere (kindIn e kind) (bodyIn e kind body row ++ movedFrom e rest 0 (rowAfter kind row)) ≡ partHere kind (body ++ rest)
+  parts-here : partHere (kindIn e kind) (bodyIn e kind body row ++ movedFrom e rest 0 (nextRow kind row)) ≡ partHere kind (body ++ rest)
   unfolding partHere
   parts-here = ⊎-elim
       (λ (t : isPart kind ≡ true). parts-there e st c kind body rest row long o t)
       (λ (t : isPart kind ≡ false). rw (sorted e kind .part, t))
       (split (isPart kind))
 
-  haplotypes-here : (hs : List (List Part)) → haplotypesHere (kindIn e kind) (bodyIn e kind body row ++ movedFrom e rest 0 (rowAfter kind row)) hs ≡ haplotypesHere kind (body ++ rest) hs
+  haplotypes-here : (hs : List (List Part)) → haplotypesHere (kindIn e kind) (bodyIn e kind body row ++ movedFrom e rest 0 (nextRow kind row)) hs ≡ haplotypesHere kind (body ++ rest) hs
   unfolding haplotypesHere
   haplotypes-here hs = rw (sorted e kind .next, parts-here)
 
@@ -232,16 +232,16 @@ pub variants-moved : (e : Edition) {st : State} {s : List ℕ} {c : Counts} → 
 variants-moved e {st} {s} {c} (ends k i f n) row = ap (λ (q : List ℕ). gather variantHere q 0) (moved-end e k row i)
 variants-moved e {st} {s} {c} (goes k body rest l g f o) row =
     let kind : Kind = kindOf k in
-    let next : List ℕ = movedFrom e rest 0 (rowAfter kind row) in
+    let next : List ℕ = movedFrom e rest 0 (nextRow kind row) in
     ap (λ (q : List ℕ). gather variantHere q 0) (moved-record e k body rest row l)
     ∙ gather-record variantHere (byteIn e k) (kindIn e kind) (bodyIn e kind body row) next (kind-moved e k) (long-body e kind body row l)
-    ∙ rw (variants-here e st c kind body rest row l o, variants-moved e o (rowAfter kind row)) (sym (gather-record variantHere k kind body rest refl l))
+    ∙ rw (variants-here e st c kind body rest row l o, variants-moved e o (nextRow kind row)) (sym (gather-record variantHere k kind body rest refl l))
 
 pub haplotypes-moved : (e : Edition) {st : State} {s : List ℕ} {c : Counts} → Ordered st s c → (row : ℕ) → haplotypesIn (movedFrom e s 0 row) 0 ≡ haplotypesIn s 0
 haplotypes-moved e {st} {s} {c} (ends k i f n) row = ap (λ (q : List ℕ). haplotypesIn q 0) (moved-end e k row i)
 haplotypes-moved e {st} {s} {c} (goes k body rest l g f o) row =
     let kind : Kind = kindOf k in
-    let next : List ℕ = movedFrom e rest 0 (rowAfter kind row) in
+    let next : List ℕ = movedFrom e rest 0 (nextRow kind row) in
     ap (λ (q : List ℕ). haplotypesIn q 0) (moved-record e k body rest row l)
     ∙ haplotypes-record (byteIn e k) (bodyLen (kindIn e kind)) (kindIn e kind) (bodyIn e kind body row) next (kind-moved e k) refl (long-body e kind body row l)
-    ∙ rw (haplotypes-here e st c kind body rest row l o (haplotypesIn next 0), haplotypes-moved e o (rowAfter kind row)) (sym (haplotypes-record k (bodyLen kind) kind body rest refl refl l))
+    ∙ rw (haplotypes-here e st c kind body rest row l o (haplotypesIn next 0), haplotypes-moved e o (nextRow kind row)) (sym (haplotypes-record k (bodyLen kind) kind body rest refl refl l))

@@ -21,7 +21,7 @@ use Rattle.form.specs.Form.{kindOf, isSettings, isVariant, isSecond, bodyLen, r
 use Rattle.form.specs.Job.{gather, numberHere}
 use Rattle.form.proofs.FormLaws.{split, rest-is, record-kind, record-next}
 use Rattle.form.proofs.GatherLaws.{gather-here, gather-done}
-use Rattle.editions.specs.Moving.{settingsByte, variantByte, byteIn, sharedLen, addedIn, recordIn, rowAfter, movedFrom, moved, offRow}
+use Rattle.editions.specs.Moving.{settingsByte, variantByte, byteIn, sharedLen, addedIn, recordIn, nextRow, movedFrom, moved, offRow}
 use Rattle.editions.specs.Steps.{hasNumber, Put}
 use Rattle.editions.proofs.MoveLaws.{move-skip}
 
@@ -112,12 +112,12 @@ module _ (e : Edition) (byte : ℕ) (kind : Kind) (is : kind ≡ kindOf byte) wh
   unfolding byteIn
   byte-common h g = sym (rw (sym is, h, g))
 
-pub row-more : (kind : Kind) (row : ℕ) → isVariant kind ≡ true → (row + 1 ≡ rowAfter kind row) × (row + 1 ≤ row + 1)
-unfolding rowAfter
+pub row-more : (kind : Kind) (row : ℕ) → isVariant kind ≡ true → (row + 1 ≡ nextRow kind row) × (row + 1 ≤ row + 1)
+unfolding nextRow
 row-more kind row h = (sym (rw h), omega arith)
 
-pub row-same : (kind : Kind) (row : ℕ) → isVariant kind ≡ false → (row ≡ rowAfter kind row) × (row ≤ row + 1)
-unfolding rowAfter
+pub row-same : (kind : Kind) (row : ℕ) → isVariant kind ≡ false → (row ≡ nextRow kind row) × (row ≤ row + 1)
+unfolding nextRow
 row-same kind row h = (sym (rw h), omega arith)
 
 -- ---- bytes copied one by one
@@ -222,28 +222,28 @@ module _ (e : Edition) (s : List ℕ) (at row : ℕ) where
 
   module _ (inside : at < length s) (here : Record) (is : here ≡ recordAt s at) where
     pub move-here : movedFrom e (drop at s) 0 row
-        ≡ recordIn e (getD s at 0) (body s at row inside here is) row ++ movedFrom e (drop (here .next) s) 0 (rowAfter (here .kind) row)
+        ≡ recordIn e (getD s at 0) (body s at row inside here is) row ++ movedFrom e (drop (here .next) s) 0 (nextRow (here .kind) row)
     unfolding movedFrom
     move-here =
         let h : suc at + bodyLen (here .kind) ≡ here .next = omega (arith, record-next s at inside here is) in
         let k : here .kind ≡ kindOf (getD s at 0) = record-kind s at inside here is in
         let rest : List ℕ = drop (suc at) s in
         ap (λ (l : List ℕ). movedFrom e l 0 row) (drop-cons s at 0 inside)
-        ∙ ap (λ (d : Kind). recordIn e (getD s at 0) rest row ++ movedFrom e rest (bodyLen d) (rowAfter d row)) (sym k)
+        ∙ ap (λ (d : Kind). recordIn e (getD s at 0) rest row ++ movedFrom e rest (bodyLen d) (nextRow d row)) (sym k)
         ∙ rw (rest-is s at inside) (ap (λ (l : List ℕ). recordIn e (getD s at 0) rest row ++ l)
-        (move-skip e rest (bodyLen (here .kind)) (rowAfter (here .kind) row)
-        ∙ ap (λ (l : List ℕ). movedFrom e l 0 (rowAfter (here .kind) row)) (drop-drop (bodyLen (here .kind)) (suc at) s ∙ ap (λ (j : ℕ). drop j s) h)))
+        (move-skip e rest (bodyLen (here .kind)) (nextRow (here .kind) row)
+        ∙ ap (λ (l : List ℕ). movedFrom e l 0 (nextRow (here .kind) row)) (drop-drop (bodyLen (here .kind)) (suc at) s ∙ ap (λ (j : ℕ). drop j s) h)))
 
     pub lay-fits : (end whole : ℕ) → end + length (movedFrom e (drop at s) 0 row) ≡ whole → end + length (recordIn e (getD s at 0) (body s at row inside here is) row) ≤ whole
     lay-fits end whole h =
-        omega (arith, ap length move-here, length-append (recordIn e (getD s at 0) (body s at row inside here is) row) (movedFrom e (drop (here .next) s) 0 (rowAfter (here .kind) row)))
+        omega (arith, ap length move-here, length-append (recordIn e (getD s at 0) (body s at row inside here is) row) (movedFrom e (drop (here .next) s) 0 (nextRow (here .kind) row)))
 
-    pub lay-more : (out laid : List ℕ) (end r next : ℕ) → Put out laid end r (recordIn e (getD s at 0) (body s at row inside here is) row) → next ≡ rowAfter (here .kind) row
+    pub lay-more : (out laid : List ℕ) (end r next : ℕ) → Put out laid end r (recordIn e (getD s at 0) (body s at row inside here is) row) → next ≡ nextRow (here .kind) row
         → (sets laid r (movedFrom e (drop (here .next) s) 0 next) ≡ sets out end (movedFrom e (drop at s) 0 row))
         × (r + length (movedFrom e (drop (here .next) s) 0 next) ≡ end + length (movedFrom e (drop at s) 0 row))
     lay-more out laid end r next p n =
         let x : List ℕ = recordIn e (getD s at 0) (body s at row inside here is) row in
-        let y : List ℕ = movedFrom e (drop (here .next) s) 0 (rowAfter (here .kind) row) in (
+        let y : List ℕ = movedFrom e (drop (here .next) s) 0 (nextRow (here .kind) row) in (
           rw (n, p .is, p .next, move-here) (sym (sets-append out end x y)),
           rw n (omega (arith, p .next, ap length move-here, length-append x y)),
         )

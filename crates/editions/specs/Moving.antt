@@ -51,14 +51,14 @@ addedIn Two kind row = cond (isSettings kind) (0 ∷ []) (cond (isVariant kind) 
 unfoldable pub recordIn : Edition → ℕ → List ℕ → ℕ → List ℕ
 recordIn e byte b row = byteIn e byte ∷ (take (sharedLen (kindOf byte)) b ++ addedIn e (kindOf byte) row)
 
-unfoldable pub rowAfter : Kind → ℕ → ℕ
-rowAfter kind row = cond (isVariant kind) (row + 1) row
+unfoldable pub nextRow : Kind → ℕ → ℕ
+nextRow kind row = cond (isVariant kind) (row + 1) row
 
 -- every record in an edition, front to back, with `row` variants before them; the first n bytes belong to a record that was read already
 unfoldable pub movedFrom : Edition → List ℕ → ℕ → ℕ → List ℕ
 movedFrom e [] n row = []
 movedFrom e (k ∷ b) (suc n) row = movedFrom e b n row
-movedFrom e (k ∷ b) zero row = recordIn e k b row ++ movedFrom e b (bodyLen (kindOf k)) (rowAfter (kindOf k) row)
+movedFrom e (k ∷ b) zero row = recordIn e k b row ++ movedFrom e b (bodyLen (kindOf k)) (nextRow (kindOf k) row)
 
 abbrev pub moved : Edition → List ℕ → List ℕ
 moved e s = movedFrom e s 0 0

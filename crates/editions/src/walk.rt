@@ -21,7 +21,7 @@ ghost use Prim.Native.Nat.{_≤_, _<_, _+_, _^_, min};
 ghost use lib.ListN.{length, take};
 ghost use Rattle.form.specs.Form.{isSettings, isVariant};
 ghost use Rattle.form.specs.Job.{gather, numberHere};
-ghost use Rattle.editions.specs.Moving.{settingsByte, variantByte, byteIn, sharedLen, addedIn, recordIn, rowAfter, moved, offRow};
+ghost use Rattle.editions.specs.Moving.{settingsByte, variantByte, byteIn, sharedLen, addedIn, recordIn, nextRow, moved, offRow};
 ghost use Rattle.editions.specs.Steps.{hasNumber, Put};
 
 fn is_settings(kind: Kind) -> bool
@@ -106,7 +106,7 @@ fn shared_len(kind: Kind) -> usize
 
 fn row_after(kind: Kind, row: usize) -> usize
     requires { ⌜ row < 2 ^ 63 ⌝ }
-    ensures { λ r. ⌜ (r ≡ rowAfter kind row) × (r ≤ row + 1) ⌝ }
+    ensures { λ r. ⌜ (r ≡ nextRow kind row) × (r ≤ row + 1) ⌝ }
 {
     if is_variant(kind) {
         return row + 1;

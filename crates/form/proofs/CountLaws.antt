@@ -54,7 +54,8 @@ not-back true e = refl
 not-back false e = let z : _≡_ {A = ℕ} 1 0 = cc in absurd (never z)
 
 module _ (st : State) (kind : Kind) (b : List ℕ) (none : faultOf st kind b ≡ 0) where
-  pub tests : Clear (isUnknown kind) (ltb (length b) (bodyLen kind)) (not (inPlace st kind)) (tooMany st kind) (not (flagsOk kind b)) (ltb 131072 (countOf kind b)) (not (padOk st kind b)) (isEnd kind && ltb 0 (length b))
+  pub tests : Clear (isUnknown kind) (ltb (length b) (bodyLen kind)) (not (inPlace st kind)) (tooMany st kind)
+      (not (flagsOk kind b)) (ltb 131072 (countOf kind b)) (not (padOk st kind b)) (isEnd kind && ltb 0 (length b))
   unfolding faultOf
   tests = clear _ _ _ _ _ _ _ _ none
 

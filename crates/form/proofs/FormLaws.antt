@@ -19,7 +19,8 @@ use Rattle.form.specs.declared.records.Scan.the-variants.{Good, Refused}
 use Rattle.form.specs.declared.records.Kind.{Kind}
 use Rattle.form.specs.declared.records.Kind.the-variants.{End, Settings, Variant, Part, Letters, Next, Settings2, Variant2, Unknown}
 use Rattle.form.specs.declared.records.Record.{Record}
-use Rattle.form.specs.Form.{kindOf, isEnd, isVariant, isPart, isLetters, isNext, isSecond, isUnknown, shapeOf, bodyLen, inPlace, areFlags, flagsOk, countOf, recordOf, recordAt, padOk, allZero, tooMany, faultOf, after, run, judge, counted}
+use Rattle.form.specs.Form.{kindOf, isEnd, isVariant, isPart, isLetters, isNext, isSecond, isUnknown, shapeOf, bodyLen, inPlace, areFlags, flagsOk}
+use Rattle.form.specs.Form.{countOf, recordOf, recordAt, padOk, allZero, tooMany, faultOf, after, run, judge, counted}
 use Rattle.form.specs.Steps.{Follows}
 use Rattle.form.specs.Job.{editionOf}
 use Rattle.form.specs.declared.records.Edition.the-variants.{One, Two}
@@ -289,11 +290,13 @@ module _ (st : State) (b : List ℕ) where
   unfolding after
   follows-any n = record { is = n .is; variants-grow = n .variants-grow; parts-grow = n .parts-grow; breaks-grow = n .breaks-grow; letters-grow = n .letters-grow }
 
-  pub follows-settings : (n : ℕ) → n ≡ countOf Settings b → Follows st Settings b (record { phase = 1; left = n; variants = st .variants; parts = st .parts; breaks = st .breaks; letters = st .letters })
+  pub follows-settings : (n : ℕ) → n ≡ countOf Settings b → Follows st Settings b
+      (record { phase = 1; left = n; variants = st .variants; parts = st .parts; breaks = st .breaks; letters = st .letters })
   unfolding after
   follows-settings n e = record { is = rw e; variants-grow = omega arith; parts-grow = omega arith; breaks-grow = omega arith; letters-grow = omega arith }
 
-  pub follows-variant : (n : ℕ) → n ≡ countOf Variant b → Follows st Variant b (record { phase = st .phase; left = n; variants = st .variants + 1; parts = st .parts; breaks = st .breaks; letters = st .letters })
+  pub follows-variant : (n : ℕ) → n ≡ countOf Variant b → Follows st Variant b
+      (record { phase = st .phase; left = n; variants = st .variants + 1; parts = st .parts; breaks = st .breaks; letters = st .letters })
   unfolding after
   follows-variant n e = record { is = rw e; variants-grow = omega arith; parts-grow = omega arith; breaks-grow = omega arith; letters-grow = omega arith }
 
@@ -305,11 +308,13 @@ module _ (st : State) (b : List ℕ) where
   unfolding after
   follows-next n e = record { is = rw e; variants-grow = omega arith; parts-grow = omega arith; breaks-grow = omega arith; letters-grow = omega arith }
 
-  pub follows-settings2 : (n : ℕ) → n ≡ countOf Settings2 b → Follows st Settings2 b (record { phase = 3; left = n; variants = st .variants; parts = st .parts; breaks = st .breaks; letters = st .letters })
+  pub follows-settings2 : (n : ℕ) → n ≡ countOf Settings2 b → Follows st Settings2 b
+      (record { phase = 3; left = n; variants = st .variants; parts = st .parts; breaks = st .breaks; letters = st .letters })
   unfolding after
   follows-settings2 n e = record { is = rw e; variants-grow = omega arith; parts-grow = omega arith; breaks-grow = omega arith; letters-grow = omega arith }
 
-  pub follows-variant2 : (n : ℕ) → n ≡ countOf Variant2 b → Follows st Variant2 b (record { phase = st .phase; left = n; variants = st .variants + 1; parts = st .parts; breaks = st .breaks; letters = st .letters })
+  pub follows-variant2 : (n : ℕ) → n ≡ countOf Variant2 b → Follows st Variant2 b
+      (record { phase = st .phase; left = n; variants = st .variants + 1; parts = st .parts; breaks = st .breaks; letters = st .letters })
   unfolding after
   follows-variant2 n e = record { is = rw e; variants-grow = omega arith; parts-grow = omega arith; breaks-grow = omega arith; letters-grow = omega arith }
 
@@ -317,7 +322,8 @@ module _ (st : State) (b : List ℕ) where
   unfolding after
   follows-end n e = record { is = rw e; variants-grow = omega arith; parts-grow = omega arith; breaks-grow = omega arith; letters-grow = omega arith }
 
-  pub follows-unknown : (n : ℕ) → n ≡ countOf Unknown b → Follows st Unknown b (record { phase = st .phase; left = n; variants = st .variants; parts = st .parts; breaks = st .breaks; letters = st .letters })
+  pub follows-unknown : (n : ℕ) → n ≡ countOf Unknown b → Follows st Unknown b
+      (record { phase = st .phase; left = n; variants = st .variants; parts = st .parts; breaks = st .breaks; letters = st .letters })
   unfolding after
   follows-unknown n e = record { is = rw e; variants-grow = omega arith; parts-grow = omega arith; breaks-grow = omega arith; letters-grow = omega arith }
 
@@ -402,4 +408,5 @@ module _ (s : List ℕ) (at : ℕ) (st : State) (inside : at < length s) (here :
     run-more k r a =
         let h : suc at + bodyLen (here .kind) ≡ here .next = omega (arith, record-next s at inside here is) in
         rw a (sym (run-here ∙ judge-more _ (here .kind) st _ (sym fault ∙ none) k ∙ skip rest _ _
-        ∙ ap (λ (l : List ℕ). run l 0 (after st (here .kind) rest)) (ap (drop (bodyLen (here .kind))) (rest-is s at inside) ∙ drop-drop (bodyLen (here .kind)) (suc at) s ∙ ap (λ (j : ℕ). drop j s) h)))
+        ∙ ap (λ (l : List ℕ). run l 0 (after st (here .kind) rest)) (ap (drop (bodyLen (here .kind))) (rest-is s at inside)
+        ∙ drop-drop (bodyLen (here .kind)) (suc at) s ∙ ap (λ (j : ℕ). drop j s) h)))

@@ -111,8 +111,7 @@ pub const LETTERS_RECORD: usize = 1 + LETTERS_BODY;
 pub const SETTINGS2_RECORD: usize = 1 + SETTINGS2_BODY;
 
 pub const VARIANT2_RECORD: usize = 1 + VARIANT2_BODY;
-// settings and the end
-pub const LEAST_JOB: usize = SETTINGS_RECORD + 1;
+
 // where the flag of a variant and of a part stands, and their letter count
 pub const VARIANT_FLAG: usize = 20;
 

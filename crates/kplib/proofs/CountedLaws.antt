@@ -21,7 +21,8 @@ counted-case found zero count n e z h = rw h
 counted-case found (suc f) count n e z h = absurd (omega arith)
 
 -- what an accepted call is known to be
-pub count-ready : (starts ends : List ℕ) (cap found : ℕ) → found ≡ chainCountFault cap starts ends → found ≡ 0 → (length ends ≡ length starts) × (length starts ≤ 64) × (cap ≤ 4096) × (fallingStart starts ≡ false)
+pub count-ready : (starts ends : List ℕ) (cap found : ℕ) → found ≡ chainCountFault cap starts ends → found ≡ 0
+    → (length ends ≡ length starts) × (length starts ≤ 64) × (cap ≤ 4096) × (fallingStart starts ≡ false)
 unfolding chainCountFault
 count-ready starts ends cap found e z =
     let p = none-given (chainCountRules cap starts ends) refl (sym e ∙ z) in (

@@ -83,7 +83,8 @@ module _ {plan : Plan} {together : List Bool} {sizes : List ℤ} {links keys : L
   end-in = let e = chain-end follows (length sizes) chain chained in (omega (arith, h .end-is, e, h .sized .few), omega (arith, h .end-is, e))
 
   -- the flag of a row behind the chain's last one tells whether it extends the chain
-  pub found : {may : List Bool} → Flagged (followsBy plan together (chainOf links entry)) may → (r : ℕ) → end ≤ r → r < 64 → extends (followsBy plan together) (chainOf links entry) r ≡ getD may r false
+  pub found : {may : List Bool} → Flagged (followsBy plan together (chainOf links entry)) may → (r : ℕ) → end ≤ r → r < 64
+      → extends (followsBy plan together) (chainOf links entry) r ≡ getD may r false
   unfolding extends
   found f r l k = rw (le-leb (firstAfter chain) r (omega (arith, h .end-is))) (sym (f .flag r k))
 

@@ -156,7 +156,8 @@ module _ {s : Settings} {starts ends : List ℕ} {sizes features : List ℤ} {pa
         links keys stretch-at links' keys' stretch' answer
         → length links' ≡ length links → length keys' ≡ length keys → length stretch' ≡ length stretch-at
         → words' ≡ reportWords answer
-        → Turned s starts ends sizes features partEnds featureEnds partSizes partFeatures links₀ keys₀ rows₀ reports₀ v (i + 1) links' keys' (putMid (i * v) (i * v + v - i * v) rows stretch') (putMid (i * 8) (i * 8 + 8 - i * 8) reports words')
+        → Turned s starts ends sizes features partEnds featureEnds partSizes partFeatures links₀ keys₀ rows₀ reports₀ v (i + 1) links' keys'
+        (putMid (i * v) (i * v + v - i * v) rows stretch') (putMid (i * 8) (i * 8 + 8 - i * 8) reports words')
     next {part} {feature} p f {links'} {keys'} {stretch'} {words'} {answer} promise lk kk sk w =
         let is = as-own stretch-at p f stretch-length in
         let zv : i * v + v - i * v ≡ v = omega arith in

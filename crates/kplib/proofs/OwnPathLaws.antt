@@ -233,7 +233,14 @@ module _ (c : Call) (mode : searches c ≡ true) (above : lt (whole 0) (answerOf
   rows-few =
       let r = bestIn s t p .rows in
       let e = sound .chain in
-      rw rows-are (omega (arith, length-reverse r, chain-length (followsIn s t p) (length (t .starts)) (reverse r) e, chain-end (followsIn s t p) (length (t .starts)) (reverse r) e, checked .sized .few, checked .sizes-are))
+      rw rows-are (omega (
+        arith,
+        length-reverse r,
+        chain-length (followsIn s t p) (length (t .starts)) (reverse r) e,
+        chain-end (followsIn s t p) (length (t .starts)) (reverse r) e,
+        checked .sized .few,
+        checked .sizes-are,
+      ))
 
   abbrev list : List ℕ
   list = winningList s t p (rowsOf c)

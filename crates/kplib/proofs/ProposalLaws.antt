@@ -262,7 +262,8 @@ module _ (s : Settings) (t : Table) (p : Parts) (o : Proposal) {found : ℕ} (e 
   unfolding isGood
   no-list f h = is-no (rw (sym f ∙ h) (and-false chain))
 
-  module _ {a b : Bool} (f : a ≡ chain) (g : a ≡ true) (k : b ≡ listed) (l : b ≡ true) {v : Verdict} (i : v ≡ pairScore s (unplaced (t .sizes) (t .features)) p (o .rows) (o .positions)) {r : Bool} (j : r ≡ gives (o .score) v) where
+  module _ {a b : Bool} (f : a ≡ chain) (g : a ≡ true) (k : b ≡ listed) (l : b ≡ true)
+      {v : Verdict} (i : v ≡ pairScore s (unplaced (t .sizes) (t .features)) p (o .rows) (o .positions)) {r : Bool} (j : r ≡ gives (o .score) v) where
     good-is : isGood s t p o ≡ r
     unfolding isGood
     good-is = let whole : v ≡ pairScore s t p (o .rows) (o .positions) = i ∙ unplaced-same s t p (o .rows) (o .positions) in rw (sym f ∙ g, sym k ∙ l, ← whole) (sym j)

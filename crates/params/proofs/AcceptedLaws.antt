@@ -97,8 +97,31 @@ module _ (c : Several) (zeroFault : severalFault c ≡ 0) where
       let limits = bounds .1 .1 in
       let empty = limits .1 .1 .1 .1 in
       let rooms = empty .1 in
-      table-alone (c .settings) (c .table) (c .queueRoom) (length (c .table .starts))
-      (a .0, (a .1 .0, (a .1 .1 .0, (rows .0, (shape .0, (shape .1 .1 .0, (bounds .0, (bounds .1 .0, (limits .0, (limits .1 .1 .0, (empty .0, (rooms .0, (enough (length (c .table .starts)), tt)))))))))))))
+      table-alone (c .settings) (c .table) (c .queueRoom) (length (c .table .starts)) (
+        a .0,
+        (
+          a .1 .0,
+          (
+            a .1 .1 .0,
+            (
+              rows .0,
+              (
+                shape .0,
+                (
+                  shape .1 .1 .0,
+                  (
+                    bounds .0,
+                    (
+                      bounds .1 .0,
+                      (limits .0, (limits .1 .1 .0, (empty .0, (rooms .0, (enough (length (c .table .starts)), tt))))),
+                    ),
+                  ),
+                ),
+              ),
+            ),
+          ),
+        ),
+      )
 
   -- the row of the stretches, its three parts
   lie-well : (endsDisagree (c .partEnds) (length (c .parts .sizes)) ≡ false) × (endsDisagree (c .featureEnds) (length (c .parts .features)) ≡ false)

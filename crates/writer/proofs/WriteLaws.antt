@@ -226,7 +226,8 @@ module _ (letters : List ℕ) (end : ℕ) where
   pub records-fewer : (p : ℕ) → p < end → 17 * recordsFor (end - p) ≡ 17 + 17 * recordsFor (end - (p + 16))
   records-fewer p h = let n : (end - p + 15) / 16 ≡ suc ((end - (p + 16) + 15) / 16) = omega arith in omega (arith, n)
 
-  pub sequence-put : (from at r : ℕ) (t u : List ℕ) → end ≤ length letters → u ≡ sets t at (recordsAt from) → r ≡ at + 17 * recordsFor (end - from) → Put t u at r (sequenceBytes (slice from end letters))
+  pub sequence-put : (from at r : ℕ) (t u : List ℕ) → end ≤ length letters → u ≡ sets t at (recordsAt from) → r ≡ at + 17 * recordsFor (end - from)
+      → Put t u at r (sequenceBytes (slice from end letters))
   unfolding sequenceBytes
   sequence-put from at r t u h e f =
       let n : length (slice from end letters) ≡ end - from = length-slice from end letters h in

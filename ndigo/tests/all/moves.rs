@@ -149,7 +149,12 @@ proptest! {
 
     /// Of damaged jobs both readers tell the same fault first.
     #[test]
-    fn the_library_reads_as_ndigo_does(sheet in any_sheet(), damage in proptest::collection::vec((any::<prop::sample::Index>(), any::<u8>()), 1..4), cut in any::<prop::sample::Index>(), whole in any::<bool>()) {
+    fn the_library_reads_as_ndigo_does(
+        sheet in any_sheet(),
+        damage in proptest::collection::vec((any::<prop::sample::Index>(), any::<u8>()), 1..4),
+        cut in any::<prop::sample::Index>(),
+        whole in any::<bool>(),
+    ) {
         let mut job = written(&sheet);
         // most often where kinds and flags stand
         damage.iter().for_each(|(at, byte)| { let place = at.index(job.len()); job[place] = byte % 20; });

@@ -159,5 +159,6 @@ pub read-job-spec : {M : Type 1} → statement M
 read-job-spec =
     tie.close
     (tie.spec scan-requires enum-known-found enum-known-found-2 rows-fit-requires returns parts-fit-requires returns-2 returns-3 returns-4
-    edition-of-requires sub-settings-by part-settings-by-start part-settings-by-end settings-by-requires fill-requires returns-5 same-length same-length-2 same-length-3 same-length-4 same-length-5 same-length-6
+    edition-of-requires sub-settings-by part-settings-by-start part-settings-by-end settings-by-requires fill-requires returns-5
+    same-length same-length-2 same-length-3 same-length-4 same-length-5 same-length-6
     same-length-7 same-length-8 same-length-9 same-length-10 returns-6)

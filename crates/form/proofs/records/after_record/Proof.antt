@@ -2,7 +2,8 @@
 use borrow.Author.Needs.{needs}
 use native.Mathlib.Omega.{arith}
 use denote.Ref.{now}
-use Rattle.form.proofs.FormLaws.{count-is, follows-is, follows-any, follows-settings, follows-variant, follows-part, follows-next, follows-settings2, follows-variant2, follows-end, follows-unknown}
+use Rattle.form.proofs.FormLaws.{count-is, follows-is, follows-any, follows-settings, follows-variant, follows-part, follows-next}
+use Rattle.form.proofs.FormLaws.{follows-settings2, follows-variant2, follows-end, follows-unknown}
 use Rattle.form.proofs.records.after_record.Statement.{statement}
 use Rattle.form.proofs.records.after_record.Tie as tie
 

@@ -62,16 +62,24 @@ shared-slice-read-overlaps-2 : tie.Need-shared-slice-read-overlaps-2 Inv-loop μ
 shared-slice-read-overlaps-2 c = omega (arith, begun (turn (c .before .before)) .pre .1, begun (turn (c .before .before)) .pre .0, begun (turn (c .before .before)) .pre .2, row-in (c .before .before))
 
 mul-overlaps-3 : tie.Need-mul-overlaps-3 Inv-loop μ-loop
-mul-overlaps-3 c = record { fits = omega (arith, begun (turn (c .before .before)) .pre .1, begun (turn (c .before .before)) .pre .0, begun (turn (c .before .before)) .pre .2, row-in (c .before .before)) }
+mul-overlaps-3 c =
+    let s = begun (turn (c .before .before)) in
+    record { fits = omega (arith, s .pre .1, s .pre .0, s .pre .2, row-in (c .before .before)) }
 
 shared-slice-read-overlaps-3 : tie.Need-shared-slice-read-overlaps-3 Inv-loop μ-loop
-shared-slice-read-overlaps-3 c = omega (arith, begun (turn (c .before .before .before)) .pre .1, begun (turn (c .before .before .before)) .pre .0, begun (turn (c .before .before .before)) .pre .2, row-in (c .before .before .before))
+shared-slice-read-overlaps-3 c =
+    let s = begun (turn (c .before .before .before)) in
+    omega (arith, s .pre .1, s .pre .0, s .pre .2, row-in (c .before .before .before))
 
 mul-overlaps-4 : tie.Need-mul-overlaps-4 Inv-loop μ-loop
-mul-overlaps-4 c = record { fits = omega (arith, begun (turn (c .before .before .before)) .pre .1, begun (turn (c .before .before .before)) .pre .0, begun (turn (c .before .before .before)) .pre .2, row-in (c .before .before .before)) }
+mul-overlaps-4 c =
+    let s = begun (turn (c .before .before .before)) in
+    record { fits = omega (arith, s .pre .1, s .pre .0, s .pre .2, row-in (c .before .before .before)) }
 
 shared-slice-read-overlaps-4 : tie.Need-shared-slice-read-overlaps-4 Inv-loop μ-loop
-shared-slice-read-overlaps-4 c = omega (arith, begun (turn (c .before .before .before .before)) .pre .1, begun (turn (c .before .before .before .before)) .pre .0, begun (turn (c .before .before .before .before)) .pre .2, row-in (c .before .before .before .before))
+shared-slice-read-overlaps-4 c =
+    let s = begun (turn (c .before .before .before .before)) in
+    omega (arith, s .pre .1, s .pre .0, s .pre .2, row-in (c .before .before .before .before))
 
 overlaps-requires : tie.Need-overlaps-requires Inv-loop μ-loop
 overlaps-requires c κs = tt

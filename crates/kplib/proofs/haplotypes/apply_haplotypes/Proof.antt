@@ -7,7 +7,8 @@ use denote.Ref.{now}
 use Rattle.params.specs.Several.{Several, severalFault}
 use Rattle.params.proofs.AcceptedLaws.{as-many-ends, parts-within, features-within}
 use Rattle.kplib.specs.Promises.{severalLent}
-use Rattle.kplib.proofs.HaplotypesLaws.{Turned, none-yet, none-answered, few-haplotypes, few-rows, rows-kept, reports-kept, rows-room, reports-room, still-accepted, words-length, next, all-done}
+use Rattle.kplib.proofs.HaplotypesLaws.{Turned, none-yet, none-answered, few-haplotypes, few-rows, rows-kept, reports-kept}
+use Rattle.kplib.proofs.HaplotypesLaws.{rows-room, reports-room, still-accepted, words-length, next, all-done}
 use borrow.Author.Needs.{needs}
 use Rattle.kplib.proofs.haplotypes.apply_haplotypes.Statement.{statement}
 use Rattle.kplib.proofs.haplotypes.apply_haplotypes.Tie as tie
@@ -129,19 +130,29 @@ part-answer-haplotype-end-2 : tie.Need-part-answer-haplotype-end-2 Inv-loop μ-l
 part-answer-haplotype-end-2 c = let k = c .before in omega (arith, rows-of-parts k .0, rows-of-parts k .1)
 
 add-answer-haplotype : tie.Need-add-answer-haplotype Inv-loop μ-loop
-add-answer-haplotype c = let t = turn (c .before .before .before .before) in omega (arith, rows-room (t .before .loop .inv) (t .loop-test .taken), few-rows (t .before .loop .inv) (t .loop-test .taken))
+add-answer-haplotype c =
+    let t = turn (c .before .before .before .before) in
+    omega (arith, rows-room (t .before .loop .inv) (t .loop-test .taken), few-rows (t .before .loop .inv) (t .loop-test .taken))
 
 mul-answer-haplotype-3 : tie.Need-mul-answer-haplotype-3 Inv-loop μ-loop
-mul-answer-haplotype-3 c = let t = turn (c .before .before .before .before) in omega (arith, rows-room (t .before .loop .inv) (t .loop-test .taken), few-rows (t .before .loop .inv) (t .loop-test .taken))
+mul-answer-haplotype-3 c =
+    let t = turn (c .before .before .before .before) in
+    omega (arith, rows-room (t .before .loop .inv) (t .loop-test .taken), few-rows (t .before .loop .inv) (t .loop-test .taken))
 
 sub-answer-haplotype-3 : tie.Need-sub-answer-haplotype-3 Inv-loop μ-loop
-sub-answer-haplotype-3 c = let t = turn (c .before .before .before .before) in omega (arith, rows-room (t .before .loop .inv) (t .loop-test .taken), few-rows (t .before .loop .inv) (t .loop-test .taken))
+sub-answer-haplotype-3 c =
+    let t = turn (c .before .before .before .before) in
+    omega (arith, rows-room (t .before .loop .inv) (t .loop-test .taken), few-rows (t .before .loop .inv) (t .loop-test .taken))
 
 part-answer-haplotype-start-3 : tie.Need-part-answer-haplotype-start-3 Inv-loop μ-loop
-part-answer-haplotype-start-3 c = let t = turn (c .before .before .before .before) in omega (arith, rows-room (t .before .loop .inv) (t .loop-test .taken), few-rows (t .before .loop .inv) (t .loop-test .taken))
+part-answer-haplotype-start-3 c =
+    let t = turn (c .before .before .before .before) in
+    omega (arith, rows-room (t .before .loop .inv) (t .loop-test .taken), few-rows (t .before .loop .inv) (t .loop-test .taken))
 
 part-answer-haplotype-end-3 : tie.Need-part-answer-haplotype-end-3 Inv-loop μ-loop
-part-answer-haplotype-end-3 c = let t = turn (c .before .before .before .before) in omega (arith, rows-room (t .before .loop .inv) (t .loop-test .taken), few-rows (t .before .loop .inv) (t .loop-test .taken))
+part-answer-haplotype-end-3 c =
+    let t = turn (c .before .before .before .before) in
+    omega (arith, rows-room (t .before .loop .inv) (t .loop-test .taken), few-rows (t .before .loop .inv) (t .loop-test .taken))
 
 answer-haplotype-requires : tie.Need-answer-haplotype-requires Inv-loop μ-loop
 answer-haplotype-requires c κs =

@@ -22,7 +22,8 @@ Inv-loop s starts₀ ends₀ sizes₀ negatives₀ counts₀ psizes₀ pnegative
     starts ends sizes negatives counts psizes pnegatives pcounts breaks letters at v p n l left =
     (stores putRow (rows starts ends sizes negatives counts) v (gather variantHere (drop at s) 0) ≡ stores putRow (rows starts₀ ends₀ sizes₀ negatives₀ counts₀) 0
     (gather variantHere s 0)) × ((stores putPart (partRows psizes pnegatives pcounts) p (gather partHere (drop at s) 0) ≡ stores putPart (partRows psizes₀ pnegatives₀ pcounts₀) 0
-    (gather partHere s 0)) × ((stores set breaks n (breaksWalk (drop at s) 0 p) ≡ stores set breaks₀ 0 (breaksWalk s 0 0)) × ((stores set letters l (lettersWalk (drop at s) 0 left) ≡ stores set letters₀ 0 (lettersWalk s 0 0))
+    (gather partHere s 0)) × ((stores set breaks n (breaksWalk (drop at s) 0 p) ≡ stores set breaks₀ 0 (breaksWalk s 0 0)) ×
+    ((stores set letters l (lettersWalk (drop at s) 0 left) ≡ stores set letters₀ 0 (lettersWalk s 0 0))
     × ((v ≤ at) × ((p ≤ at) × ((n ≤ at) × (l ≤ at)))))))
 
 abbrev μ-loop : tie.MeasureT-loop
