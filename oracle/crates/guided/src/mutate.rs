@@ -85,7 +85,7 @@ fn take_field(r: &mut Random, found: &mut Records, at: usize, from: usize) {
 /// One field of a record at a value that tells something.
 fn change_field(r: &mut Random, record: &mut [u8]) {
     const WHOLES: [u32; 16] = [0, 1, 2, 3, 5, 8, 10, 12, 13, 63, 64, 4_095, 65_535, 65_536, 16_777_216, 16_777_217];
-    const FLOATS: [f32; 12] = [0.0, -0.0, 0.25, 0.5, 0.75, 1.0, 1.000_000_1, 1e-45, 1000.0, 1000.0001, f32::NAN, f32::INFINITY];
+    const FLOATS: [f32; 12] = [0.0, -0.0, 0.1, 0.3, 0.5, 1.0, 1.000_000_1, 1e-45, 1000.0, 1000.0001, f32::NAN, f32::INFINITY];
     const SIZES: [i32; 10] = [0, 1, -1, 2, -2, 4, 131_072, 131_073, -131_072, -131_073];
     let (whole, float, size) = (r.pick(&WHOLES).to_le_bytes(), r.pick(&FLOATS).to_le_bytes(), r.pick(&SIZES).to_le_bytes());
     let (flag, k, letter) = (r.pick(&[0, 1, 1, 2]), r.below(7) as u8, r.pick(b"AACCGGTTacgtNn\0"));

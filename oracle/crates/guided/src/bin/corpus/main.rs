@@ -19,8 +19,8 @@ fn write_all(folder: &str, jobs: Vec<Vec<u8>>) -> io::Result<()> {
     Ok(())
 }
 
-fn shrink_to(input: &str, out: &str) -> io::Result<()> {
-    let checker = RefCell::new(Checker::new(std::env::var("GUIDED_PLANTED").ok().as_deref()));
+fn shrink_to(checker: Checker, input: &str, out: &str) -> io::Result<()> {
+    let checker = RefCell::new(checker);
     let differs = |job: &[u8]| checker.borrow_mut().check(job).is_err();
     let found = fs::read(input)?;
     let small = shrink::bytes(found.clone(), differs);
@@ -32,13 +32,15 @@ fn shrink_to(input: &str, out: &str) -> io::Result<()> {
 }
 
 fn main() -> io::Result<()> {
+    // words of no mistake stop the run here, before it begins
+    let checker = Checker::new(std::env::var("GUIDED_PLANTED").ok().as_deref());
     let words: Vec<String> = std::env::args().skip(1).collect();
     let words: Vec<&str> = words.iter().map(String::as_str).collect();
     match words[..] {
         ["seeds", folder, seed] => write_all(folder, seeds::seeds(seed.parse().expect("SEED is a whole number"), 500)?),
         ["plain", folder] => write_all(folder, seeds::plain()?),
-        ["reached", ref folders @ ..] => reached::report(folders),
-        ["shrink", input, out] => shrink_to(input, out),
+        ["reached", ref folders @ ..] => reached::report(checker, folders),
+        ["shrink", input, out] => shrink_to(checker, input, out),
         _ => panic!("corpus seeds FOLDER SEED | plain FOLDER | reached FOLDER.. | shrink INPUT OUT; not {words:?}"),
     }
 }

@@ -46,11 +46,12 @@ unheard! {
     __sanitizer_cov_trace_const_cmp2 __sanitizer_cov_trace_const_cmp4 __sanitizer_cov_trace_const_cmp8 __sanitizer_cov_trace_switch
 }
 
-/// A function's blocks, its first one first.
+/// A function, and how far behind its first block those stand that were not entered.
 struct Function {
     name: String,
+    place: usize,
     blocks: usize,
-    entered: usize,
+    missed: Vec<usize>,
 }
 
 /// The functions' names by their places, as `nm` tells them of this program.
@@ -73,11 +74,14 @@ fn functions() -> io::Result<Vec<Function>> {
     let mut functions: Vec<Function> = vec![];
     for ([place, is_first], counter) in held::<[usize; 2]>(&PLACES).iter().zip(held::<u8>(&COUNTERS)) {
         if is_first & 1 == 1 {
-            functions.push(Function { name: names.get(place).cloned().unwrap_or_else(|| format!("{place:x}")), blocks: 0, entered: 0 });
+            let name = names.get(place).cloned().unwrap_or_else(|| format!("{place:x}"));
+            functions.push(Function { name, place: *place, blocks: 0, missed: vec![] });
         }
         let function = functions.last_mut().expect("a function's first block comes first");
         function.blocks += 1;
-        function.entered += usize::from(*counter != 0);
+        if *counter == 0 {
+            function.missed.push(place.wrapping_sub(function.place));
+        }
     }
     Ok(functions)
 }
@@ -87,8 +91,7 @@ fn told(numbers: &BTreeMap<u32, u64>) -> String {
     numbers.iter().map(|(number, count)| format!(" {number}:{count}")).collect()
 }
 
-pub fn report(folders: &[&str]) -> io::Result<()> {
-    let mut checker = Checker::new(None);
+pub fn report(mut checker: Checker, folders: &[&str]) -> io::Result<()> {
     let (mut inputs, mut numbers) = (0, BTreeMap::new());
     for folder in folders {
         for file in fs::read_dir(folder)? {
@@ -100,12 +103,13 @@ pub fn report(folders: &[&str]) -> io::Result<()> {
     }
     let functions = functions()?;
     let sum = |one: fn(&Function) -> usize| functions.iter().map(one).sum::<usize>();
-    let (reached, blocks) = (sum(|f| f.entered), sum(|f| f.blocks));
-    let entered = functions.iter().filter(|f| f.entered > 0).count();
-    println!("{inputs} inputs enter {reached} of {blocks} blocks, {entered} of {} functions", functions.len());
+    let (missed, blocks) = (sum(|f| f.missed.len()), sum(|f| f.blocks));
+    let entered = functions.iter().filter(|f| f.missed.len() < f.blocks).count();
+    println!("{inputs} inputs enter {} of {blocks} blocks, {entered} of {} functions", blocks - missed, functions.len());
     println!("answers by refusal (0: answered):{}", told(&numbers));
-    for f in functions.iter().filter(|f| f.entered < f.blocks) {
-        println!("  {}: {} of {} blocks not entered", f.name, f.blocks - f.entered, f.blocks);
+    for f in functions.iter().filter(|f| !f.missed.is_empty()) {
+        let places: String = f.missed.iter().map(|place| format!(" +{place:x}")).collect();
+        println!("  {}: {} of {} blocks not entered, at{places}", f.name, f.missed.len(), f.blocks);
     }
     Ok(())
 }
