@@ -43,8 +43,8 @@ fn change(r: &mut Random, found: &mut Records) {
         1 => found.insert(to, found[at].clone()),
         2 => drop(found.remove(at)),
         3 => found[at.min(to)..=at.max(to)].rotate_left(1),
-        4 => exchange_edition(&mut found[at]),
-        5 => found.iter_mut().for_each(exchange_edition),
+        4 => exchange_edition(&mut found[at], to as u32),
+        5 => found.iter_mut().zip(0..).for_each(|(record, number)| exchange_edition(record, number)),
         6 => found.insert(to, vec![0x05]),
         7 => found.insert(to, vec![0x03, r.below(4) as u8, 0, 0, 0, 0, 0, 0, 0, 0]),
         8 => take_field(r, found, at, to),
@@ -52,11 +52,11 @@ fn change(r: &mut Random, found: &mut Records) {
     }
 }
 
-/// Settings or a variant of one edition as of the other.
-fn exchange_edition(record: &mut Vec<u8>) {
+/// Settings or a variant of one edition as of the other, a variant of edition 2 with this record number.
+fn exchange_edition(record: &mut Vec<u8>, number: u32) {
     match (record[0], record.len()) {
         (0x01, 41) => record.push(0),
-        (0x02, 26) => record.extend([0; 4]),
+        (0x02, 26) => record.extend(number.to_le_bytes()),
         (0x11, 42) => record.truncate(1 + LETTERS_AT),
         (0x12, 30) => record.truncate(1 + NUMBER_AT),
         _ => return,
@@ -119,7 +119,7 @@ fn mend(r: &mut Random, found: Records) -> Records {
             (0x04, 17, Some(sequence)) if sequence[0][0] != 0x05 => sequence.push(record),
             (0x02, 26, _) | (0x12, 30, _) | (0x03, 10, _) | (0x05, 1, _) => {
                 if record[0] ^ variant == 0x10 {
-                    exchange_edition(&mut record);
+                    exchange_edition(&mut record, sequences.len() as u32);
                 }
                 sequences.push(vec![record]);
             }
