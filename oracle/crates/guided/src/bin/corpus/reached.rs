@@ -10,7 +10,7 @@ use std::fs;
 use std::io;
 use std::process::Command;
 use std::slice;
-use std::sync::atomic::{AtomicUsize, Ordering::Relaxed};
+use std::sync::atomic::{AtomicU8, AtomicUsize, Ordering::Relaxed};
 
 static COUNTERS: [AtomicUsize; 2] = [AtomicUsize::new(0), AtomicUsize::new(0)];
 static PLACES: [AtomicUsize; 2] = [AtomicUsize::new(0), AtomicUsize::new(0)];
@@ -69,17 +69,22 @@ fn names() -> io::Result<BTreeMap<usize, String>> {
     Ok(names.into_iter().map(|(place, name)| (place.wrapping_add(loaded), name)).collect())
 }
 
-fn functions() -> io::Result<Vec<Function>> {
+/// Notes the blocks that the last input entered. A counter is a byte and comes round to 0, so it is asked after each input and begins anew.
+fn note(entered: &mut [bool]) {
+    entered.iter_mut().zip(held::<AtomicU8>(&COUNTERS)).for_each(|(entered, counter)| *entered |= counter.swap(0, Relaxed) != 0);
+}
+
+fn functions(entered: &[bool]) -> io::Result<Vec<Function>> {
     let names = names()?;
     let mut functions: Vec<Function> = vec![];
-    for ([place, is_first], counter) in held::<[usize; 2]>(&PLACES).iter().zip(held::<u8>(&COUNTERS)) {
+    for ([place, is_first], entered) in held::<[usize; 2]>(&PLACES).iter().zip(entered) {
         if is_first & 1 == 1 {
             let name = names.get(place).cloned().unwrap_or_else(|| format!("{place:x}"));
             functions.push(Function { name, place: *place, blocks: 0, missed: vec![] });
         }
         let function = functions.last_mut().expect("a function's first block comes first");
         function.blocks += 1;
-        if *counter == 0 {
+        if !entered {
             function.missed.push(place.wrapping_sub(function.place));
         }
     }
@@ -93,19 +98,21 @@ fn told(numbers: &BTreeMap<u32, u64>) -> String {
 
 pub fn report(mut checker: Checker, folders: &[&str]) -> io::Result<()> {
     let (mut inputs, mut numbers) = (0, BTreeMap::new());
+    let mut entered = vec![false; held::<AtomicU8>(&COUNTERS).len()];
     for folder in folders {
         for file in fs::read_dir(folder)? {
             let job = fs::read(file?.path())?;
             checker.check(&job).expect("no difference");
+            note(&mut entered);
             inputs += 1;
             program_answers(&DOCUMENT, &job, &mut Met::default()).iter().for_each(|answer| *numbers.entry(answer.refusal).or_insert(0) += 1);
         }
     }
-    let functions = functions()?;
+    let functions = functions(&entered)?;
     let sum = |one: fn(&Function) -> usize| functions.iter().map(one).sum::<usize>();
     let (missed, blocks) = (sum(|f| f.missed.len()), sum(|f| f.blocks));
-    let entered = functions.iter().filter(|f| f.missed.len() < f.blocks).count();
-    println!("{inputs} inputs enter {} of {blocks} blocks, {entered} of {} functions", blocks - missed, functions.len());
+    let begun = functions.iter().filter(|f| f.missed.len() < f.blocks).count();
+    println!("{inputs} inputs enter {} of {blocks} blocks, {begun} of {} functions", blocks - missed, functions.len());
     println!("answers by refusal (0: answered):{}", told(&numbers));
     for f in functions.iter().filter(|f| !f.missed.is_empty()) {
         let places: String = f.missed.iter().map(|place| format!(" +{place:x}")).collect();
