@@ -60,7 +60,7 @@ pub fn counts_alike(_text: &[u8], _k: u8, _negative: bool, _counts: &mut Counts)
 }
 
 #[cfg(feature = "linked")]
-pub use linked::{answer, check_path, counts_alike, move_job, program_text, several, smaller_call};
+pub use linked::{answer, check_path, counts_alike, move_job, nd_answer, nd_move_job, program_text, several, smaller_call, Lent};
 
 #[cfg(feature = "linked")]
 mod linked {
@@ -102,8 +102,8 @@ mod linked {
             part_sizes: *const i32, part_sizes_len: usize, part_features: *const i32, part_features_len: usize,
             rows: *const u32, rows_len: usize, positions: *const u32, positions_len: usize, score: f32, yes: *mut u32,
         ) -> u32;
-        fn nd_answer(job: *const u8, job_len: usize, text: *mut [u8; 8192]) -> u32;
-        fn nd_move_job(job: *const u8, job_len: usize, edition: u32, out: *mut u8, out_len: usize, written: *mut u64) -> u32;
+        pub fn nd_answer(job: *const u8, job_len: usize, text: *mut [u8; 8192]) -> u32;
+        pub fn nd_move_job(job: *const u8, job_len: usize, edition: u32, out: *mut u8, out_len: usize, written: *mut u64) -> u32;
         fn nd_count_chains(starts: *const u64, starts_len: usize, ends: *const u64, ends_len: usize, full: bool, cap: u32, count: *mut u32) -> u32;
         fn nd_seq_to_kmer(text: *const u8, text_len: usize, k: u8, negative: bool, letters: u8, row: *mut i32, row_len: usize) -> u32;
         fn nd_seqsim(a: *const i32, a_len: usize, b: *const i32, b_len: usize, minkfreq: u32, place: *mut f32) -> u32;
@@ -178,7 +178,7 @@ mod linked {
     }
 
     /// A buffer between words that nobody lends.
-    struct Lent<T> {
+    pub struct Lent<T> {
         words: Vec<T>,
         guard: T,
     }
@@ -186,20 +186,20 @@ mod linked {
     impl<T: Copy + PartialEq> Lent<T> {
         const GUARDS: usize = 16;
 
-        fn new(lent: &[T], guard: T) -> Lent<T> {
+        pub fn new(lent: &[T], guard: T) -> Lent<T> {
             let guards = [guard; 16];
             Lent { words: [&guards, lent, &guards].concat(), guard }
         }
 
-        fn place(&mut self) -> *mut T {
+        pub fn place(&mut self) -> *mut T {
             self.words[Self::GUARDS..].as_mut_ptr()
         }
 
-        fn lent(&self) -> &[T] {
+        pub fn lent(&self) -> &[T] {
             &self.words[Self::GUARDS..self.words.len() - Self::GUARDS]
         }
 
-        fn is_guarded(&self) -> bool {
+        pub fn is_guarded(&self) -> bool {
             let (before, behind) = (&self.words[..Self::GUARDS], &self.words[self.words.len() - Self::GUARDS..]);
             before.iter().chain(behind).all(|word| *word == self.guard)
         }

@@ -59,7 +59,7 @@ pub fn judged(asked: &Asked) -> Seen {
 }
 
 /// The records of some bytes, as far as they are whole.
-fn records(bytes: &[u8]) -> Vec<&[u8]> {
+pub fn records(bytes: &[u8]) -> Vec<&[u8]> {
     let (mut found, mut left) = (vec![], bytes);
     while let Some(length) = left.first().filter(|&&kind| shape(kind).is_some()).map(|&kind| record_length(kind)) {
         let Some((record, behind)) = left.split_at_checked(length) else { break };
