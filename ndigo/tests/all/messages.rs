@@ -196,6 +196,19 @@ fn what_cannot_be_written() {
     assert!(into.err.contains("/dev/null/folder/standard-input.job: cannot be written (Not a directory"), "{}", into.err);
 }
 
+/// Rust's runtime would put /dev/null in its place.
+#[test]
+fn a_closed_output() {
+    let ndigo = assert_cmd::cargo::cargo_bin("ndigo");
+    let folder = folder("closed-output");
+    std::fs::write(folder.join("s.tsv"), GOOD).unwrap();
+    for (redirected, status, said) in [("1>&-", 3, "standard output: cannot be written (it is closed)\n"), ("1>/dev/null", 0, ""), ("0<&-", 0, "")] {
+        let line = format!("exec \"$0\" answer s.tsv {redirected}");
+        let done = std::process::Command::new("sh").args(["-c", &line]).arg(&ndigo).current_dir(&folder).output().unwrap();
+        assert_eq!((done.status.code(), String::from_utf8(done.stderr).unwrap().as_str()), (Some(status), said), "{redirected}");
+    }
+}
+
 #[test]
 fn a_closed_pipe() {
     let mut child = std::process::Command::new(assert_cmd::cargo::cargo_bin("ndigo"))
