@@ -103,8 +103,8 @@ fn accepted_call(call: Call, r: &mut Random, size: &str, tally: &mut Tally) -> O
     let second = call_answer(&DOCUMENT, &call, &mut met);
     kinds::of_judged(&mut tally.counts, &call, &judged, &met);
     kinds::add(&mut tally.counts, format!("asked: a search of {size}"));
-    agreed(&[judged], &[second], tally, || judge::describe::call(&call));
-    Some(one_haplotype(call, std::iter::from_fn(|| Some(r.next() as u32))))
+    let must = agreed(&[judged], &[second], tally, || judge::describe::call(&call)).remove(0);
+    Some(one_haplotype(call, must, std::iter::from_fn(|| Some(r.next() as u32))))
 }
 
 fn accepted_several(several: Several, size: &str, tally: &mut Tally) -> Option<Question> {

@@ -44,7 +44,7 @@ impl By {
         match question {
             Question::Job { bytes, .. } => self.job(&shrink::bytes(bytes.clone(), |one| shows(&self.job(one)))),
             Question::Haplotype { call, rows, .. } => {
-                let of = |call: &Call| one_haplotype(call.clone(), rows.iter().copied().cycle());
+                let of = |call: &Call| one_haplotype(call.clone(), rust::judged(call).answer, rows.iter().copied().cycle());
                 of(&shrink::call(call.clone(), |one| shows(&of(one))))
             }
             Question::Haplotypes { several, .. } => several_haplotypes(shrink::several(several.clone(), |one| shows(&several_haplotypes(one.clone())))),
@@ -52,16 +52,15 @@ impl By {
     }
 }
 
-/// A search for one haplotype, its answer buffer and its report filled with these words.
-pub fn one_haplotype(call: Call, words: impl Iterator<Item = u32>) -> Question {
-    let must = rust::judged(&call).answer;
+/// A search for one haplotype with the judge's answer, its answer buffer and its report filled with these words.
+pub fn one_haplotype(call: Call, must: Answer, words: impl Iterator<Item = u32>) -> Question {
     let mut words = words.chain(std::iter::repeat(9));
     let rows = words.by_ref().take(call.answer_room).collect();
     let report = std::array::from_fn(|_| words.next().unwrap_or(9));
     Question::Haplotype { rows, report, must, call }
 }
 
-pub fn several_haplotypes(several: Several) -> Question {
+fn several_haplotypes(several: Several) -> Question {
     let must = rust::judged_several(&several).into_iter().map(|judged| judged.answer).collect();
     Question::Haplotypes { several, must }
 }
