@@ -21,7 +21,7 @@
 
 #include "../../../bindings/c/ndigomarr.h"
 
-enum { PAGE = 4096, GUARD = 64, NOISE = 1 << 16, OFFSETS = 1 << 12, PATIENCE = 300 };
+enum { PAGE = 4096, GUARD = 64, NOISE = 1 << 16, OFFSETS = 1 << 12, PATIENCE = 100 };
 enum kind { ANSWER, HAPLOTYPE, HAPLOTYPES, SPOIL, OVERREAD, BLOCKS };
 enum placing { ENDS_AT_PAGE, BEGINS_AT_PAGE, BETWEEN_GUARDS, ON_HEAP };
 enum fault { NO_FAULT, GUARD_BEFORE, GUARD_BEHIND, REST_CHANGED, TOO_LONG, QUEUE_CHANGED = 100 };

@@ -7,6 +7,7 @@ use crate::question::Question;
 use crate::tally::Tally;
 use judge::random::Random;
 use std::cell::RefCell;
+use std::time::{Duration, Instant};
 
 /// The commands of the harness: as it is, and on x86-64 with sanitizers and under valgrind.
 #[derive(Clone, Default)]
@@ -23,6 +24,8 @@ const VALGRIND_EACH: u64 = 2_000;
 const VALGRIND_AT_ONCE: usize = 64;
 /// Differences that are shrunk and kept, of one worker; the others are only counted.
 const KEPT: u64 = 3;
+/// How long one is shrunk: a call that does not return takes its time at each try.
+const SHRINKING: Duration = Duration::from_secs(120);
 
 pub struct Asking {
     commands: Commands,
@@ -90,7 +93,8 @@ impl Asking {
             }
             let harness = RefCell::new(Harness::start_quietly(command));
             let alone = |one: &Question| one.differs(&harness.borrow_mut().ask_one(one.message(how)));
-            let small = self.by.shrunk(question, &|one| alone(one).is_some());
+            let until = Instant::now() + SHRINKING;
+            let small = self.by.shrunk(question, &|one| Instant::now() < until && alone(one).is_some());
             let words = alone(&small).unwrap_or(words);
             let file = kept::keep(&format!("{}-{}", self.path, self.tally.differences + 1), &small, &words);
             self.tally.differ(|| format!("{}\n  {words}\n  {file}", small.describe()));
