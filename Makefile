@@ -1,5 +1,5 @@
 # `make run` and `make test` do all set-up themselves; README.md says what each target is for.
-.PHONY: run test changed program ndigo proofs packages texts wrong runs must-fail oracle faults fuzz bed bindings bench cluster install uninstall
+.PHONY: run test changed program ndigo proofs packages texts wrong runs must-fail oracle faults soak fuzz bed bindings bench cluster install uninstall
 
 # where `make install` puts things
 PREFIX ?= /usr/local
@@ -60,7 +60,7 @@ wrong:
 # What is run, one after the other, since two rt in one folder mix their logs. One archive serves all that link it.
 runs:
 	tools/run-examples
-	set -e; ARCHIVE_MADE=$$(tools/library); export ARCHIVE_MADE; NDIGO_NEEDS_PROGRAM=1 SHEET_WRITER=target/bin/copy_job ndigo/test; ndigo/deeper/test; oracle/run --short; bindings/test; oracle/bed/check; ndigo/build; bindings/test-install; workflow/test
+	set -e; ARCHIVE_MADE=$$(tools/library); export ARCHIVE_MADE; NDIGO_NEEDS_PROGRAM=1 SHEET_WRITER=target/bin/copy_job ndigo/test; ndigo/deeper/test; oracle/run --short; oracle/soak --short; bindings/test; oracle/bed/check; ndigo/build; tools/around; bindings/test-install; workflow/test
 
 # What stands on one line runs at the same time. rt ci stands last: its last line, 'N passed, 0 failed', is the gate's. It proves all from nothing, so what runs before it builds for itself.
 test:
@@ -83,6 +83,11 @@ oracle:
 faults:
 	oracle/setup
 	oracle/faults
+
+# Ten million damaged jobs and a million accepted ones, put to the library.
+soak:
+	oracle/setup
+	oracle/soak
 
 fuzz: program
 	tools/fuzz --seed 1

@@ -92,7 +92,8 @@ pub enum Command {
         #[command(flatten)]
         time: Time,
     },
-    /// The sheet as job bytes, the form that the program ndigomarr reads: in edition 2 where the sheet has a column 'record' or the setting 'letters', or --settings brings letters 1, else in edition 1
+    /// The sheet as job bytes, the form that the program ndigomarr reads: in edition 2 where the sheet has a column 'record' or the setting
+    /// 'letters', or --settings brings letters 1, else in edition 1
     Job {
         #[command(flatten)]
         sheets: Sheets,

@@ -4,6 +4,7 @@ pub mod asked;
 pub mod batch;
 pub mod book;
 pub mod check;
+pub mod closed;
 pub mod commands;
 pub mod deeper;
 pub mod draw;

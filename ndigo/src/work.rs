@@ -1,4 +1,5 @@
 //! The commands over their files: read, worked side by side, written in the order of the files.
+use crate::closed;
 use crate::fault::Failure;
 use indicatif::{ProgressBar, ProgressDrawTarget, ProgressState, ProgressStyle};
 use rayon::prelude::*;
@@ -72,6 +73,9 @@ pub fn say(words: &str) {
 
 /// Writes to standard output and sees it through.
 pub fn put(bytes: &[u8]) -> Result<(), Failure> {
+    if closed::output_was_closed() {
+        return Err(Failure::Unwritable(std::io::Error::other("it is closed")));
+    }
     let mut out = std::io::stdout().lock();
     out.write_all(bytes).and_then(|()| out.flush()).map_err(Failure::Unwritable)
 }

@@ -184,7 +184,11 @@ fn help_states_every_default() {
 fn help_tells_what_is_misread_in_an_answer() {
     for command in [&[][..], &["answer"], &["draw"], &["deeper"], &["batch"], &["bed"]] {
         let help = call(&[command, &["--help"]].concat(), b"").text().split_whitespace().collect::<Vec<_>>().join(" ");
-        for words in ["not names, and a copy sorted since has other rows", "whether those were all ('complete'): if not, better ones may exist", "the one scored later wins, which need not be the lower in the table"] {
+        for words in [
+            "not names, and a copy sorted since has other rows",
+            "whether those were all ('complete'): if not, better ones may exist",
+            "the one scored later wins, which need not be the lower in the table",
+        ] {
             assert!(help.contains(words), "{command:?}: {words}");
         }
     }
@@ -205,6 +209,19 @@ fn what_cannot_be_written() {
     let into = call(&["job", "-", "--into", "/dev/null/folder"], GOOD.as_bytes());
     assert_eq!(into.status, 3);
     assert!(into.err.contains("/dev/null/folder/standard-input.job: cannot be written (Not a directory"), "{}", into.err);
+}
+
+/// Rust's runtime would put /dev/null in its place.
+#[test]
+fn a_closed_output() {
+    let ndigo = assert_cmd::cargo::cargo_bin("ndigo");
+    let folder = folder("closed-output");
+    std::fs::write(folder.join("s.tsv"), GOOD).unwrap();
+    for (redirected, status, said) in [("1>&-", 3, "standard output: cannot be written (it is closed)\n"), ("1>/dev/null", 0, ""), ("0<&-", 0, "")] {
+        let line = format!("exec \"$0\" answer s.tsv {redirected}");
+        let done = std::process::Command::new("sh").args(["-c", &line]).arg(&ndigo).current_dir(&folder).output().unwrap();
+        assert_eq!((done.status.code(), String::from_utf8(done.stderr).unwrap().as_str()), (Some(status), said), "{redirected}");
+    }
 }
 
 #[test]

@@ -382,7 +382,12 @@ fn read_by(r: &mut Random, job: &mut Job) {
 
 /// A library call of at most the given cost; more costly ones score fewer chains.
 pub fn call(r: &mut Random, budget: u64) -> Call {
-    let mut job = if r.chance(1) { job_at_limits(r) } else { job(r, LIBRARY) };
+    let job = if r.chance(1) { job_at_limits(r) } else { job(r, LIBRARY) };
+    call_of(r, job, budget)
+}
+
+/// The call of such a job, now and then with one value of it put out of its range.
+pub fn call_of(r: &mut Random, mut job: Job, budget: u64) -> Call {
     if r.chance(5) {
         disturb_job(r, &mut job);
     }

@@ -32,6 +32,14 @@ impl Settings {
         [self.sizesim, self.seqsim, self.fpenalty, self.gpenalty]
     }
 
+    /// As the library takes them: flags as 0 and 1, floats by their bits.
+    pub fn words(&self) -> [u32; 14] {
+        let [sizesim, seqsim, fpenalty, gpenalty] = self.floats().map(f32::to_bits);
+        let [squish, one_to_one, full] = [self.squish, self.one_to_one, self.full].map(u32::from);
+        let [maxpaths, maxnodes, fnmax, pileupmax, minkfreq] = self.wholes();
+        [self.k.into(), squish, one_to_one, full, maxpaths, maxnodes, fnmax, pileupmax, minkfreq, self.letters, sizesim, seqsim, fpenalty, gpenalty]
+    }
+
     /// 4^k, the entries of a feature row
     pub fn entries(&self) -> usize {
         1 << (2 * self.k)

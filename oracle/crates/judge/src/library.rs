@@ -68,7 +68,6 @@ mod linked {
     use crate::answer::Target;
     use crate::call::{counted, magnitudes};
     use crate::document::features;
-    use crate::job::Settings;
     use crate::meta::{self, Asked};
     use crate::rules::DOCUMENT;
     use crate::{generate, kinds, rust};
@@ -116,14 +115,6 @@ mod linked {
     const MARK: u32 = 0xdead_0001;
     const MARK_KEY: u64 = 0xdead_0002_0000_0003;
 
-    /// The settings as the archive takes them: flags as 0 and 1, floats by their bits.
-    fn words(s: &Settings) -> [u32; 14] {
-        let [sizesim, seqsim, fpenalty, gpenalty] = [s.sizesim, s.seqsim, s.fpenalty, s.gpenalty].map(f32::to_bits);
-        let [squish, one_to_one, full] = [s.squish, s.one_to_one, s.full].map(u32::from);
-        let [maxpaths, maxnodes, fnmax, pileupmax, minkfreq] = s.wholes();
-        [s.k.into(), squish, one_to_one, full, maxpaths, maxnodes, fnmax, pileupmax, minkfreq, s.letters, sizesim, seqsim, fpenalty, gpenalty]
-    }
-
     /// The answer in a refusal's number, the fronts of the buffers and the words of the report after the first.
     fn answer_of(refusal: u32, rows: &[u32], records: &[u32], [target, score, sizesim, seqsim, scored, complete]: [u32; 6]) -> Answer {
         Answer {
@@ -153,7 +144,7 @@ mod linked {
         // SAFETY: every pointer comes with its slice's length, and no two overlap.
         let refusal = unsafe {
             nd_apply_haplotype(
-                &words(&call.settings),
+                &call.settings.words(),
                 call.starts.as_ptr(), call.starts.len(), call.ends.as_ptr(), call.ends.len(),
                 call.sizes.as_ptr(), call.sizes.len(), call.features.as_ptr(), call.features.len(),
                 call.numbers.as_ptr(), call.numbers.len(),
@@ -214,7 +205,7 @@ mod linked {
         // SAFETY: every pointer comes with its slice's length, and no two overlap.
         let returned = unsafe {
             nd_apply_haplotypes(
-                &words(&call.settings),
+                &call.settings.words(),
                 call.starts.as_ptr(), call.starts.len(), call.ends.as_ptr(), call.ends.len(),
                 call.sizes.as_ptr(), call.sizes.len(), call.features.as_ptr(), call.features.len(),
                 call.numbers.as_ptr(), call.numbers.len(),
@@ -265,7 +256,7 @@ mod linked {
         // SAFETY: every pointer comes with its slice's length.
         let number = unsafe {
             nd_check_path(
-                &words(&call.settings),
+                &call.settings.words(),
                 call.starts.as_ptr(), call.starts.len(), call.ends.as_ptr(), call.ends.len(),
                 call.sizes.as_ptr(), call.sizes.len(), call.features.as_ptr(), call.features.len(),
                 call.part_sizes.as_ptr(), call.part_sizes.len(), call.part_features.as_ptr(), call.part_features.len(),
