@@ -6,7 +6,7 @@ use native.Mathlib.Omega.{arith}
 use mathlib.Core.Path.{◌≡◌, refl, sym, ap, subst, ◌∙◌}
 use mathlib.Core.Bool.{Bool, true, false, not, cond, ◌&&◌, ◌||◌}
 use mathlib.Core.List.{List, [], ◌∷◌, ◌++◌, map}
-use borrow.Author.Tests.{ltb-true, ltb-false, le-ltb, eqb-true, eq-eqb, not_false}
+use borrow.Author.Tests.{ltb-true, ltb-false, le-ltb, eqb-true, eq-eqb, not-false}
 use lib.Dec.{ltb, eqb}
 use lib.ListN.{length, get_or, length-map, get_or-append}
 use lib.Seq.{get_or-append_seam}
@@ -137,7 +137,7 @@ module _ (n : Numbered) where
     accepted_as = same_fault from_six.0 none_repeated from_six.1.1.1.1.1.1.1.1.1.1.1.0
 
     v_numbers : length n.numbers ≡ length n.call.table.starts
-    v_numbers = eqb-true (length n.numbers) (length n.call.table.starts) (not_false _ from_six.0)
+    v_numbers = eqb-true (length n.numbers) (length n.call.table.starts) (not-false _ from_six.0)
 
     names_one : (r s : ℕ) → r < length n.call.table.starts → s < length n.call.table.starts → get_or n.numbers r 0 ≡ get_or n.numbers s 0 → r ≡ s
     names_one r s hr hs q = different n.numbers none_repeated r s (omega (arith, v_numbers)) (omega (arith, v_numbers)) q

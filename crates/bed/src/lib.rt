@@ -1,4 +1,6 @@
 // BED in and out (document 02, P4): a table of up to 64 rows read from a text, and chosen rows of a table written as one.
+#![tactic(auto)]
+
 mod lines;
 mod parts;
 mod rows;

@@ -7,7 +7,7 @@ use mathlib.Core.List.{List, [], ◌∷◌, ◌++◌, append-nil}
 use lib.Dec.{leb, eqb}
 use lib.ListN.{length, get_or, take, drop, length-drop, drop_of_length-le}
 use lib.Seq.{length-take-le}
-use borrow.Author.Tests.{leb-true, leb-false, ltb-false, eqb-true, not_false, eq-eqb, le-leb, lt-leb, lt-ltb, le-ltb}
+use borrow.Author.Tests.{leb-true, leb-false, ltb-false, eqb-true, not-false, eq-eqb, le-leb, lt-leb, lt-ltb, le-ltb}
 use Rattle.paths.proofs.BooleanLaws.{and_both}
 use Rattle.params.specs.Numbers.{Rule, first_of, any_below}
 use Rattle.params.proofs.CheckLaws.{given, passed, Passed, stops, goes_on, none_given, any_where, or_no}
@@ -53,10 +53,10 @@ module _ (book : List ℕ) (sound : broken book ≡ false) where
   rules_kept = or_no _ _ sound
 
   pub good_at : (i : ℕ) → i < versions_of book → Good book (place_of i) (i + 1)
-  good_at i h = good_told book (place_of i) (i + 1) (not_false _ (any_where (bad_version book) (versions_of book) rules_kept.0 i h))
+  good_at i h = good_told book (place_of i) (i + 1) (not-false _ (any_where (bad_version book) (versions_of book) rules_kept.0 i h))
 
   pub zeros_behind : all_zero (drop (place_of (versions_of book)) book) ≡ true
-  zeros_behind = not_false _ rules_kept.1
+  zeros_behind = not-false _ rules_kept.1
 
 -- ---- reading: 48, 45
 module _ (book : List ℕ) (v : ℕ) where
@@ -87,7 +87,7 @@ module _ (book : List ℕ) (v : ℕ) where
   unfolding read_fault
   found fault e z =
       let p = none_given (read_rules book v) refl (sym e ∙ z) in
-      let there = and_both _ _ (not_false _ p.1.0) in
+      let there = and_both _ _ (not-false _ p.1.0) in
       let l : 1 ≤ v = leb-true _ _ there.0 in
       let h : v ≤ versions_of book = leb-true _ _ there.1 in
       record { sound = p.0; low = l; high = h; whole = (good_at book p.0 (v - 1) (omega arith)).whole }

@@ -1,5 +1,7 @@
 // Settings with versions (document 02, P9): a book in a lent buffer. Saving adds the next version, reading one gives the settings saved under it,
 // going back to one saves its settings again. The bytes are kept as they are lent.
+#![tactic(auto)]
+
 mod records;
 
 ghost use Rattle.std.specs.Prelude.{◌≡◌};

@@ -4,7 +4,7 @@ use native.Mathlib.Omega.{arith}
 use mathlib.Core.Path.{◌≡◌, refl, sym, ap, ◌∙◌}
 use mathlib.Core.Bool.{Bool, true, false, not}
 use mathlib.Core.List.{List}
-use borrow.Author.Tests.{ltb-true, ltb-false, lt-ltb, le-ltb, eq-eqb, ne_eqb, eqb-true, not_false}
+use borrow.Author.Tests.{ltb-true, ltb-false, lt-ltb, le-ltb, eq-eqb, ne_eqb, eqb-true, not-false}
 use lib.Dec.{ltb, eqb}
 use lib.ListN.{length, take}
 use lib.Seq.{length-take-le}
@@ -65,11 +65,11 @@ module _ (c : Companions) where
   -- where 49 is not given, the table has no fault and the sheet is its own
   pub sound_table : not_its_sheet c ≡ false → fault ≡ 0
   unfolding not_its_sheet
-  sound_table h = eqb-true fault 0 (not_false (eqb fault 0) (or_no (not (eqb fault 0)) _ h).0)
+  sound_table h = eqb-true fault 0 (not-false (eqb fault 0) (or_no (not (eqb fault 0)) _ h).0)
 
   pub sound_sheet : not_its_sheet c ≡ false → c.sheet ≡ own
   unfolding not_its_sheet
-  sound_sheet h = same_told c.sheet own (not_false (same_flags c.sheet own) (or_no (not (eqb fault 0)) _ h).1)
+  sound_sheet h = same_told c.sheet own (not-false (same_flags c.sheet own) (or_no (not (eqb fault 0)) _ h).1)
 
   pub sound : fault ≡ 0 → c.sheet ≡ own → not_its_sheet c ≡ false
   sound z e = sym (by_sheet refl z refl (sym (same_itself own) ∙ ap (λ (l : List Bool). same_flags l own) (sym e)))

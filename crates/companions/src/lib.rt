@@ -1,5 +1,7 @@
 // A companions sheet (document 02, P8): beside a table of up to 64 rows, for every row the later rows that it does not overlap.
 // Table and sheet are lent with each call, and a call is refused by 49 where the one is not the other's.
+#![tactic(auto)]
+
 mod checks;
 mod sheet;
 

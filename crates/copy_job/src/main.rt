@@ -1,4 +1,6 @@
 // Reads one job and writes it anew with the proved writer, in the edition that it was in; writes nothing where the job is refused. What ndigo makes is held to it.
+#![tactic(auto)]
+
 ghost use Rattle.std.specs.Prelude.{◌≤◌};
 
 use form::records::{Counts, Edition, edition_of};

@@ -5,7 +5,7 @@ use native.Mathlib.Numerals.{add-one}
 use native.Mathlib.Nat.{suc-mul, add-mul, zero-add}
 use mathlib.Core.Path.{◌≡◌, refl, sym, ap, subst, ◌∙◌}
 use mathlib.Core.Bool.{true, false, ◌||◌}
-use mathlib.Core.List.{List, [], ◌∷◌, ◌++◌, append_assoc, flatten, map, map_append}
+use mathlib.Core.List.{List, [], ◌∷◌, ◌++◌, append_assoc, flatten, map, map-append}
 use lib.Dec.{ltb}
 use lib.IntN.{ℤ}
 use lib.ListN.{length, get_or, take, drop, length-append, length-map, drop_of_length-le, get_or-append}
@@ -159,7 +159,7 @@ module _ (reading k : ℕ) where
   stretch_is done xs more =
       let size : Part → ℤ = λ (x : Part). x.size in
       let a : map size (done ++ (xs ++ more)) ≡ map size done ++ (map size xs ++ map size more) =
-      map_append size done (xs ++ more) ∙ ap (λ (l : List ℤ). map size done ++ l) (map_append size xs more) in
+      map-append size done (xs ++ more) ∙ ap (λ (l : List ℤ). map size done ++ l) (map-append size xs more) in
       let b : part_features reading k (done ++ (xs ++ more)) ≡ part_features reading k done ++ (part_features reading k xs ++ part_features reading k more) =
       features_append reading k done (xs ++ more) ∙ ap (λ (l : List ℤ). part_features reading k done ++ l) (features_append reading k xs more) in
       let m = length-map xs size in

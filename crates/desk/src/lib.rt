@@ -1,4 +1,6 @@
 // One job in, its lines of text out, in fixed memory: what the program does.
+#![tactic(auto)]
+
 mod blocks;
 mod features;
 mod memory;

@@ -1,5 +1,7 @@
 // What stands above the search: the record numbers of a table's variants (document 02, P3), for one haplotype and for several (P1), and the data that a
 // haplotype carries (P12).
+#![tactic(auto)]
+
 mod numbers;
 mod records;
 pub mod told;

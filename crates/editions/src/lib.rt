@@ -1,4 +1,6 @@
 // Moves a job from one edition of the form to the other (document 02, P7), and back exactly when that loses nothing.
+#![tactic(auto)]
+
 mod walk;
 
 ghost use Rattle.std.specs.Prelude.{◌≡◌, length};

@@ -1,4 +1,6 @@
 // Little-endian fields of a slice. Past its end a byte is read as 0 and none is stored.
+#![tactic(auto)]
+
 ghost use Rattle.std.specs.Prelude.{◌≡◌, ◌+◌, ◌<◌, ◌^◌};
 ghost use Rattle.std.proofs.lemmas.List.Edits.{sets};
 ghost use Rattle.fields.specs.Fields.{le2, bytes2};

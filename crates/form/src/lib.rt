@@ -1,4 +1,6 @@
 // The job form: its records, the first fault, and the body of the settings.
+#![tactic(auto)]
+
 pub mod records;
 pub mod settings;
 

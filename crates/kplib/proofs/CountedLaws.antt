@@ -6,7 +6,7 @@ use mathlib.Core.List.{List}
 use mathlib.Core.Bool.{false}
 use lib.Dec.{eqb}
 use lib.ListN.{length}
-use borrow.Author.Tests.{ltb-false, eqb-true, not_false}
+use borrow.Author.Tests.{ltb-false, eqb-true, not-false}
 use Rattle.kplib.specs.declared.vargraph.ChainCount.TheVariants.{Chains, Refused}
 use Rattle.params.specs.Numbers.{falling_start, chain_count_rules, chain_count_fault}
 use Rattle.kplib.specs.Graph.{count_case}
@@ -26,7 +26,7 @@ pub count_ready : (starts ends : List ℕ) (cap found : ℕ) → found ≡ chain
 unfolding chain_count_fault
 count_ready starts ends cap found e z =
     let p = none_given (chain_count_rules cap starts ends) refl (sym e ∙ z) in (
-      eqb-true (length ends) (length starts) (not_false (eqb (length ends) (length starts)) p.1.1.1.0),
+      eqb-true (length ends) (length starts) (not-false (eqb (length ends) (length starts)) p.1.1.1.0),
       ltb-false 64 (length starts) p.1.1.0,
       ltb-false 4096 cap p.0,
       p.1.1.1.1.1.0,

@@ -1,4 +1,6 @@
 // The search core: part lists, graph, score, search.
+#![tactic(auto)]
+
 pub mod checkpath;
 mod haplotype;
 pub mod haplotypes;

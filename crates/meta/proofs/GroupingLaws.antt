@@ -5,7 +5,7 @@ use native.Mathlib.Nat.{add_assoc, add-zero, zero-add}
 use mathlib.Core.Path.{◌≡◌, refl, sym, ap, ◌∙◌}
 use mathlib.Core.Bool.{Bool, true, false}
 use mathlib.Core.List.{List}
-use borrow.Author.Tests.{le-ltb, ltb-true, ltb-false, eqb-true, not_false}
+use borrow.Author.Tests.{le-ltb, ltb-true, ltb-false, eqb-true, not-false}
 use lib.Dec.{ltb, eqb}
 use lib.ListN.{length, get_or}
 use lib.Bits.{or_zero_l, or_zero_r}
@@ -44,7 +44,7 @@ module _ (a b : HaplotypeMeta) where
   accepted_fit z =
       let p = combine_passed a b z in record {
         counted = (or_no (bad_samples a.samples) (bad_samples b.samples) p.0).0;
-        equal = eqb-true a.samples b.samples (not_false (eqb a.samples b.samples) p.1.0);
+        equal = eqb-true a.samples b.samples (not-false (eqb a.samples b.samples) p.1.0);
         sums = λ i l. sum_fits a.samples a.coverage b.coverage p.1.1.0 i l;
       }
 

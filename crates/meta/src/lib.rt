@@ -1,4 +1,6 @@
 // Whose reads these were (document 02, P12): the data of 1 to 8 samples that a haplotype carries, kanpig's `HaplotypeMeta` without its read names.
+#![tactic(auto)]
+
 mod arrays;
 mod checks;
 pub mod lists;

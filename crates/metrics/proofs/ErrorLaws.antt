@@ -9,7 +9,7 @@ use native.Mathlib.Nat.{mul-sub, eq_of_mul-eq-mul_left}
 use lib.Dec.{is_le, compare_is_eq, nleb→lt}
 use lib.Pow.{pow-lt}
 use lib.Ieee.{Float, nan, inf, fin, Format, binary32, prec, emax, low, up, down, size, nearest, round, sum, sub, div, of_int}
-use lib.Ieee.Digits.{size-lt, size_le}
+use lib.Ieee.Digits.{size-lt, size-le}
 use lib.Ieee.Fits.{down_pos, nearest-le, two, two-le_pos}
 use lib.Ieee.Exact.{HasValue, round_exact}
 use lib.Ieee.Back.{round_whole}
@@ -66,7 +66,7 @@ spare z p j h = omega arith
 
 module _ (f : Format) (a c j : ℕ) (C : 0 < c) (below : a * 2 ^ low f < 2 ^ (prec f + j) * c) where
   dropped : drop (prec f) (a * 2 ^ low f) c ≤ j
-  dropped = spare (size (a * 2 ^ low f / c)) (prec f) j (size_le (a * 2 ^ low f / c) (prec f + j) ((div-lt_iff_lt-mul C).1 below))
+  dropped = spare (size (a * 2 ^ low f / c)) (prec f) j (size-le (a * 2 ^ low f / c) (prec f + j) ((div-lt_iff_lt-mul C).1 below))
 
   -- it is off by at most half of 2 ^ j
   pub round_near : Near (c * 2 ^ j) (grid f a c * c * 2) (a * 2 ^ low f * 2)

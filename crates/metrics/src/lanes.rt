@@ -64,7 +64,7 @@ fn kept(t: u32, minkfreq: u32, v: u32) -> u32
 }
 
 // Document 01's d and n, and a number that no magnitude passes.
-#[derive(Drop)]
+#[derive(Clone, Copy)]
 pub(crate) struct Sums {
     pub(crate) d: u32,
     pub(crate) n: u32,
@@ -139,7 +139,7 @@ fn count_over(a: &[i32], limit: u32) -> bool
 }
 
 // The magnitudes of a row, summed, and a number that no magnitude passes.
-#[derive(Drop)]
+#[derive(Clone, Copy)]
 pub(crate) struct RowSum {
     sum: u32,
     most: u32,

@@ -1,5 +1,7 @@
 // Answers a list of inputs of the metrics crate, one line for each. The list is the file stdin, and the file stdout is what kanpig's Rust
 // said to it; oracle/vectors tells how both are made and what a line holds. Here only safety is proved.
+#![tactic(auto)]
+
 ghost use Rattle.std.specs.Prelude.{◌≤◌, ◌<◌, ◌+◌, length};
 
 use libc::{STDIN_FILENO, STDOUT_FILENO};

@@ -6,7 +6,7 @@ use native.Mathlib.Nat.{zero-mul}
 use mathlib.Core.Path.{◌≡◌, refl, ◌∙◌}
 use mathlib.Core.Bool.{false, not, ◌&&◌}
 use mathlib.Core.List.{List, [], ◌∷◌, ◌++◌}
-use borrow.Author.Tests.{leb-true, ltb-false, eqb-true, not_false}
+use borrow.Author.Tests.{leb-true, ltb-false, eqb-true, not-false}
 use lib.Dec.{leb, eqb}
 use lib.ListN.{length, get_or}
 use Rattle.paths.proofs.BooleanLaws.{and_both}
@@ -131,12 +131,12 @@ module _ (c : Several) (zeroFault : several_fault c ≡ 0) where
 
   pub as_many_ends : length c.feature_ends ≡ haplotypes c
   as_many_ends =
-      eqb-true (length c.feature_ends) (haplotypes c) (not_false (eqb (length c.feature_ends) (haplotypes c))
+      eqb-true (length c.feature_ends) (haplotypes c) (not-false (eqb (length c.feature_ends) (haplotypes c))
       (or_no (not (eqb (length c.feature_ends) (haplotypes c))) _ all_passed.1.1.1.1.1.1.1.1.1.0).0)
 
   pub haplotype_count : (1 ≤ haplotypes c) × (haplotypes c ≤ 16)
   haplotype_count =
-      let both = and_both (leb 1 (haplotypes c)) (leb (haplotypes c) 16) (not_false (leb 1 (haplotypes c) && leb (haplotypes c) 16) all_passed.1.1.1.1.0) in
+      let both = and_both (leb 1 (haplotypes c)) (leb (haplotypes c) 16) (not-false (leb 1 (haplotypes c) && leb (haplotypes c) 16) all_passed.1.1.1.1.0) in
       (leb-true 1 (haplotypes c) both.0, leb-true (haplotypes c) 16 both.1)
 
   -- stretch i of the parts and of the features

@@ -6,7 +6,7 @@ use native.Mathlib.Omega.{arith}
 use native.Mathlib.Nat.{mul-le-mul_right}
 use mathlib.Core.Bool.{Bool, true, false, not, ◌&&◌}
 use mathlib.Core.List.{List, [], ◌∷◌}
-use borrow.Author.Tests.{ltb-true, ltb-false, leb-true, eqb-true, eqb-false, not_false}
+use borrow.Author.Tests.{ltb-true, ltb-false, leb-true, eqb-true, eqb-false, not-false}
 use lib.Dec.{leb, ltb, eqb}
 use lib.IntN.{ℤ, pos, nat_abs}
 use lib.ListN.{length, get_or, take, drop_of_length-le}
@@ -20,7 +20,7 @@ use Rattle.params.specs.Numbers.{settings_rules, length_rules, room_rules, call_
 use Rattle.params.proofs.CheckLaws.{Passed, none_given, or_no, any_where}
 
 agreed : (a b : ℕ) → not (eqb a b) ≡ false → a ≡ b
-agreed a b e = eqb-true a b (not_false (eqb a b) e)
+agreed a b e = eqb-true a b (not-false (eqb a b) e)
 
 pub record Settled (s : Settings) : Type 0 where
   pub k_low : 1 ≤ s.k
@@ -32,7 +32,7 @@ pub record Settled (s : Settings) : Type 0 where
 pub settled : (s : Settings) → Passed (settings_rules s) → Settled s
 unfolding bad_k bad_number
 settled s p =
-    let k = and_both (leb 1 s.k) (leb s.k 6) (not_false (leb 1 s.k && leb s.k 6) p.0) in
+    let k = and_both (leb 1 s.k) (leb s.k 6) (not-false (leb 1 s.k && leb s.k 6) p.0) in
     let a = or_no (ltb 4095 s.maxpaths) _ p.1.1.0 in
     let b = or_no (ltb 65535 s.maxnodes) _ a.1 in
     let c = or_no (ltb 65535 s.fnmax) _ b.1 in

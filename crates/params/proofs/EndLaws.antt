@@ -5,7 +5,7 @@ use native.Mathlib.Numerals.{add-one}
 use mathlib.Core.Path.{◌≡◌, sym, ap, ◌∙◌}
 use mathlib.Core.Bool.{Bool, true, false, not}
 use mathlib.Core.List.{List}
-use borrow.Author.Tests.{lt-ltb, le-ltb, ltb-false, eqb-true, not_false}
+use borrow.Author.Tests.{lt-ltb, le-ltb, ltb-false, eqb-true, not-false}
 use lib.Dec.{ltb, eqb}
 use lib.ListN.{length, get_or}
 use Rattle.params.specs.Numbers.{any_below, disagrees}
@@ -55,7 +55,7 @@ module _ (ends : List ℕ) where
 
     pub within_slice : (i : ℕ) → i < length ends → (begin_of ends i ≤ get_or ends i 0) × (get_or ends i 0 ≤ n)
     within_slice i l =
-        let last = eqb-true (begin_of ends (length ends)) n (not_false (eqb (begin_of ends (length ends)) n) both.1) in
+        let last = eqb-true (begin_of ends (length ends)) n (not-false (eqb (begin_of ends (length ends)) n) both.1) in
         let z : suc i + (length ends - suc i) ≡ length ends = omega arith in
         let up : get_or ends i 0 ≤ begin_of ends (length ends) = rw z at (climbs (suc i) (length ends - suc i) (omega arith)) in
         (rises i l, omega arith)

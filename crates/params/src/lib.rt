@@ -1,4 +1,6 @@
 // The settings of a job and the checks of a call: all that is asked before any work is done.
+#![tactic(auto)]
+
 pub mod checks;
 pub mod graphparams;
 pub mod order;

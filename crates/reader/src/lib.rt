@@ -1,4 +1,6 @@
 // Reads a job: a first pass that changes nothing, and a second that fills lent slices.
+#![tactic(auto)]
+
 pub mod fill;
 pub mod numbers;
 

@@ -1,5 +1,7 @@
 // Answers a stored list of jobs, each as four bytes of length and its own bytes. Its file 'stdout' is what kanpig's Rust said of them
 // (oracle/README.md).
+#![tactic(auto)]
+
 use fields::u32_at;
 
 fn read_bytes(into: &mut [u8], length: usize) {

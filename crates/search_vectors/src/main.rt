@@ -1,4 +1,6 @@
 // Answers a stored list of library calls. Its file 'stdout' is what kanpig's Rust said of them (oracle/README.md).
+#![tactic(auto)]
+
 mod list;
 mod print;
 

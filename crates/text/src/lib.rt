@@ -1,4 +1,6 @@
 // The text that the program prints, stored in a lent slice from a place on. What does not fit is not written. Each returns the place behind.
+#![tactic(auto)]
+
 mod lines;
 pub mod pieces;
 

@@ -1,4 +1,6 @@
 // Writes a job into a lent slice, in either edition of the form. The editions differ in the records of settings and variants alone, and so do the few functions here that look at it.
+#![tactic(auto)]
+
 ghost use Rattle.std.specs.Prelude.{◌≡◌, ◌∷◌, ◌≤◌, ◌<◌, ◌+◌, ◌^◌, suc, ◌*◌, ◌-◌, eqb, length, take, drop, get_or};
 ghost use Rattle.std.proofs.lemmas.List.Edits.{sets};
 ghost use Rattle.std.proofs.Math.Seq.{slice};

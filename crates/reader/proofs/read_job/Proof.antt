@@ -4,7 +4,7 @@ use mathlib.Core.Path.{◌≡◌, sym, ◌∙◌}
 use mathlib.Core.Bool.{true}
 use Prim.Native.Nat.{◌≤◌}
 use lib.ListN.{length}
-use borrow.Author.Tests.{not_true, not_false}
+use borrow.Author.Tests.{not-true, not-false}
 use Rattle.form.specs.declared.records.Counts.{Counts}
 use Rattle.form.specs.declared.records.Scan.TheVariants.{Good}
 use Rattle.form.specs.Form.{run, outset}
@@ -35,13 +35,13 @@ abbrev found1 : tie.Else1 → tie.After-found2
 found1 c = c.before.before.before
 
 rows_room : (c : tie.Else1) → rows_room (counts (found1 c)) (slices (begin (found1 c))) ≡ true
-rows_room c = sym c.before.rows_fit.ensures ∙ not_false _ c.if1.false
+rows_room c = sym c.before.rows_fit.ensures ∙ not-false _ c.if1.false
 
 abbrev found2 : tie.Else2 → tie.After-found2
 found2 c = found1 c.before.before
 
 parts-room : (c : tie.Else2) → parts_room (counts (found2 c)) (slices (begin (found2 c))) ≡ true
-parts-room c = sym c.before.parts_fit_lem.ensures ∙ not_false _ c.if2.false
+parts-room c = sym c.before.parts_fit_lem.ensures ∙ not-false _ c.if2.false
 
 -- all is checked
 abbrev found : tie.Else4 → tie.After-found2
@@ -72,7 +72,7 @@ rows-fit-requires : tie.Need-rows-fit-requires
 rows-fit-requires c κs = search rules
 
 returns : tie.Need-returns
-returns c = crowded_rows _ (good c.before.before.before) _ (sym c.before.rows_fit.ensures ∙ not_true _ c.if1.true)
+returns c = crowded_rows _ (good c.before.before.before) _ (sym c.before.rows_fit.ensures ∙ not-true _ c.if1.true)
 
 parts-fit-requires : tie.Need-parts-fit-requires
 parts-fit-requires c κs = search rules
@@ -80,7 +80,7 @@ parts-fit-requires c κs = search rules
 returns-2 : tie.Need-returns-2
 returns-2 c =
     let r = c.before.before in
-    crowded_parts _ (good (found1 r)) _ (rows_room r) (sym c.before.parts_fit_lem.ensures ∙ not_true _ c.if2.true)
+    crowded_parts _ (good (found1 r)) _ (rows_room r) (sym c.before.parts_fit_lem.ensures ∙ not-true _ c.if2.true)
 
 returns-3 : tie.Need-returns-3
 returns-3 c =

@@ -1,7 +1,7 @@
 -- The tests are those of the definition, in its order.
 use mathlib.Core.Path.{◌≡◌, sym, ◌∙◌}
 use mathlib.Core.Bool.{true, false}
-use borrow.Author.Tests.{not_true, not_false}
+use borrow.Author.Tests.{not-true, not-false}
 use Rattle.form.specs.Lent.{Lent, lent}
 use Rattle.writer.specs.Writing.{any_over, agree}
 use Rattle.writer.proofs.JobLaws.{counted, rows_agree, parts_agree, letters_agree, all_agree}
@@ -26,25 +26,25 @@ abbrev start2 : tie.Else2 → tie.Start
 start2 c = start1 (few_breaks c)
 
 numbered : (c : tie.Else2) → counted (start2 c).args.edition (start2 c).args.numbers.now (start2 c).args.settings (slices (start2 c)) ≡ true
-numbered c = sym c.before.numbers-agree.ensures ∙ not_false _ c.if2.false
+numbered c = sym c.before.numbers-agree.ensures ∙ not-false _ c.if2.false
 
 abbrev start3 : tie.Else3 → tie.Start
 start3 c = start2 c.before.before
 
 rows-agreed : (c : tie.Else3) → rows_agree (slices (start3 c)) ≡ true
-rows-agreed c = sym c.before.rows_agree.ensures ∙ not_false _ c.if3.false
+rows-agreed c = sym c.before.rows_agree.ensures ∙ not-false _ c.if3.false
 
 abbrev start4 : tie.Else4 → tie.Start
 start4 c = start3 c.before.before
 
 parts-agreed : (c : tie.Else4) → parts_agree (slices (start4 c)) ≡ true
-parts-agreed c = sym c.before.parts-agree.ensures ∙ not_false _ c.if4.false
+parts-agreed c = sym c.before.parts-agree.ensures ∙ not-false _ c.if4.false
 
 abbrev start5 : tie.Else5 → tie.Start
 start5 c = start4 c.before.before
 
 letters-agreed : (c : tie.Else5) → letters_agree (slices (start5 c)) ≡ true
-letters-agreed c = sym c.before.letters-agree.ensures ∙ not_false _ c.if5.false
+letters-agreed c = sym c.before.letters-agree.ensures ∙ not-false _ c.if5.false
 
 abbrev start : tie.Else6 → tie.Start
 start c = start5 c.before.before
@@ -55,7 +55,7 @@ counts-right c = c.before.before.before.before.before.before.before.before
 agreeing : (c : tie.Else6) → agree (slices (start c)) ≡ true
 agreeing c =
     let l = c.before.before in let p = l.before.before in let r = p.before.before in
-    all_agree (slices (start c)) (rows-agreed r) (parts-agreed p) (letters-agreed l) (sym c.before.breaks-agree.ensures ∙ not_false _ c.if6.false)
+    all_agree (slices (start c)) (rows-agreed r) (parts-agreed p) (letters-agreed l) (sym c.before.breaks-agree.ensures ∙ not-false _ c.if6.false)
 
 -- `letters` is a flag, and no sequence is too long
 abbrev agreed : tie.Else7 → tie.Else6
@@ -74,14 +74,14 @@ numbers-agree-requires : tie.Need-numbers-agree-requires
 numbers-agree-requires c κs = search rules
 
 returns-2 : tie.Need-returns-2
-returns-2 c = fault_numbers _ _ _ _ c.before.before.if1.false (sym c.before.numbers-agree.ensures ∙ not_true _ c.if2.true)
+returns-2 c = fault_numbers _ _ _ _ c.before.before.if1.false (sym c.before.numbers-agree.ensures ∙ not-true _ c.if2.true)
 
 rows-agree-requires : tie.Need-rows-agree-requires
 rows-agree-requires c κs = search rules
 
 returns-3 : tie.Need-returns-3
 returns-3 c = let n = c.before.before in
-    fault_rows _ _ _ _ (few_breaks n).if1.false (numbered n) (sym c.before.rows_agree.ensures ∙ not_true _ c.if3.true)
+    fault_rows _ _ _ _ (few_breaks n).if1.false (numbered n) (sym c.before.rows_agree.ensures ∙ not-true _ c.if3.true)
 
 parts-agree-requires : tie.Need-parts-agree-requires
 parts-agree-requires c κs = search rules
@@ -89,7 +89,7 @@ parts-agree-requires c κs = search rules
 returns-4 : tie.Need-returns-4
 returns-4 c =
     let r = c.before.before in let n = r.before.before in
-    fault_parts _ _ _ _ (few_breaks n).if1.false (numbered n) (rows-agreed r) (sym c.before.parts-agree.ensures ∙ not_true _ c.if4.true)
+    fault_parts _ _ _ _ (few_breaks n).if1.false (numbered n) (rows-agreed r) (sym c.before.parts-agree.ensures ∙ not-true _ c.if4.true)
 
 letters-agree-requires : tie.Need-letters-agree-requires
 letters-agree-requires c κs = search rules
@@ -97,7 +97,7 @@ letters-agree-requires c κs = search rules
 returns-5 : tie.Need-returns-5
 returns-5 c =
     let p = c.before.before in let r = p.before.before in let n = r.before.before in
-    fault_letters _ _ _ _ (few_breaks n).if1.false (numbered n) (rows-agreed r) (parts-agreed p) (sym c.before.letters-agree.ensures ∙ not_true _ c.if5.true)
+    fault_letters _ _ _ _ (few_breaks n).if1.false (numbered n) (rows-agreed r) (parts-agreed p) (sym c.before.letters-agree.ensures ∙ not-true _ c.if5.true)
 
 breaks-agree-requires : tie.Need-breaks-agree-requires
 breaks-agree-requires c κs = search rules
@@ -105,7 +105,7 @@ breaks-agree-requires c κs = search rules
 returns-6 : tie.Need-returns-6
 returns-6 c =
     let l = c.before.before in let p = l.before.before in let r = p.before.before in let n = r.before.before in
-    fault_breaks _ _ _ _ (few_breaks n).if1.false (numbered n) (rows-agreed r) (parts-agreed p) (letters-agreed l) (sym c.before.breaks-agree.ensures ∙ not_true _ c.if6.true)
+    fault_breaks _ _ _ _ (few_breaks n).if1.false (numbered n) (rows-agreed r) (parts-agreed p) (letters-agreed l) (sym c.before.breaks-agree.ensures ∙ not-true _ c.if6.true)
 
 returns-7 : tie.Need-returns-7
 returns-7 c =

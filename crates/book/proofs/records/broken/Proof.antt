@@ -3,7 +3,7 @@ use Prim.Native.Nat.{◌-◌, ◌≤◌}
 use native.Mathlib.Omega.{arith}
 use mathlib.Core.Path.{◌≡◌, sym, ap, ◌∙◌}
 use mathlib.Core.Bool.{false, not}
-use borrow.Author.Tests.{not_true, not_false}
+use borrow.Author.Tests.{not-true, not-false}
 use borrow.Author.Rules.{rules}
 use Rattle.params.specs.Numbers.{any_below}
 use Rattle.params.proofs.CheckLaws.{any_none, any_more}
@@ -36,7 +36,7 @@ good-record-requires c κs = let v = c.before.before.versions.ensures.1 in omega
 returns : tie.Need-returns invariant-loop decreases-loop
 returns c =
     let t = c.before.before in
-    bad_found _ _ t.before.before.versions.ensures.0 _ t.loop-test.true (sym c.before.good-record.ensures ∙ not_true _ c.if1.true)
+    bad_found _ _ t.before.before.versions.ensures.0 _ t.loop-test.true (sym c.before.good-record.ensures ∙ not-true _ c.if1.true)
 
 add-i : tie.Need-overflow-add-i invariant-loop decreases-loop
 add-i c = omega arith
@@ -47,7 +47,7 @@ loop-less c = omega arith
 loop-again : tie.Need-loop-preserved invariant-loop decreases-loop
 loop-again c =
     let l = c.before.before.before in
-    (any_more _ _ l.loop.invariant.0 (ap not (sym c.before.good-record.ensures ∙ not_false _ c.if1.false)), omega arith)
+    (any_more _ _ l.loop.invariant.0 (ap not (sym c.before.good-record.ensures ∙ not-false _ c.if1.false)), omega arith)
 
 mul-zeros-from : tie.Need-overflow-mul-zeros-from invariant-loop decreases-loop
 mul-zeros-from c = let v = c.before.before.versions.ensures.1 in omega arith

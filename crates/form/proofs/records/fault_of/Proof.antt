@@ -3,7 +3,7 @@ use borrow.Author.Rules.{rules}
 use mathlib.Core.Path.{◌≡◌, ◌∙◌, sym}
 use mathlib.Core.Bool.{true, false}
 use Prim.Native.Nat.{◌≤◌}
-use borrow.Author.Tests.{not_true, not_false}
+use borrow.Author.Tests.{not-true, not-false}
 use Rattle.form.specs.Form.{is_unknown, in_place, too_many, flags_ok, count_of, pad_ok}
 use Rattle.form.proofs.FormLaws.{fault_20, fault_21, fault_22, fault_27, fault_24, fault_13, fault_23, fault_25, fault_none_end, fault_none}
 use Rattle.form.proofs.records.fault_of.Statement.{statement}
@@ -23,7 +23,7 @@ known-kind : (c : tie.Else1) → is_unknown c.before.before.before.args.kind ≡
 known-kind c = sym c.before.is-unknown.ensures ∙ c.if1.false
 
 placed : (c : tie.Else3) → in_place (start c).args.st (start c).args.kind ≡ true
-placed c = sym c.before.in_place.ensures ∙ not_false _ c.if3.false
+placed c = sym c.before.in_place.ensures ∙ not-false _ c.if3.false
 
 -- it begins no seventeenth haplotype
 abbrev at3 : tie.Else4 → tie.Else3
@@ -40,7 +40,7 @@ abbrev in5 : tie.Else5 → tie.Else3
 in5 c = at3 (at4 c)
 
 flagged : (c : tie.Else5) → flags_ok (start (in5 c)).args.kind (start (in5 c)).args.b.now ≡ true
-flagged c = sym c.before.flags-ok.ensures ∙ not_false _ c.if5.false
+flagged c = sym c.before.flags-ok.ensures ∙ not-false _ c.if5.false
 
 -- it has few letters
 abbrev at5 : tie.Else6 → tie.Else5
@@ -57,7 +57,7 @@ abbrev begin : tie.Else7 → tie.Start
 begin c = start (in5 (at5 (at6 c)))
 
 padded : (c : tie.Else7) → pad_ok (begin c).args.st (begin c).args.kind (begin c).args.b.now ≡ true
-padded c = sym c.before.pad-ok.ensures ∙ not_false _ c.if7.false
+padded c = sym c.before.pad-ok.ensures ∙ not-false _ c.if7.false
 
 is-unknown-requires : tie.Need-is-unknown-requires
 is-unknown-requires c κs = search rules
@@ -77,7 +77,7 @@ in-place-requires c κs = search rules
 returns-3 : tie.Need-returns-3
 returns-3 c =
     let l = c.before.before in
-    fault_22 _ _ _ (known-kind l.before.before) _ l.before.body_len.ensures l.if2.false (sym c.before.in_place.ensures ∙ not_true _ c.if3.true)
+    fault_22 _ _ _ (known-kind l.before.before) _ l.before.body_len.ensures l.if2.false (sym c.before.in_place.ensures ∙ not-true _ c.if3.true)
 
 too-many-requires : tie.Need-too-many-requires
 too-many-requires c κs = search rules
@@ -93,7 +93,7 @@ flags-ok-requires c κs = search rules
 returns-5 : tie.Need-returns-5
 returns-5 c =
     let w = c.before.before in let p = at3 w in
-    fault_24 _ _ _ (known-kind (known p)) _ (long p).before.body_len.ensures (long p).if2.left (placed p) (within w) (sym c.before.flags-ok.ensures ∙ not_true _ c.if5.true)
+    fault_24 _ _ _ (known-kind (known p)) _ (long p).before.body_len.ensures (long p).if2.left (placed p) (within w) (sym c.before.flags-ok.ensures ∙ not-true _ c.if5.true)
 
 count-of-requires : tie.Need-count-of-requires
 count-of-requires c κs = search rules
@@ -110,7 +110,7 @@ returns-7 : tie.Need-returns-7
 returns-7 c =
     let l = c.before.before in let f = at5 l in let w = at4 f in let p = at3 w in
     fault_23 _ _ _ (known-kind (known p)) _ (long p).before.body_len.ensures (long p).if2.left (placed p) (within w) (flagged f) (few l)
-    (sym c.before.pad-ok.ensures ∙ not_true _ c.if7.true)
+    (sym c.before.pad-ok.ensures ∙ not-true _ c.if7.true)
 
 is-end-requires : tie.Need-is-end-requires
 is-end-requires c κs = search rules

@@ -1,5 +1,5 @@
 -- A refusal is answered at once; then chain, part list and score are asked, and the first that fails is a no.
-use borrow.Author.Tests.{not_true, not_false}
+use borrow.Author.Tests.{not-true, not-false}
 use Rattle.params.specs.Numbers.{Table, Parts, table_of, parts_of}
 use Rattle.kplib.specs.Proposal.{Proposal, proposal_of, check_of}
 use Rattle.kplib.proofs.ProposalLaws.{refused_check, graph_ready, pairable, no_chain, no_list, no_score, yes}
@@ -48,7 +48,7 @@ returns-2 : tie.Need-returns-2
 unfolding check_of
 returns-2 c =
     let g = c.before in let e = accepted g in let k = e.before in let b = begin k in
-    no_chain b.args.s (table b) (parts b) (proposal b) k.proposal-fault.ensures e.if1.left g.is-chain.ensures (not_true _ c.if2.true)
+    no_chain b.args.s (table b) (parts b) (proposal b) k.proposal-fault.ensures e.if1.left g.is-chain.ensures (not-true _ c.if2.true)
 
 is-part-list-requires : tie.Need-is-part-list-requires
 is-part-list-requires c κs = search rules
@@ -57,13 +57,13 @@ returns-3 : tie.Need-returns-3
 unfolding check_of
 returns-3 c =
     let l = c.before in let e = accepted (chained l).before in let k = e.before in let b = begin k in
-    no_list b.args.s (table b) (parts b) (proposal b) k.proposal-fault.ensures e.if1.left l.is-part-list.ensures (not_true _ c.if3.true)
+    no_list b.args.s (table b) (parts b) (proposal b) k.proposal-fault.ensures e.if1.left l.is-part-list.ensures (not-true _ c.if3.true)
 
 score-pair-requires : tie.Need-score-pair-requires
 score-pair-requires c κs =
     let l = c.before in let h = chained l in let g = h.before in let e = accepted g in let k = e.before in let b = begin k in
     pairable b.args.s (table b) (parts b) (proposal b) k.proposal-fault.ensures e.if1.left
-    g.is-chain.ensures (not_false _ h.if2.left) l.is-part-list.ensures (not_false _ c.if3.false)
+    g.is-chain.ensures (not-false _ h.if2.left) l.is-part-list.ensures (not-false _ c.if3.false)
 
 gives-score-requires : tie.Need-gives-score-requires
 gives-score-requires c κs = search rules
@@ -73,14 +73,14 @@ unfolding check_of
 returns-4 c =
     let v = c.before in let w = scored v in let d = listed w in let l = d.before in let h = chained l in let g = h.before in let e = accepted g in let k = e.before in let b = begin k in
     yes b.args.s (table b) (parts b) (proposal b) k.proposal-fault.ensures e.if1.left
-    g.is-chain.ensures (not_false _ h.if2.left) l.is-part-list.ensures (not_false _ d.if3.left) w.score-pair.ensures v.gives-score.ensures c.if4.true
+    g.is-chain.ensures (not-false _ h.if2.left) l.is-part-list.ensures (not-false _ d.if3.left) w.score-pair.ensures v.gives-score.ensures c.if4.true
 
 returns-5 : tie.Need-returns-5
 unfolding check_of
 returns-5 c =
     let v = c.before in let w = scored v in let d = listed w in let l = d.before in let h = chained l in let g = h.before in let e = accepted g in let k = e.before in let b = begin k in
     no_score b.args.s (table b) (parts b) (proposal b) k.proposal-fault.ensures e.if1.left
-    g.is-chain.ensures (not_false _ h.if2.left) l.is-part-list.ensures (not_false _ d.if3.left) w.score-pair.ensures v.gives-score.ensures c.if4.false
+    g.is-chain.ensures (not-false _ h.if2.left) l.is-part-list.ensures (not-false _ d.if3.left) w.score-pair.ensures v.gives-score.ensures c.if4.false
 
 pub check-path-spec : {M : Type 1} → statement M
 check-path-spec =

@@ -4,7 +4,7 @@ use native.Mathlib.Omega.{arith}
 use lib.ListN.{length}
 use lib.Seq.{length-take-le}
 use mathlib.Core.Path.{sym}
-use borrow.Author.Tests.{not_true, not_false}
+use borrow.Author.Tests.{not-true, not-false}
 use Rattle.kplib.proofs.RowChainLaws.{Grown, none_grown, grown_below, grown_on, grown_not, grown_all}
 use Rattle.kplib.proofs.checkpath.is_chain.Statement.{statement}
 use Rattle.kplib.proofs.checkpath.is_chain.Tie as tie
@@ -46,7 +46,7 @@ row-extends-requires c κs =
     (h.0, h.1, grown_below _ _ _ _ g, g.after)
 
 returns : tie.Need-returns invariant-loop decreases-loop
-returns c = let r = c.before in grown_not _ _ _ _ (turn (asked r)).loop.inv.1 (omega arith) r.row-extends.ensures (not_true _ c.if1.true)
+returns c = let r = c.before in grown_not _ _ _ _ (turn (asked r)).loop.inv.1 (omega arith) r.row-extends.ensures (not-true _ c.if1.true)
 
 add-next : tie.Need-overflow-add-next invariant-loop decreases-loop
 add-next c = let k = asked c.before in record { fits = omega (arith, k.shared-slice-known4.given (turn k).loop.i) }
@@ -60,7 +60,7 @@ loop-less c = omega arith
 loop-again : tie.Need-loop-preserved invariant-loop decreases-loop
 loop-again c =
     let r = c.before in
-    (omega arith, grown_on _ _ _ _ (turn (asked r)).loop.inv.1 (omega arith) r.row-extends.ensures (not_false _ c.if1.false))
+    (omega arith, grown_on _ _ _ _ (turn (asked r)).loop.inv.1 (omega arith) r.row-extends.ensures (not-false _ c.if1.false))
 
 returns-2 : tie.Need-returns-2 invariant-loop decreases-loop
 returns-2 c = grown_all _ _ _ _ c.before.loop.invariant.1 (omega arith)

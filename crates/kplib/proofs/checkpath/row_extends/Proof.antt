@@ -1,7 +1,7 @@
 -- There is no such row, or it does not come later, or none may follow; else each row of the chain is asked.
 use mathlib.Core.List.{reverse}
 use native.Mathlib.Omega.{arith}
-use borrow.Author.Tests.{not_true, not_false}
+use borrow.Author.Tests.{not-true, not-false}
 use Rattle.kplib.proofs.RowChainLaws.{row_absent, row_early, row_bare, row_stands}
 use borrow.Author.Rules.{rules}
 use Rattle.kplib.proofs.checkpath.row_extends.Statement.{statement}
@@ -22,7 +22,7 @@ returns-2 c =
 returns-3 : tie.Need-returns-3
 returns-3 c =
     let a = (begin c.before.before.before).args in
-    row_bare a.starts.now a.ends.now a.full (reverse a.chain.now) a.s (not_true a.full c.if3.true)
+    row_bare a.starts.now a.ends.now a.full (reverse a.chain.now) a.s (not-true a.full c.if3.true)
 
 stands-with-all-requires : tie.Need-stands-with-all-requires
 stands-with-all-requires c κs = search rules
@@ -30,7 +30,7 @@ stands-with-all-requires c κs = search rules
 returns-4 : tie.Need-returns-4
 returns-4 c =
     let e = c.before in let b = begin e.before.before.before in let a = b.args in
-    row_stands a.starts.now a.ends.now a.full (reverse a.chain.now) a.s (omega arith) b.pre.3 (omega arith) (not_false a.full e.if3.false)
+    row_stands a.starts.now a.ends.now a.full (reverse a.chain.now) a.s (omega arith) b.pre.3 (omega arith) (not-false a.full e.if3.false)
     c.stands-with-all.ensures
 
 pub row-extends-spec : {M : Type 1} → statement M

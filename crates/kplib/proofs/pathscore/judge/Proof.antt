@@ -4,7 +4,7 @@ use Prim.Native.Nat.{◌-◌}
 use native.Mathlib.Omega.{arith}
 use lib.ListN.{length}
 use borrow.Author.Rules.{rules}
-use borrow.Author.Tests.{not_true}
+use borrow.Author.Tests.{not-true}
 use Rattle.kplib.specs.Sums.{features_of}
 use Rattle.kplib.proofs.BlockLaws.{Passed, none_passed, block_passed, low_n, block_ok, too_low, no_gain, whole_verdict}
 use Rattle.kplib.proofs.pathscore.judge.Statement.{statement}
@@ -62,7 +62,7 @@ may-score-requires c κs = let s = begin (inside (asked c).before.before) in (s.
 returns-2 : tie.Need-returns-2 invariant-loop decreases-loop
 returns-2 c =
     let f = c.before in let k = asked f.before in let b = k.before in
-    no_gain (begin (inside b.before)).pre (passed b) k.most-alike.ensures f.may-score.ensures (not_true f.may-score.result c.if2.true)
+    no_gain (begin (inside b.before)).pre (passed b) k.most-alike.ensures f.may-score.ensures (not-true f.may-score.result c.if2.true)
 
 loop-less : tie.Need-loop-smaller invariant-loop decreases-loop
 loop-less c = let b = (asked c.before.before).before.before in omega (arith, b.block-end.ensures.0, b.before.loop-test.taken)

@@ -3,7 +3,7 @@ use mathlib.Core.Path.{sym}
 use native.Mathlib.Omega.{arith}
 use lib.Seq.{length-take-le}
 use borrow.Author.Rules.{rules}
-use borrow.Author.Tests.{not_true, not_false}
+use borrow.Author.Tests.{not-true, not-false}
 use Rattle.kplib.proofs.AttemptLaws.{may_ok, attempt_lost, ready_ok, judgeable, attempt_scored}
 use Rattle.kplib.proofs.pathscore.try_list.Statement.{statement}
 use Rattle.kplib.proofs.pathscore.try_list.Tie as tie
@@ -39,7 +39,7 @@ may-win-requires c κs = may_ok (begin c).requires
 returns : tie.Need-returns
 returns c =
     let s = begun c.before in
-    attempt_lost s.pre s.args.floor s.args.best c.before.may-win.ensures (not_true c.before.may-win.result c.if1.true) s.pre.ready
+    attempt_lost s.pre s.args.floor s.args.best c.before.may-win.ensures (not-true c.before.may-win.result c.if1.true) s.pre.ready
 
 positions-requires : tie.Need-positions-requires
 positions-requires c κs =
@@ -80,7 +80,7 @@ returns-2 : tie.Need-returns-2
 returns-2 c =
     let t = c.before.before.before.before in let r = chained t in let s = given r in let e = (placed r).before.before in let w = e.before in
     attempt_scored s.pre s.args.best.scored r.ready.ensures (placed r).positions.ensures.1 t.terms-of.ensures
-    w.may-win.ensures (not_false w.may-win.result e.if1.left) c.before.judge.ensures c.greater-of.ensures
+    w.may-win.ensures (not-false w.may-win.result e.if1.left) c.before.judge.ensures c.greater-of.ensures
 
 pub try-list-spec : {M : Type 1} → statement M
 try-list-spec =

@@ -1,5 +1,5 @@
 -- A bare graph has one chain; a full one has the empty chain and those that go on from it by some of the rows. Assumes nothing.
-use borrow.Author.Tests.{not_true, not_false}
+use borrow.Author.Tests.{not-true, not-false}
 use Rattle.kplib.proofs.CappedLaws.{bare_count, graph_count}
 use borrow.Author.Rules.{rules}
 use Rattle.kplib.proofs.vargraph.count_capped.Statement.{statement}
@@ -19,7 +19,7 @@ returns : tie.Need-returns
 returns c = search rules
 
 returns-2 : tie.Need-returns-2
-returns-2 c = bare_count _ _ _ _ (not_true _ c.if2.true) c.before.if1.false
+returns-2 c = bare_count _ _ _ _ (not-true _ c.if2.true) c.before.if1.false
 
 pairs-together-requires : tie.Need-pairs-together-requires
 pairs-together-requires c κs = search rules
@@ -44,7 +44,7 @@ returns-3 c =
     let r = listed c in
     let p = paired r in
     let f = full p in
-    graph_count _ _ p.pairs-together.result p.pairs-together.ensures r.first_rows.result _ _ _ r.first_rows.ensures.1 (not_false _ f.if2.left) f.before.if1.left
+    graph_count _ _ p.pairs-together.result p.pairs-together.ensures r.first_rows.result _ _ _ r.first_rows.ensures.1 (not-false _ f.if2.left) f.before.if1.left
     c.count-rows.ensures.0
 
 pub count-capped-spec : {M : Type 1} → statement M

@@ -2,7 +2,7 @@
 use mathlib.Core.Path.{sym, ◌∙◌}
 use Prim.Native.Nat.{◌+◌}
 use native.Mathlib.Omega.{arith}
-use borrow.Author.Tests.{not_true, not_false}
+use borrow.Author.Tests.{not-true, not-false}
 use Rattle.params.specs.Numbers.{little_queue_room}
 use Rattle.params.proofs.CheckLaws.{few_in_all}
 use borrow.Author.Rules.{rules}
@@ -14,7 +14,7 @@ search-mode-requires c κs = search rules
 
 returns : tie.Need-returns
 unfolding little_queue_room
-returns c = let off = sym c.before.search_mode.ensures ∙ not_true _ c.if1.true in rw off
+returns c = let off = sym c.before.search_mode.ensures ∙ not-true _ c.if1.true in rw off
 
 cast-result : tie.Need-overflow-cast-result
 cast-result c = search rules
@@ -30,7 +30,7 @@ add-result-2 c = omega (arith, few_in_all (c.before.before.before.args.s.maxpath
 
 returns-2 : tie.Need-returns-2
 unfolding little_queue_room
-returns-2 c = let on = sym c.before.before.search_mode.ensures ∙ not_false _ c.before.if1.false in rw on
+returns-2 c = let on = sym c.before.before.search_mode.ensures ∙ not-false _ c.before.if1.false in rw on
 
 pub little-queue-room-spec : {M : Type 1} → statement M
 little-queue-room-spec =

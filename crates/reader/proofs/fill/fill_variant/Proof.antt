@@ -2,7 +2,7 @@
 use Rattle.reader.proofs.FillLaws.{adds_none, adds_one, no_variant, cut_variant, one_variant, long_variant, same_row}
 use Rattle.reader.specs.Steps.{rows, put_row}
 use borrow.Author.Rules.{rules}
-use borrow.Author.Tests.{not_true, not_false}
+use borrow.Author.Tests.{not-true, not-false}
 use mathlib.Core.Path.{◌≡◌, sym, ◌∙◌}
 use mathlib.Core.Bool.{true}
 use Rattle.form.specs.Form.{is_variant}
@@ -21,13 +21,13 @@ abbrev start : tie.Else1 → tie.Start
 start c = c.before.before.before.before.before.before.before
 
 a_variant : (c : tie.Else1) → is_variant (start c).args.kind ≡ true
-a_variant c = sym c.before.is-variant.ensures ∙ not_false _ c.if1.false
+a_variant c = sym c.before.is-variant.ensures ∙ not-false _ c.if1.false
 
 is-variant-requires : tie.Need-is-variant-requires
 is-variant-requires c κs = search rules
 
 returns : tie.Need-returns
-returns c = adds_none put_row _ _ (no_variant _ _ (sym c.before.is-variant.ensures ∙ not_true _ c.if1.true))
+returns c = adds_none put_row _ _ (no_variant _ _ (sym c.before.is-variant.ensures ∙ not-true _ c.if1.true))
 
 body-len-requires : tie.Need-body-len-requires
 body-len-requires c κs = search rules

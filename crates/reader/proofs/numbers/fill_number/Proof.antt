@@ -1,7 +1,7 @@
 -- Only a whole variant of edition 2 adds a number, the one at its place.
 use Prim.Native.Nat.{ℕ}
 use borrow.Author.Rules.{rules}
-use borrow.Author.Tests.{not_true, not_false}
+use borrow.Author.Tests.{not-true, not-false}
 use mathlib.Core.Path.{◌≡◌, sym, ap, ◌∙◌}
 use mathlib.Core.Bool.{true, ◌&&◌}
 use lib.ListN.{set}
@@ -16,7 +16,7 @@ abbrev start : tie.Else1 → tie.Start
 start c = c.before.before.before.before
 
 numbered : (c : tie.Else1) → is_variant (start c).args.kind && is_second (start c).args.kind ≡ true
-numbered c = sym c.before.has-number.ensures ∙ not_false _ c.if1.false
+numbered c = sym c.before.has-number.ensures ∙ not-false _ c.if1.false
 
 abbrev whole : tie.After-u32-at → tie.Else2
 whole c = c.before.before
@@ -25,7 +25,7 @@ has-number-requires : tie.Need-has-number-requires
 has-number-requires c κs = search rules
 
 returns : tie.Need-returns
-returns c = adds_none set _ _ (no_number _ _ (sym c.before.has-number.ensures ∙ not_true _ c.if1.true))
+returns c = adds_none set _ _ (no_number _ _ (sym c.before.has-number.ensures ∙ not-true _ c.if1.true))
 
 returns-2 : tie.Need-returns-2
 returns-2 c = adds_none set _ _ (cut_number _ _ (numbered c.before) c.if2.true)
