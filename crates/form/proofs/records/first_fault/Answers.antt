@@ -11,11 +11,11 @@ use Rattle.form.proofs.records.first_fault.Goals as goal
 -- the record's body is there
 whole : (c : After-after_record-st) → ((c.record_at-here.result)).next ≤ length c.args.s.now
 whole c =
-    room c.args.s.now _ c.loop-at.st c.loop-at-test.taken _ c.record_at-here.ensures _ c.fault_of-f.ensures c.if-f-ne0.left
+    room c.args.s.now _ c.loop-at.st c.loop-at-test.true _ c.record_at-here.ensures _ c.fault_of-f.ensures c.if-f-ne0.false
 
 -- the next record stands behind this one
 on : (c : After-after_record-st) → ((c.record_at-here.result)).next ≡ c.loop-at.at + 1 + body_len ((c.record_at-here.result)).kind
-on c = record_next c.args.s.now _ c.loop-at-test.taken _ c.record_at-here.ensures
+on c = record_next c.args.s.now _ c.loop-at-test.true _ c.record_at-here.ensures
 
 pub loop-at-init : goal.loop-at-init
 loop-at-init c = (zero-le, (refl, (zero-le, (zero-le, (zero-le, zero-le)))))
@@ -28,11 +28,11 @@ slice_bounds-b-count c = omega arith
 
 pub returns-then-f-ne0 : goal.returns-then-f-ne0
 returns-then-f-ne0 c =
-    run_refused _ _ c.loop-at.st c.loop-at-test.taken _ c.record_at-here.ensures _ c.fault_of-f.ensures c.if-f-ne0.true ∙ c.loop-at.inv.1.0
+    run_refused _ _ c.loop-at.st c.loop-at-test.true _ c.record_at-here.ensures _ c.fault_of-f.ensures c.if-f-ne0.true ∙ c.loop-at.invariant.1.0
 
 pub returns-then-is_end : goal.returns-then-is_end
 returns-then-is_end c =
-    run_done _ _ c.loop-at.st c.loop-at-test.taken _ c.record_at-here.ensures _ c.fault_of-f.ensures c.if-f-ne0.false (sym c.is_end.ensures ∙ c.if-is_end.true) ∙ c.loop-at.inv.1.0
+    run_done _ _ c.loop-at.st c.loop-at-test.true _ c.record_at-here.ensures _ c.fault_of-f.ensures c.if-f-ne0.false (sym c.is_end.ensures ∙ c.if-is_end.true) ∙ c.loop-at.invariant.1.0
 
 pub after_record-st-requires : goal.after_record-st-requires
 after_record-st-requires c = (fault_long _ _ _ (sym c.fault_of-f.ensures ∙ c.if-f-ne0.false), omega arith)
@@ -45,9 +45,9 @@ loop-at-preserved c =
     let grown = c.after_record-st.ensures in (
       whole (goal.at.loop-at-preserved c).After-after_record-st,
       (
-        run_more _ _ c.loop-at.st c.loop-at-test.taken _ c.record_at-here.ensures _ c.fault_of-f.ensures c.if-f-ne0.left (sym c.is_end.ensures ∙ c.if-is_end.false) _ grown.is
-            ∙ c.loop-at.inv.1.0,
-        omega (arith, grown.variants_grow, grown.parts_grow, grown.breaks_grow, grown.letters_grow, on (goal.at.loop-at-preserved c).After-after_record-st, c.loop-at.inv.1.1),
+        run_more _ _ c.loop-at.st c.loop-at-test.true _ c.record_at-here.ensures _ c.fault_of-f.ensures c.if-f-ne0.false (sym c.is_end.ensures ∙ c.if-is_end.false) _ grown.is
+            ∙ c.loop-at.invariant.1.0,
+        omega (arith, grown.variants_grow, grown.parts_grow, grown.breaks_grow, grown.letters_grow, on (goal.at.loop-at-preserved c).After-after_record-st, c.loop-at.invariant.1.1),
       ),
     )
 

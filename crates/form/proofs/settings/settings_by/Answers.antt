@@ -8,10 +8,10 @@ pub returns-in-One : goal.returns-in-One
 unfolding settings_by
 returns-in-One c =
     let b = c.args.b.now in
-    c.read_settings.ensures ∙ ap (λ (e : Edition). settings_by e b) (sym c.enum_told-1.given.1)
+    c.read_settings.ensures ∙ ap (λ (e : Edition). settings_by e b) (sym c.in-One.is)
 
 pub returns-in-Two : goal.returns-in-Two
 unfolding settings_by
 returns-in-Two c =
     let b = c.args.b.now in
-    c.read_settings41.ensures ∙ ap (λ (e : Edition). settings_by e b) (sym c.enum_told-in-Two-1.given.1)
+    c.read_settings41.ensures ∙ ap (λ (e : Edition). settings_by e b) (sym c.in-Two.is)

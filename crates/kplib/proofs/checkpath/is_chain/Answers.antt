@@ -20,15 +20,15 @@ pub overflow_cast-s : goal.overflow_cast-s
 overflow_cast-s c = record { fits = omega (arith, c.shared_slice_known-in-loop-i-1.given c.loop-i.i) }
 
 pub slice_bounds-row_extends-end : goal.slice_bounds-row_extends-end
-slice_bounds-row_extends-end c = sym (length-take-le _ _ c.loop-i.inv.0)
+slice_bounds-row_extends-end c = sym (length-take-le _ _ c.loop-i.invariant.0)
 
 pub row_extends-requires : goal.row_extends-requires
 row_extends-requires c =
-    let g = c.loop-i.inv.1 in let h = c.requires in
+    let g = c.loop-i.invariant.1 in let h = c.requires in
     (h.0, h.1, grown_below _ _ _ _ g, g.after)
 
 pub returns-then-not-row_extends : goal.returns-then-not-row_extends
-returns-then-not-row_extends c = grown_not _ _ _ _ c.loop-i.inv.1 (omega arith) c.row_extends.ensures (c.if-not-row_extends.true)
+returns-then-not-row_extends c = grown_not _ _ _ _ c.loop-i.invariant.1 (omega arith) c.row_extends.ensures (c.if-not-row_extends.true)
 
 pub overflow_add-next : goal.overflow_add-next
 overflow_add-next c = record { fits = omega (arith, c.shared_slice_known-in-loop-i-1.given c.loop-i.i) }
@@ -41,7 +41,7 @@ loop-i-smaller c = omega arith
 
 pub loop-i-preserved : goal.loop-i-preserved
 loop-i-preserved c =
-    (omega arith, grown_on _ _ _ _ c.loop-i.inv.1 (omega arith) c.row_extends.ensures (c.if-not-row_extends.false))
+    (omega arith, grown_on _ _ _ _ c.loop-i.invariant.1 (omega arith) c.row_extends.ensures (c.if-not-row_extends.false))
 
 pub returns : goal.returns
 returns c = grown_all _ _ _ _ c.loop-i.invariant.1 (omega arith)

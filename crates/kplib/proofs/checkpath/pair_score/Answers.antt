@@ -4,9 +4,6 @@ use Rattle.metrics.proofs.Ints.{read_back}
 use Rattle.kplib.proofs.ProposalLaws.{chain_summable, list_summable, comparable, pair_is}
 use Rattle.kplib.proofs.checkpath.pair_score.Goals as goal
 
-abbrev chain_sized : tie.After-list-score-arg2 → tie.After-rows-size
-chain_sized c = c.before.before.before
-
 pub sum_features-requires : goal.sum_features-requires
 sum_features-requires c = let h = c.requires in chain_summable h.0 h.1 h.2
 
@@ -15,18 +12,12 @@ sum_features-requires-2 c = let h = c.requires in list_summable h.0 h.1 h.2
 
 pub list_score-requires : goal.list_score-requires
 list_score-requires c =
-    let z = chain_sized (goal.at.list_score-requires c).After-rows_size-list_size in
-    let l = list-summed z in
-    let s = chain-summed l.before in
-    let h = (begin s.before).requires in
-    comparable h.0 h.1 h.2 s.sum_features.ensures l.sum-features2.ensures
-    (read_back _ z.rows_size.ok ∙ z.rows_size.ensures) (read_back _ c.rows_size-list_size.type_inv ∙ c.rows_size-list_size.ensures)
+    let h = c.requires in
+    comparable h.0 h.1 h.2 c.sum_features.ensures c.sum_features-2.ensures
+    (read_back _ c.rows_size-chain_size.ok ∙ c.rows_size-chain_size.ensures) (read_back _ c.rows_size-list_size.type_inv ∙ c.rows_size-list_size.ensures)
 
 pub returns : goal.returns
 returns c =
-    let z = chain_sized (goal.at.returns c).After-rows_size-list_size in
-    let l = list-summed z in
-    let s = chain-summed l.before in
-    let h = (begin s.before).requires in
-    pair_is h.0 h.1 h.2 s.sum_features.ensures l.sum-features2.ensures
-    (read_back _ z.rows_size.ok ∙ z.rows_size.ensures) (read_back _ c.rows_size-list_size.type_inv ∙ c.rows_size-list_size.ensures) c.list_score.ensures
+    let h = c.requires in
+    pair_is h.0 h.1 h.2 c.sum_features.ensures c.sum_features-2.ensures
+    (read_back _ c.rows_size-chain_size.ok ∙ c.rows_size-chain_size.ensures) (read_back _ c.rows_size-list_size.type_inv ∙ c.rows_size-list_size.ensures) c.list_score.ensures

@@ -62,7 +62,7 @@ pub overlaps-requires : goal.overlaps-requires
 overlaps-requires c = tt
 
 pub returns-then-overlaps : goal.returns-then-overlaps
-returns-then-overlaps c = stands_not c.loop-i.inv.1 (omega arith) (joined (goal.at.returns-then-overlaps c).After-overlaps ∙ ap not c.if-overlaps.true)
+returns-then-overlaps c = stands_not c.loop-i.invariant.1 (omega arith) (joined (goal.at.returns-then-overlaps c).After-overlaps ∙ ap not c.if-overlaps.true)
 
 pub overflow_add-i : goal.overflow_add-i
 overflow_add-i c = omega arith
@@ -71,7 +71,7 @@ pub loop-i-smaller : goal.loop-i-smaller
 loop-i-smaller c = omega arith
 
 pub loop-i-preserved : goal.loop-i-preserved
-loop-i-preserved c = (omega arith, stands_on c.loop-i.inv.1 (omega arith) (joined (goal.at.loop-i-preserved c).After-overlaps ∙ ap not c.if-overlaps.false))
+loop-i-preserved c = (omega arith, stands_on c.loop-i.invariant.1 (omega arith) (joined (goal.at.loop-i-preserved c).After-overlaps ∙ ap not c.if-overlaps.false))
 
 pub returns : goal.returns
 returns c = stands_all c.loop-i.invariant.1 (omega arith)

@@ -13,15 +13,15 @@ overflow_sub-m c = omega (arith, c.requires.lengths_few, c.loop-i-test.true)
 
 pub lay_choices-at-requires : goal.lay_choices-at-requires
 lay_choices-at-requires c =
-    choosing c.requires c.loop-i-test.taken c.loop-i.codes c.loop-i.list_sizes c.loop-i.inv.1 c.loop-i.inv.2 c.loop-i.inv.3
+    choosing c.requires c.loop-i-test.true c.loop-i.codes c.loop-i.list_sizes c.loop-i.invariant.1 c.loop-i.invariant.2 c.loop-i.invariant.3
 
 pub loop-i-preserved : goal.loop-i-preserved
 loop-i-preserved c =
     (
-      omega (arith, c.loop-i-test.taken),
-      c.lay_choices-at.kept.1.1.1.1.1.1.1.1.0 ∙ c.loop-i.inv.1,
-      c.lay_choices-at.kept.1.1.1.1.1.1.1.1.1.0 ∙ c.loop-i.inv.2,
-      laying_turn c.requires c.loop-i-test.taken c.loop-i.codes c.loop-i.list_sizes c.loop-i.inv.1 c.loop-i.inv.2 c.loop-i.inv.3 c.lay_choices-at.ensures,
+      omega (arith, c.loop-i-test.true),
+      c.lay_choices-at.auto.1.1.1.1.1.1.1.1.0 ∙ c.loop-i.invariant.1,
+      c.lay_choices-at.auto.1.1.1.1.1.1.1.1.1.0 ∙ c.loop-i.invariant.2,
+      laying_turn c.requires c.loop-i-test.true c.loop-i.codes c.loop-i.list_sizes c.loop-i.invariant.1 c.loop-i.invariant.2 c.loop-i.invariant.3 c.lay_choices-at.ensures,
     )
 
 pub shape_of-codes : goal.shape_of-codes

@@ -5,8 +5,8 @@ use Rattle.kplib.proofs.haplotype.positions.Goals as goal
 
 pub returns-then-code-eq0 : goal.returns-then-code-eq0
 returns-then-code-eq0 c =
-    (c.requires.0, c.all_positions.ensures ∙ sym (code_whole c.args.m c.args.code c.if-code-eq0.taken))
+    (c.requires.0, c.all_positions.ensures ∙ sym (code_whole c.args.m c.args.code c.if-code-eq0.true))
 
 pub returns : goal.returns
 returns c =
-    (c.bit_positions.ensures.0, c.bit_positions.ensures.1 ∙ sym (code_bits c.args.m c.args.code c.if-code-eq0.left))
+    (c.bit_positions.ensures.0, c.bit_positions.ensures.1 ∙ sym (code_bits c.args.m c.args.code c.if-code-eq0.false))

@@ -37,7 +37,7 @@ parts c =
     let call_here : Several = let a = c.args in
     several_lent a.s a.starts.now a.ends.now a.sizes.now a.features.now a.part_ends.now a.feature_ends.now a.part_sizes.now a.part_features.now
     a.links.now a.keys.now a.rows.now a.reports.now in
-    let p = parts_within (call_here) c.loop-i.inv.accepted c.loop-i.i c.loop-i-test.taken in
+    let p = parts_within (call_here) c.loop-i.invariant.accepted c.loop-i.i c.loop-i-test.true in
     (omega (arith, p.0, c.begin_of-part.ensures), p.1)
 
 rows_of_parts : (c : After-shared_slice_known-in-loop-i-2-1) → let a = c.args in let end = get_or a.feature_ends.now c.loop-i.i 0 in (c.begin_of-feature.result ≤ end) × (end ≤ length a.part_features.now)
@@ -45,7 +45,7 @@ rows_of_parts c =
     let call_here : Several = let a = c.args in
     several_lent a.s a.starts.now a.ends.now a.sizes.now a.features.now a.part_ends.now a.feature_ends.now a.part_sizes.now a.part_features.now
     a.links.now a.keys.now a.rows.now a.reports.now in
-    let p = features_within (call_here) c.loop-i.inv.accepted c.loop-i.i c.loop-i-test.taken in
+    let p = features_within (call_here) c.loop-i.invariant.accepted c.loop-i.i c.loop-i-test.true in
     (omega (arith, p.0, c.begin_of-feature.ensures), p.1)
 
 pub returns-then-refusal-ne0 : goal.returns-then-refusal-ne0
@@ -77,10 +77,10 @@ pub bounds-feature_ends-i : goal.bounds-feature_ends-i
 bounds-feature_ends-i c = omega (arith, many (goal.at.bounds-feature_ends-i c).In-loop-i)
 
 pub overflow_mul-at : goal.overflow_mul-at
-overflow_mul-at c = omega (arith, rows_room c.loop-i.inv c.loop-i-test.taken, few_rows c.loop-i.inv c.loop-i-test.taken)
+overflow_mul-at c = omega (arith, rows_room c.loop-i.invariant c.loop-i-test.true, few_rows c.loop-i.invariant c.loop-i-test.true)
 
 pub overflow_mul-word : goal.overflow_mul-word
-overflow_mul-word c = omega (arith, reports_room c.loop-i.inv c.loop-i-test.taken, few_haplotypes c.loop-i.inv)
+overflow_mul-word c = omega (arith, reports_room c.loop-i.invariant c.loop-i-test.true, few_haplotypes c.loop-i.invariant)
 
 pub offset_bounds-part_sizes-part : goal.offset_bounds-part_sizes-part
 offset_bounds-part_sizes-part c = omega (arith, (parts (goal.at.offset_bounds-part_sizes-part c).After-shared_slice_known-in-loop-i-2-1).0, (parts (goal.at.offset_bounds-part_sizes-part c).After-shared_slice_known-in-loop-i-2-1).1, c.good)
@@ -96,43 +96,43 @@ slice_bounds-answer_haplotype-count-in-loop-i c = omega (arith, (rows_of_parts (
 
 pub overflow_add-at : goal.overflow_add-at
 overflow_add-at c =
-    omega (arith, rows_room c.loop-i.inv c.loop-i-test.taken, few_rows c.loop-i.inv c.loop-i-test.taken)
+    omega (arith, rows_room c.loop-i.invariant c.loop-i-test.true, few_rows c.loop-i.invariant c.loop-i-test.true)
 
 pub offset_bounds-rows-at : goal.offset_bounds-rows-at
 offset_bounds-rows-at c =
-    omega (arith, rows_room c.loop-i.inv c.loop-i-test.taken, few_rows c.loop-i.inv c.loop-i-test.taken)
+    omega (arith, rows_room c.loop-i.invariant c.loop-i-test.true, few_rows c.loop-i.invariant c.loop-i-test.true)
 
 pub slice_bounds-answer_haplotype-count-in-loop-i-2 : goal.slice_bounds-answer_haplotype-count-in-loop-i-2
 slice_bounds-answer_haplotype-count-in-loop-i-2 c =
-    omega (arith, rows_room c.loop-i.inv c.loop-i-test.taken, few_rows c.loop-i.inv c.loop-i-test.taken)
+    omega (arith, rows_room c.loop-i.invariant c.loop-i-test.true, few_rows c.loop-i.invariant c.loop-i-test.true)
 
 pub answer_haplotype-answer-requires : goal.answer_haplotype-answer-requires
 answer_haplotype-answer-requires c =
-    still_accepted c.loop-i.inv c.loop-i-test.taken
+    still_accepted c.loop-i.invariant c.loop-i-test.true
 
 pub overflow_add-word : goal.overflow_add-word
-overflow_add-word c = omega (arith, reports_room c.loop-i.inv c.loop-i-test.taken, few_haplotypes c.loop-i.inv)
+overflow_add-word c = omega (arith, reports_room c.loop-i.invariant c.loop-i-test.true, few_haplotypes c.loop-i.invariant)
 
 pub offset_bounds-reports-word : goal.offset_bounds-reports-word
-offset_bounds-reports-word c = omega (arith, reports_room c.loop-i.inv c.loop-i-test.taken, few_haplotypes c.loop-i.inv)
+offset_bounds-reports-word c = omega (arith, reports_room c.loop-i.invariant c.loop-i-test.true, few_haplotypes c.loop-i.invariant)
 
 pub slice_bounds-put_words-count : goal.slice_bounds-put_words-count
-slice_bounds-put_words-count c = omega (arith, reports_room c.loop-i.inv c.loop-i-test.taken, few_haplotypes c.loop-i.inv)
+slice_bounds-put_words-count c = omega (arith, reports_room c.loop-i.invariant c.loop-i-test.true, few_haplotypes c.loop-i.invariant)
 
 pub put_words-requires : goal.put_words-requires
-put_words-requires c = words_length c.loop-i.inv c.loop-i-test.taken
+put_words-requires c = words_length c.loop-i.invariant c.loop-i-test.true
 
 pub overflow_add-i : goal.overflow_add-i
 overflow_add-i c =
-    omega (arith, c.loop-i-test.taken, few_haplotypes c.loop-i.inv)
+    omega (arith, c.loop-i-test.true, few_haplotypes c.loop-i.invariant)
 
 pub loop-i-smaller : goal.loop-i-smaller
 loop-i-smaller c = omega arith
 
 pub loop-i-preserved : goal.loop-i-preserved
 loop-i-preserved c =
-    next c.loop-i.inv c.loop-i-test.taken c.begin_of-part.ensures c.begin_of-feature.ensures c.answer_haplotype-answer.ensures
-    c.answer_haplotype-answer.kept.1.1.1.1.1.1.1.0 c.answer_haplotype-answer.kept.1.1.1.1.1.1.1.1.0 c.answer_haplotype-answer.kept.1.1.1.1.1.1.1.1.1.0
+    next c.loop-i.invariant c.loop-i-test.true c.begin_of-part.ensures c.begin_of-feature.ensures c.answer_haplotype-answer.ensures
+    c.answer_haplotype-answer.auto.1.1.1.1.1.1.1.0 c.answer_haplotype-answer.auto.1.1.1.1.1.1.1.1.0 c.answer_haplotype-answer.auto.1.1.1.1.1.1.1.1.1.0
     c.put_words.ensures
 
 pub shape_of-links : goal.shape_of-links

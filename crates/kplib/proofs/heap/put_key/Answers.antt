@@ -26,7 +26,7 @@ pub bounds-keys-i : goal.bounds-keys-i
 bounds-keys-i c = omega arith
 
 pub shape_of-keys-then-above-key : goal.shape_of-keys-then-above-key
-shape_of-keys-then-above-key c = simp length-set c.loop-i.inv.1
+shape_of-keys-then-above-key c = simp length-set c.loop-i.invariant.1
 
 pub returns-then-above-key : goal.returns-then-above-key
 returns-then-above-key c = let l = c.loop-i in close l.inv.2 (λ z. c.if-above-key.true) l.inv.3

@@ -1,7 +1,7 @@
 -- The hole begins behind the keys and goes up past greater ones.
 use mathlib.Core.Path.{◌≡◌}
 use Prim.Native.Nat.{◌+◌, ◌≤◌}
-use mathlib.Core.List.{◌∷◌, ◌++◌}
+use mathlib.Core.List.{[], ◌∷◌, ◌++◌}
 use lib.ListN.{length, take}
 use Rattle.paths.proofs.HeapLaws.{Open, FitsBelow}
 use Rattle.kplib.proofs.heap.put_key.Given as goal

@@ -33,7 +33,7 @@ pub bounds-keys-i : goal.bounds-keys-i
 bounds-keys-i c = omega arith
 
 pub shape_of-keys-then-key-below : goal.shape_of-keys-then-key-below
-shape_of-keys-then-key-below c = simp length-set c.loop-i.inv.1
+shape_of-keys-then-key-below c = simp length-set c.loop-i.invariant.1
 
 pub returns-then-key-below : goal.returns-then-key-below
 returns-then-key-below c =

@@ -23,18 +23,18 @@ pub list_score-verdict-requires : goal.list_score-verdict-requires
 list_score-verdict-requires c = row_comparable c.requires c.loop-r-test.true
 
 pub overflow_cast-row : goal.overflow_cast-row
-overflow_cast-row c = omega (arith, c.requires.sized.few, c.loop-r-test.taken)
+overflow_cast-row c = omega (arith, c.requires.sized.few, c.loop-r-test.true)
 
 pub latest_of-best-requires : goal.latest_of-best-requires
-latest_of-best-requires c = omega (arith, c.requires.sized.few, c.loop-r-test.taken)
+latest_of-best-requires c = omega (arith, c.requires.sized.few, c.loop-r-test.true)
 
 pub overflow_add-r : goal.overflow_add-r
-overflow_add-r c = omega (arith, c.requires.sized.few, c.loop-r-test.taken)
+overflow_add-r c = omega (arith, c.requires.sized.few, c.loop-r-test.true)
 
 pub loop-r-preserved : goal.loop-r-preserved
 loop-r-preserved c =
-    let turn = row_scored c.requires c.loop-r-test.taken c.nothing.ensures c.list_score-verdict.ensures c.greater_of-x.ensures in
-    (omega (arith, c.loop-r-test.taken), row_matched c.requires c.loop-r-test.taken c.loop-r.best turn c.latest_of-best.ensures c.loop-r.inv.1)
+    let turn = row_scored c.requires c.loop-r-test.true c.nothing.ensures c.list_score-verdict.ensures c.greater_of-x.ensures in
+    (omega (arith, c.loop-r-test.true), row_matched c.requires c.loop-r-test.true c.loop-r.best turn c.latest_of-best.ensures c.loop-r.invariant.1)
 
 pub returns : goal.returns
 returns c = all_matched c.requires c.loop-r-test.false c.loop-r.invariant.1

@@ -17,14 +17,14 @@ After c =
 
 passed : (c : After-sum_block-sums) → After c
 passed c =
-    block_passed c.loop-from.inv.1 c.block_end-to.ensures.0 c.block_end-to.ensures.1 c.sum_block-sums.ensures
+    block_passed c.loop-from.invariant.1 c.block_end-to.ensures.0 c.block_end-to.ensures.1 c.sum_block-sums.ensures
 
 pub loop-from-init : goal.loop-from-init
 loop-from-init c = (refl, none_passed _ _ _)
 
 pub sum_block-sums-requires : goal.sum_block-sums-requires
 sum_block-sums-requires c =
-    block_ok c.requires c.loop-from.inv.1 c.block_end-to.ensures.0 c.block_end-to.ensures.1 c.block_end-to.ensures.2
+    block_ok c.requires c.loop-from.invariant.1 c.block_end-to.ensures.0 c.block_end-to.ensures.1 c.block_end-to.ensures.2
 
 pub most_alike-most-requires : goal.most_alike-most-requires
 most_alike-most-requires c = (c.requires.limit, low_n c.requires (passed (goal.at.most_alike-most-requires c).After-sum_block-sums))
@@ -41,7 +41,7 @@ returns-then-not-may_score c =
     no_gain c.requires (passed (goal.at.returns-then-not-may_score c).After-sum_block-sums) c.most_alike-most.ensures c.may_score.ensures (not-true c.may_score.result c.if-not-may_score.true)
 
 pub loop-from-smaller : goal.loop-from-smaller
-loop-from-smaller c = omega (arith, c.block_end-to.ensures.0, c.loop-from-test.taken)
+loop-from-smaller c = omega (arith, c.block_end-to.ensures.0, c.loop-from-test.true)
 
 pub loop-from-preserved : goal.loop-from-preserved
 loop-from-preserved c = (refl, passed (goal.at.loop-from-preserved c).After-sum_block-sums)

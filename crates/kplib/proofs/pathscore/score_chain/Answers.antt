@@ -14,18 +14,18 @@ bounds-list_sizes-i c = omega (arith, c.requires.coded.alike, c.loop-i-test.true
 
 pub try_list-best-requires : goal.try_list-best-requires
 try_list-best-requires c =
-    attempt c.requires c.loop-i-test.taken c.loop-i.inv.1 c.loop-i.inv.2 c.loop-i.inv.3.ready
+    attempt c.requires c.loop-i-test.true c.loop-i.invariant.1 c.loop-i.invariant.2 c.loop-i.invariant.3.ready
 
 pub overflow_add-i : goal.overflow_add-i
-overflow_add-i c = omega (arith, c.loop-i-test.taken, c.good)
+overflow_add-i c = omega (arith, c.loop-i-test.true, c.good)
 
 pub loop-i-preserved : goal.loop-i-preserved
 loop-i-preserved c =
     (
-      omega (arith, c.loop-i-test.taken),
-      ◌∙◌ {b = length c.loop-i.chosen} c.try_list-best.kept.1.1.1.1.1.1.1.0 c.loop-i.inv.1,
-      ◌∙◌ {b = length c.loop-i.scratch} c.try_list-best.kept.1.1.1.1.1.1.1.1.0 c.loop-i.inv.2,
-      one_more c.requires c.loop-i-test.taken c.args.floor c.loop-i.best c.loop-i.scratch c.loop-i.inv.3 c.try_list-best.ensures,
+      omega (arith, c.loop-i-test.true),
+      ◌∙◌ {b = length c.loop-i.chosen} c.try_list-best.auto.1.1.1.1.1.1.1.0 c.loop-i.invariant.1,
+      ◌∙◌ {b = length c.loop-i.scratch} c.try_list-best.auto.1.1.1.1.1.1.1.1.0 c.loop-i.invariant.2,
+      one_more c.requires c.loop-i-test.true c.args.floor c.loop-i.best c.loop-i.scratch c.loop-i.invariant.3 c.try_list-best.ensures,
     )
 
 pub returns : goal.returns

@@ -12,7 +12,7 @@ value c =
     c.seqsim.ensures ∙ seq_given c.args.minkfreq c.args.a.now c.args.b.now c.requires.0 c.requires.1 c.requires.2 c.requires.3
 
 pub returns-in-Value : goal.returns-in-Value
-returns-in-Value c = the_value _ _ _ c.x-1.given.1 (value (goal.at.returns-in-Value c).After-seqsim)
+returns-in-Value c = the_value _ _ _ c.in-Value.is (value (goal.at.returns-in-Value c).After-seqsim)
 
 pub returns-in-Refused : goal.returns-in-Refused
-returns-in-Refused c = no_refusal _ _ _ _ c.n-1.given.1 (value (goal.at.returns-in-Refused c).After-seqsim)
+returns-in-Refused c = no_refusal _ _ _ _ c.in-Refused.is (value (goal.at.returns-in-Refused c).After-seqsim)

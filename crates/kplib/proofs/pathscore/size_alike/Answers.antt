@@ -13,7 +13,7 @@ value c =
     size_value c.sizesim.result _ _ c.args.a c.args.b c.magnitude.ensures c.magnitude-2.ensures c.requires.0 c.requires.1 c.sizesim.ensures
 
 pub returns-in-Value : goal.returns-in-Value
-returns-in-Value c = the_value _ _ _ c.x-1.given.1 (value (goal.at.returns-in-Value c).After-sizesim)
+returns-in-Value c = the_value _ _ _ c.in-Value.is (value (goal.at.returns-in-Value c).After-sizesim)
 
 pub returns-in-Refused : goal.returns-in-Refused
-returns-in-Refused c = no_refusal _ _ _ _ c.n-1.given.1 (value (goal.at.returns-in-Refused c).After-sizesim)
+returns-in-Refused c = no_refusal _ _ _ _ c.in-Refused.is (value (goal.at.returns-in-Refused c).After-sizesim)

@@ -27,13 +27,13 @@ pub stand_with-requires : goal.stand_with-requires
 stand_with-requires c = (omega arith, c.loop-i.invariant.long)
 
 pub overflow_cast-i : goal.overflow_cast-i
-overflow_cast-i c = record { fits = omega (arith, parent_less (goal.at.overflow_cast-i c).At-loop-i (omega arith), c.loop-i.inv.low, c.fits.entry) }
+overflow_cast-i c = record { fits = omega (arith, parent_less (goal.at.overflow_cast-i c).At-loop-i (omega arith), c.loop-i.invariant.low, c.fits.entry) }
 
 pub loop-i-smaller : goal.loop-i-smaller
 loop-i-smaller c = parent_less (goal.at.loop-i-smaller c).At-loop-i (omega arith)
 
 pub loop-i-preserved : goal.loop-i-preserved
-loop-i-preserved c = asking_on c.loop-i.inv c.requires.links (omega arith) c.stand_with.ensures
+loop-i-preserved c = asking_on c.loop-i.invariant c.requires.links (omega arith) c.stand_with.ensures
 
 pub returns : goal.returns
 returns c = asking_done c.loop-i.invariant (omega arith)

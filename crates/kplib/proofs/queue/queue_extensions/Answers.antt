@@ -51,7 +51,7 @@ pub bounds-may-r : goal.bounds-may-r
 bounds-may-r c = omega (arith, row_in (goal.at.bounds-may-r c).In-loop-r, c.requires.sized.few)
 
 pub overflow_add-new : goal.overflow_add-new
-overflow_add-new c = record { fits = omega (arith, c.requires.few_entries, c.loop-r.inv.4.most) }
+overflow_add-new c = record { fits = omega (arith, c.requires.few_entries, c.loop-r.invariant.4.most) }
 
 pub overflow_cast-links : goal.overflow_cast-links
 overflow_cast-links c = record { fits = omega (arith, row_in (goal.at.overflow_cast-links c).In-loop-r, c.requires.sized.few) }
@@ -60,10 +60,10 @@ pub overflow_add-links : goal.overflow_add-links
 overflow_add-links c = let h = c.requires in record { fits = omega (arith, row_in (goal.at.overflow_add-links c).In-loop-r, h.sized.few, h.entry_in, h.few_entries) }
 
 pub offset_bounds-links-new : goal.offset_bounds-links-new
-offset_bounds-links-new c = record { fits = omega (arith, c.requires.few_entries, c.loop-r.inv.4.most) }
+offset_bounds-links-new c = record { fits = omega (arith, c.requires.few_entries, c.loop-r.invariant.4.most) }
 
 pub bounds-links-new : goal.bounds-links-new
-bounds-links-new c = omega (arith, c.requires.link_room, c.loop-r.inv.4.most)
+bounds-links-new c = omega (arith, c.requires.link_room, c.loop-r.invariant.4.most)
 
 pub offset_bounds-sizes-r : goal.offset_bounds-sizes-r
 offset_bounds-sizes-r c = record { fits = omega (arith, row_in (goal.at.offset_bounds-sizes-r c).In-loop-r, c.requires.sized.few) }
@@ -78,16 +78,16 @@ pub key-k-requires : goal.key-k-requires
 key-k-requires c =
     let h = c.requires in
     let k = key_sizes h (row_in (goal.at.key-k-requires c).In-loop-r) (extending (goal.at.key-k-requires c).Then-may-r) in
-    (k.0, k.1, omega (arith, h.few_entries, c.loop-r.inv.4.most))
+    (k.0, k.1, omega (arith, h.few_entries, c.loop-r.invariant.4.most))
 
 pub overflow_add-queued : goal.overflow_add-queued
-overflow_add-queued c = record { fits = omega (arith, c.good, c.requires.key_room, c.loop-r.inv.4.most) }
+overflow_add-queued c = record { fits = omega (arith, c.good, c.requires.key_room, c.loop-r.invariant.4.most) }
 
 pub put_key-requires : goal.put_key-requires
-put_key-requires c = let q = c.loop-r.inv.4 in (omega (arith, c.requires.key_room, q.most), q.heap.order)
+put_key-requires c = let q = c.loop-r.invariant.4 in (omega (arith, c.requires.key_room, q.most), q.heap.order)
 
 pub overflow_add-added : goal.overflow_add-added
-overflow_add-added c = record { fits = omega (arith, c.requires.sized.few, c.loop-r.inv.4.most) }
+overflow_add-added c = record { fits = omega (arith, c.requires.sized.few, c.loop-r.invariant.4.most) }
 
 pub loop-r-smaller-then-may-r : goal.loop-r-smaller-then-may-r
 loop-r-smaller-then-may-r c = omega arith

@@ -30,7 +30,7 @@ pub bounds-sizes-r : goal.bounds-sizes-r
 bounds-sizes-r c = row_in (goal.at.bounds-sizes-r c).After-shared_slice_known-1
 
 pub overflow_add-size : goal.overflow_add-size
-overflow_add-size c = summing_fits c.requires c.loop-i.inv.1 (omega arith)
+overflow_add-size c = summing_fits c.requires c.loop-i.invariant.1 (omega arith)
 
 pub overflow_add-i : goal.overflow_add-i
 overflow_add-i c = omega arith
@@ -39,7 +39,7 @@ pub loop-i-smaller : goal.loop-i-smaller
 loop-i-smaller c = omega arith
 
 pub loop-i-preserved : goal.loop-i-preserved
-loop-i-preserved c = (omega arith, summing_on c.requires c.loop-i.inv.1 (omega arith))
+loop-i-preserved c = (omega arith, summing_on c.requires c.loop-i.invariant.1 (omega arith))
 
 pub returns : goal.returns
 returns c = summing_done c.loop-i.invariant.1 (omega arith)

@@ -5,7 +5,7 @@ use mathlib.Core.Path.{sym}
 use Rattle.kplib.proofs.report.target_number.Goals as goal
 
 pub returns-then-left-lt4294967295 : goal.returns-then-left-lt4294967295
-returns-then-left-lt4294967295 c = rw c.target-1.given.1 (sym (min-eq_left (omega arith)))
+returns-then-left-lt4294967295 c = rw c.in-Partial.is (sym (min-eq_left (omega arith)))
 
 pub returns-else-left-lt4294967295 : goal.returns-else-left-lt4294967295
-returns-else-left-lt4294967295 c = rw c.target-1.given.1 (sym (min-eq_right (omega arith)))
+returns-else-left-lt4294967295 c = rw c.in-Partial.is (sym (min-eq_right (omega arith)))

@@ -39,28 +39,28 @@ pub returns-then-at-eq0 : goal.returns-then-at-eq0
 returns-then-at-eq0 c = gone_empty (asked (goal.at.returns-then-at-eq0 c).At-loop-at) c.loop-at.invariant.4 c.if-at-eq0.true
 
 pub shape_of-links-then-at-steps : goal.shape_of-links-then-at-steps
-shape_of-links-then-at-steps c = c.loop-at.inv.1
+shape_of-links-then-at-steps c = c.loop-at.invariant.1
 
 pub shape_of-keys-then-at-steps : goal.shape_of-keys-then-at-steps
-shape_of-keys-then-at-steps c = c.loop-at.inv.2
+shape_of-keys-then-at-steps c = c.loop-at.invariant.2
 
 pub shape_of-scratch-then-at-steps : goal.shape_of-scratch-then-at-steps
-shape_of-scratch-then-at-steps c = c.loop-at.inv.3
+shape_of-scratch-then-at-steps c = c.loop-at.invariant.3
 
 pub returns-then-at-steps : goal.returns-then-at-steps
 returns-then-at-steps c =
-    gone_steps (asked (goal.at.returns-then-at-steps c).At-loop-at) c.loop-at.inv.4 c.if-at-eq0.false (c.if-at-steps.true ∙ c.loop-at.inv.0)
+    gone_steps (asked (goal.at.returns-then-at-steps c).At-loop-at) c.loop-at.invariant.4 c.if-at-eq0.false (c.if-at-steps.true ∙ c.loop-at.invariant.0)
 
 pub step-at-requires : goal.step-at-requires
 step-at-requires c =
-    (asked (goal.at.step-at-requires c).At-loop-at, (pos_of c.if-at-eq0.left, lt_of_ne c.loop-at.inv.4.run.below (λ z. c.if-at-steps.left (z ∙ sym c.loop-at.inv.0)), c.loop-at.inv.4))
+    (asked (goal.at.step-at-requires c).At-loop-at, (pos_of c.if-at-eq0.false, lt_of_ne c.loop-at.invariant.4.run.below (λ z. c.if-at-steps.false (z ∙ sym c.loop-at.invariant.0)), c.loop-at.invariant.4))
 
 pub loop-at-smaller : goal.loop-at-smaller
 loop-at-smaller c =
-    less_left c.loop-at.inv.4.run.below (λ z. c.if-at-steps.left (z ∙ sym c.loop-at.inv.0)) c.step-at.ensures.1
+    less_left c.loop-at.invariant.4.run.below (λ z. c.if-at-steps.false (z ∙ sym c.loop-at.invariant.0)) c.step-at.ensures.1
 
 pub loop-at-preserved : goal.loop-at-preserved
 loop-at-preserved c =
-    let v = c.loop-at.inv in
+    let v = c.loop-at.invariant in
     let k = c.step-at.auto.1.1.1.1.1.1.1 in
     (v.0, k.0 ∙ v.1, k.1.0 ∙ v.2, k.1.1.0 ∙ v.3, c.step-at.ensures.0)

@@ -19,15 +19,15 @@ pub overflow_add-e : goal.overflow_add-e
 overflow_add-e c = omega (arith, c.requires.1, row_place c.requires.0 c.loop-i-test.true)
 
 pub offset_bounds-table-a : goal.offset_bounds-table-a
-offset_bounds-table-a c = omega (arith, c.requires.1, row_place c.requires.0 c.loop-i-test.taken)
+offset_bounds-table-a c = omega (arith, c.requires.1, row_place c.requires.0 c.loop-i-test.true)
 
 pub add_row-requires : goal.add_row-requires
 add_row-requires c =
-    adding_ok _ _ c.requires.0 c.requires.1 c.args.out.now c.loop-i.out c.loop-i-test.taken c.loop-i.inv
+    adding_ok _ _ c.requires.0 c.requires.1 c.args.out.now c.loop-i.out c.loop-i-test.true c.loop-i.invariant
 
 pub loop-i-preserved : goal.loop-i-preserved
 loop-i-preserved c =
-    adding_turn _ _ c.requires.0 c.requires.1 c.args.out.now c.loop-i.out c.loop-i-test.taken c.loop-i.inv c.add_row.ensures
+    adding_turn _ _ c.requires.0 c.requires.1 c.args.out.now c.loop-i.out c.loop-i-test.true c.loop-i.invariant c.add_row.ensures
 
 pub shape_of-out : goal.shape_of-out
 shape_of-out c = c.loop-i.invariant.1

@@ -8,7 +8,7 @@ use Rattle.kplib.proofs.traverse.place_chain.Goals as goal
 pub returns-then-matched : goal.returns-then-matched
 returns-then-matched c =
     let a = c.args in
-    placed_all a.target (reverse (chain_of a.links.now a.entry)) a.rows.now (sym c.matched.ensures ∙ c.if-matched.taken) c.copy_chain.ensures
+    placed_all a.target (reverse (chain_of a.links.now a.entry)) a.rows.now (sym c.matched.ensures ∙ c.if-matched.true) c.copy_chain.ensures
 
 pub returns : goal.returns
 returns c =

@@ -8,5 +8,5 @@ returns-then-not-full c = bare_count _ _ _ _ (c.if-not-full.true) c.if-cap-eq0.f
 
 pub returns : goal.returns
 returns c =
-    graph_count _ _ c.pairs_together-together.result c.pairs_together-together.ensures c.first_rows-rows.result _ _ _ c.first_rows-rows.ensures.1 (not-false _ c.if-not-full.left) c.if-cap-eq0.left
+    graph_count _ _ c.pairs_together-together.result c.pairs_together-together.ensures c.first_rows-rows.result _ _ _ c.first_rows-rows.ensures.1 (c.if-not-full.false) c.if-cap-eq0.false
     c.count_rows.ensures.0

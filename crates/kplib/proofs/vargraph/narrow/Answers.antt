@@ -26,10 +26,10 @@ pub bounds-together-flags : goal.bounds-together-flags
 bounds-together-flags c = let l = c.loop-i in omega (arith, l.invariant.kept.rows l.i, c.requires.0)
 
 pub loop-i-preserved-then-together-flags : goal.loop-i-preserved-then-together-flags
-loop-i-preserved-then-together-flags c = narrowing_take c.loop-i.inv (omega arith) (has_room (goal.at.loop-i-preserved-then-together-flags c).At-loop-i (omega arith)) c.if-together-flags.true
+loop-i-preserved-then-together-flags c = narrowing_take c.loop-i.invariant (omega arith) (has_room (goal.at.loop-i-preserved-then-together-flags c).At-loop-i (omega arith)) c.if-together-flags.true
 
 pub loop-i-preserved : goal.loop-i-preserved
-loop-i-preserved c = narrowing_skip c.loop-i.inv (omega arith) (has_room (goal.at.loop-i-preserved c).At-loop-i (omega arith)) c.if-together-flags.false
+loop-i-preserved c = narrowing_skip c.loop-i.invariant (omega arith) (has_room (goal.at.loop-i-preserved c).At-loop-i (omega arith)) c.if-together-flags.false
 
 pub returns : goal.returns
 returns c = narrowing_done c.loop-i.invariant (omega arith)
