@@ -86,8 +86,8 @@ chosen (suc left) p (suc n) [] =
 chosen (suc left) p (suc n) (q ∷ x) =
     let z : suc p + left ≡ p + suc left = omega arith in
     one_of_both (q ∷ x) (map (λ (c : List ℕ). p ∷ c) (choices left (suc p) n)) (choices left (suc p) (suc n))
-    ∙ rw (begins q p x (choices left (suc p) n), chosen left (suc p) n x, chosen left (suc p) (suc n) (q ∷ x), ← z, same_suc (length x) n)
-    (first_or_later (suc p + left) p q (eqb (length x) n) x (omega arith))
+    ∙ rw (begins q p x (choices left (suc p) n), chosen left (suc p) n x, chosen left (suc p) (suc n) (q ∷ x), same_suc (length x) n)
+    (simp z (first_or_later (p + suc left) p q (eqb (length x) n) x (omega arith)))
 
 -- all positions from p on are the one list of their length
 whole_choice : (n p : ℕ) → choices n p n ≡ positions_from p n ∷ []

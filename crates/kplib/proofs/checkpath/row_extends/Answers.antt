@@ -16,10 +16,10 @@ returns-then-s-next c =
 pub returns-then-not-full : goal.returns-then-not-full
 returns-then-not-full c =
     let a = c.args in
-    row_bare a.starts.now a.ends.now a.full (reverse a.chain.now) a.s (not-true a.full c.if-not-full.true)
+    row_bare a.starts.now a.ends.now a.full (reverse a.chain.now) a.s c.if-not-full.true
 
 pub returns : goal.returns
 returns c =
     let a = c.args in
-    row_stands a.starts.now a.ends.now a.full (reverse a.chain.now) a.s (omega arith) c.requires.3 (omega arith) (not-false a.full c.if-not-full.false)
+    row_stands a.starts.now a.ends.now a.full (reverse a.chain.now) a.s (omega arith) c.requires.3 (omega arith) c.if-not-full.false
     c.stands_with_all.ensures

@@ -19,8 +19,8 @@ pub loop-i-preserved : goal.loop-i-preserved
 loop-i-preserved c =
     (
       omega (arith, c.loop-i-test.true),
-      c.lay_choices-at.auto.1.1.1.1.1.1.1.1.0 ∙ c.loop-i.invariant.1,
-      c.lay_choices-at.auto.1.1.1.1.1.1.1.1.1.0 ∙ c.loop-i.invariant.2,
+      c.lay_choices-at.auto.codes ∙ c.loop-i.invariant.1,
+      c.lay_choices-at.auto.totals ∙ c.loop-i.invariant.2,
       laying_turn c.requires c.loop-i-test.true c.loop-i.codes c.loop-i.list_sizes c.loop-i.invariant.1 c.loop-i.invariant.2 c.loop-i.invariant.3 c.lay_choices-at.ensures,
     )
 

@@ -7,5 +7,5 @@ returns-then-s-m c = whole_laid c.requires c.whole_size.ensures c.if-s-m.true
 
 pub returns : goal.returns
 returns c =
-    lengths_laid c.requires c.lengths_of-lengths.ensures.0 c.lengths_of-lengths.ensures.1 c.if-s-m.false c.lay_lengths.auto.1.1.0 c.lay_lengths.auto.1.1.1.0
+    lengths_laid c.requires c.lengths_of-lengths.ensures.0 c.lengths_of-lengths.ensures.1 c.if-s-m.false c.lay_lengths.auto.codes c.lay_lengths.auto.list_sizes
     c.lay_lengths.ensures

@@ -3,49 +3,29 @@ use Prim.Native.Nat.{◌-◌, ◌≤◌}
 use native.Mathlib.Omega.{arith}
 use mathlib.Core.Path.{◌≡◌, refl, sym, ◌∙◌}
 use lib.ListN.{length, get_or}
-use Rattle.params.specs.Several.{Several, several_fault}
+use Rattle.params.specs.Several.{several_fault}
 use Rattle.params.proofs.AcceptedLaws.{as_many_ends, parts_within, features_within}
 use Rattle.kplib.specs.Promises.{several_lent}
 use Rattle.kplib.proofs.HaplotypesLaws.{none_yet, none_answered, few_haplotypes, few_rows, rows_kept, reports_kept}
 use Rattle.kplib.proofs.HaplotypesLaws.{rows_room, reports_room, still_accepted, words_length, next, all_done}
-use Rattle.kplib.proofs.haplotypes.apply_haplotypes.Goals.{After-several_fault-refusal, After-shared_slice_known-in-loop-i-2-1, In-loop-i, Start}
+use Rattle.kplib.proofs.haplotypes.apply_haplotypes.Goals.{After-several_fault-refusal, After-shared_slice_known-in-loop-i-2-1, In-loop-i}
 use Rattle.kplib.proofs.haplotypes.apply_haplotypes.Goals as goal
 
-abbrev call : Start → Several
-call c =
-    let a = c.args in
-    several_lent a.s a.starts.now a.ends.now a.sizes.now a.features.now a.part_ends.now a.feature_ends.now a.part_sizes.now a.part_features.now
-    a.links.now a.keys.now a.rows.now a.reports.now
-
-found : (c : After-several_fault-refusal) → c.several_fault-refusal.result ≡ several_fault (call_here)
-found c =
-    let call_here : Several = let a = c.args in
-    several_lent a.s a.starts.now a.ends.now a.sizes.now a.features.now a.part_ends.now a.feature_ends.now a.part_sizes.now a.part_features.now
-    a.links.now a.keys.now a.rows.now a.reports.now in
-    rw c.queue_room-room.ensures at c.several_fault-refusal.ensures
+found : (c : After-several_fault-refusal) → c.several_fault-refusal.result ≡ several_fault ((let a = c.args in several_lent a.s a.starts.now a.ends.now a.sizes.now a.features.now a.part_ends.now a.feature_ends.now a.part_sizes.now a.part_features.now a.links.now a.keys.now a.rows.now a.reports.now))
+found c = rw c.queue_room-room.ensures at c.several_fault-refusal.ensures
 
 -- the haplotype's stretches lie within their slices
 many : (c : In-loop-i) → length c.args.feature_ends.now ≡ length c.args.part_ends.now
-many c =
-    let call_here : Several = let a = c.args in
-    several_lent a.s a.starts.now a.ends.now a.sizes.now a.features.now a.part_ends.now a.feature_ends.now a.part_sizes.now a.part_features.now
-    a.links.now a.keys.now a.rows.now a.reports.now in
-    as_many_ends (call_here) c.loop-i.invariant.accepted
+many c = as_many_ends ((let a = c.args in several_lent a.s a.starts.now a.ends.now a.sizes.now a.features.now a.part_ends.now a.feature_ends.now a.part_sizes.now a.part_features.now a.links.now a.keys.now a.rows.now a.reports.now)) c.loop-i.invariant.accepted
 
 parts : (c : After-shared_slice_known-in-loop-i-2-1) → let a = c.args in let end = get_or a.part_ends.now c.loop-i.i 0 in (c.begin_of-part.result ≤ end) × (end ≤ length a.part_sizes.now)
 parts c =
-    let call_here : Several = let a = c.args in
-    several_lent a.s a.starts.now a.ends.now a.sizes.now a.features.now a.part_ends.now a.feature_ends.now a.part_sizes.now a.part_features.now
-    a.links.now a.keys.now a.rows.now a.reports.now in
-    let p = parts_within (call_here) c.loop-i.invariant.accepted c.loop-i.i c.loop-i-test.true in
+    let p = parts_within ((let a = c.args in several_lent a.s a.starts.now a.ends.now a.sizes.now a.features.now a.part_ends.now a.feature_ends.now a.part_sizes.now a.part_features.now a.links.now a.keys.now a.rows.now a.reports.now)) c.loop-i.invariant.accepted c.loop-i.i c.loop-i-test.true in
     (omega (arith, p.0, c.begin_of-part.ensures), p.1)
 
 rows_of_parts : (c : After-shared_slice_known-in-loop-i-2-1) → let a = c.args in let end = get_or a.feature_ends.now c.loop-i.i 0 in (c.begin_of-feature.result ≤ end) × (end ≤ length a.part_features.now)
 rows_of_parts c =
-    let call_here : Several = let a = c.args in
-    several_lent a.s a.starts.now a.ends.now a.sizes.now a.features.now a.part_ends.now a.feature_ends.now a.part_sizes.now a.part_features.now
-    a.links.now a.keys.now a.rows.now a.reports.now in
-    let p = features_within (call_here) c.loop-i.invariant.accepted c.loop-i.i c.loop-i-test.true in
+    let p = features_within ((let a = c.args in several_lent a.s a.starts.now a.ends.now a.sizes.now a.features.now a.part_ends.now a.feature_ends.now a.part_sizes.now a.part_features.now a.links.now a.keys.now a.rows.now a.reports.now)) c.loop-i.invariant.accepted c.loop-i.i c.loop-i-test.true in
     (omega (arith, p.0, c.begin_of-feature.ensures), p.1)
 
 pub returns-then-refusal-ne0 : goal.returns-then-refusal-ne0
@@ -83,16 +63,28 @@ pub overflow_mul-word : goal.overflow_mul-word
 overflow_mul-word c = omega (arith, reports_room c.loop-i.invariant c.loop-i-test.true, few_haplotypes c.loop-i.invariant)
 
 pub offset_bounds-part_sizes-part : goal.offset_bounds-part_sizes-part
-offset_bounds-part_sizes-part c = omega (arith, (parts (goal.at.offset_bounds-part_sizes-part c).After-shared_slice_known-in-loop-i-2-1).0, (parts (goal.at.offset_bounds-part_sizes-part c).After-shared_slice_known-in-loop-i-2-1).1, c.good)
+offset_bounds-part_sizes-part c = omega (arith, (parts (goal.at.offset_bounds-part_sizes-part c).After-shared_slice_known-in-loop-i-2-1).0, (parts (goal.at.offset_bounds-part_sizes-part c).After-shared_slice_known-in-loop-i-2-1).1, c.well_formed)
 
 pub slice_bounds-answer_haplotype-count : goal.slice_bounds-answer_haplotype-count
 slice_bounds-answer_haplotype-count c = omega (arith, (parts (goal.at.slice_bounds-answer_haplotype-count c).After-shared_slice_known-in-loop-i-2-1).0, (parts (goal.at.slice_bounds-answer_haplotype-count c).After-shared_slice_known-in-loop-i-2-1).1)
 
+pub slice_bounds-answer_haplotype-start : goal.slice_bounds-answer_haplotype-start
+slice_bounds-answer_haplotype-start c = omega (arith, (parts (goal.at.slice_bounds-answer_haplotype-start c).After-shared_slice_known-in-loop-i-2-1).0, (parts (goal.at.slice_bounds-answer_haplotype-start c).After-shared_slice_known-in-loop-i-2-1).1)
+
+pub slice_bounds-answer_haplotype-end : goal.slice_bounds-answer_haplotype-end
+slice_bounds-answer_haplotype-end c = omega (arith, (parts (goal.at.slice_bounds-answer_haplotype-end c).After-shared_slice_known-in-loop-i-2-1).0, (parts (goal.at.slice_bounds-answer_haplotype-end c).After-shared_slice_known-in-loop-i-2-1).1)
+
 pub offset_bounds-part_features-feature : goal.offset_bounds-part_features-feature
-offset_bounds-part_features-feature c = omega (arith, (rows_of_parts (goal.at.offset_bounds-part_features-feature c).After-shared_slice_known-in-loop-i-2-1).0, (rows_of_parts (goal.at.offset_bounds-part_features-feature c).After-shared_slice_known-in-loop-i-2-1).1, c.good)
+offset_bounds-part_features-feature c = omega (arith, (rows_of_parts (goal.at.offset_bounds-part_features-feature c).After-shared_slice_known-in-loop-i-2-1).0, (rows_of_parts (goal.at.offset_bounds-part_features-feature c).After-shared_slice_known-in-loop-i-2-1).1, c.well_formed)
 
 pub slice_bounds-answer_haplotype-count-in-loop-i : goal.slice_bounds-answer_haplotype-count-in-loop-i
 slice_bounds-answer_haplotype-count-in-loop-i c = omega (arith, (rows_of_parts (goal.at.slice_bounds-answer_haplotype-count-in-loop-i c).After-shared_slice_known-in-loop-i-2-1).0, (rows_of_parts (goal.at.slice_bounds-answer_haplotype-count-in-loop-i c).After-shared_slice_known-in-loop-i-2-1).1)
+
+pub slice_bounds-answer_haplotype-start-in-loop-i : goal.slice_bounds-answer_haplotype-start-in-loop-i
+slice_bounds-answer_haplotype-start-in-loop-i c = omega (arith, (rows_of_parts (goal.at.slice_bounds-answer_haplotype-start-in-loop-i c).After-shared_slice_known-in-loop-i-2-1).0, (rows_of_parts (goal.at.slice_bounds-answer_haplotype-start-in-loop-i c).After-shared_slice_known-in-loop-i-2-1).1)
+
+pub slice_bounds-answer_haplotype-end-in-loop-i : goal.slice_bounds-answer_haplotype-end-in-loop-i
+slice_bounds-answer_haplotype-end-in-loop-i c = omega (arith, (rows_of_parts (goal.at.slice_bounds-answer_haplotype-end-in-loop-i c).After-shared_slice_known-in-loop-i-2-1).0, (rows_of_parts (goal.at.slice_bounds-answer_haplotype-end-in-loop-i c).After-shared_slice_known-in-loop-i-2-1).1)
 
 pub overflow_add-at : goal.overflow_add-at
 overflow_add-at c =
@@ -104,6 +96,14 @@ offset_bounds-rows-at c =
 
 pub slice_bounds-answer_haplotype-count-in-loop-i-2 : goal.slice_bounds-answer_haplotype-count-in-loop-i-2
 slice_bounds-answer_haplotype-count-in-loop-i-2 c =
+    omega (arith, rows_room c.loop-i.invariant c.loop-i-test.true, few_rows c.loop-i.invariant c.loop-i-test.true)
+
+pub slice_bounds-answer_haplotype-start-in-loop-i-2 : goal.slice_bounds-answer_haplotype-start-in-loop-i-2
+slice_bounds-answer_haplotype-start-in-loop-i-2 c =
+    omega (arith, rows_room c.loop-i.invariant c.loop-i-test.true, few_rows c.loop-i.invariant c.loop-i-test.true)
+
+pub slice_bounds-answer_haplotype-end-in-loop-i-2 : goal.slice_bounds-answer_haplotype-end-in-loop-i-2
+slice_bounds-answer_haplotype-end-in-loop-i-2 c =
     omega (arith, rows_room c.loop-i.invariant c.loop-i-test.true, few_rows c.loop-i.invariant c.loop-i-test.true)
 
 pub answer_haplotype-answer-requires : goal.answer_haplotype-answer-requires
@@ -119,6 +119,12 @@ offset_bounds-reports-word c = omega (arith, reports_room c.loop-i.invariant c.l
 pub slice_bounds-put_words-count : goal.slice_bounds-put_words-count
 slice_bounds-put_words-count c = omega (arith, reports_room c.loop-i.invariant c.loop-i-test.true, few_haplotypes c.loop-i.invariant)
 
+pub slice_bounds-put_words-start : goal.slice_bounds-put_words-start
+slice_bounds-put_words-start c = omega (arith, reports_room c.loop-i.invariant c.loop-i-test.true, few_haplotypes c.loop-i.invariant)
+
+pub slice_bounds-put_words-end : goal.slice_bounds-put_words-end
+slice_bounds-put_words-end c = omega (arith, reports_room c.loop-i.invariant c.loop-i-test.true, few_haplotypes c.loop-i.invariant)
+
 pub put_words-requires : goal.put_words-requires
 put_words-requires c = words_length c.loop-i.invariant c.loop-i-test.true
 
@@ -132,7 +138,7 @@ loop-i-smaller c = omega arith
 pub loop-i-preserved : goal.loop-i-preserved
 loop-i-preserved c =
     next c.loop-i.invariant c.loop-i-test.true c.begin_of-part.ensures c.begin_of-feature.ensures c.answer_haplotype-answer.ensures
-    c.answer_haplotype-answer.auto.1.1.1.1.1.1.1.0 c.answer_haplotype-answer.auto.1.1.1.1.1.1.1.1.0 c.answer_haplotype-answer.auto.1.1.1.1.1.1.1.1.1.0
+    c.answer_haplotype-answer.auto.links c.answer_haplotype-answer.auto.keys c.answer_haplotype-answer.auto.rows
     c.put_words.ensures
 
 pub shape_of-links : goal.shape_of-links

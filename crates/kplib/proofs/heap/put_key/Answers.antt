@@ -29,7 +29,7 @@ pub shape_of-keys-then-above-key : goal.shape_of-keys-then-above-key
 shape_of-keys-then-above-key c = simp length-set c.loop-i.invariant.1
 
 pub returns-then-above-key : goal.returns-then-above-key
-returns-then-above-key c = let l = c.loop-i in close l.inv.2 (λ z. c.if-above-key.true) l.inv.3
+returns-then-above-key c = let l = c.loop-i in close l.invariant.2 (λ z. c.if-above-key.true) l.invariant.3
 
 pub offset_bounds-keys-i-in-loop-i : goal.offset_bounds-keys-i-in-loop-i
 offset_bounds-keys-i-in-loop-i c = omega arith
@@ -43,7 +43,7 @@ loop-i-smaller c = omega arith
 pub loop-i-preserved : goal.loop-i-preserved
 loop-i-preserved c =
     let l = c.loop-i in
-    (omega arith, simp length-set l.inv.1, go_up l.inv.2 (omega arith), fits_up l.inv.2 (omega arith) c.if-above-key.false l.inv.3)
+    (omega arith, simp length-set l.invariant.1, go_up l.invariant.2 (omega arith), fits_up l.invariant.2 (omega arith) c.if-above-key.false l.invariant.3)
 
 pub offset_bounds-keys-i-2 : goal.offset_bounds-keys-i-2
 offset_bounds-keys-i-2 c = omega arith

@@ -38,7 +38,7 @@ shape_of-keys-then-key-below c = simp length-set c.loop-i.invariant.1
 pub returns-then-key-below : goal.returns-then-key-below
 returns-then-key-below c =
     let l = c.loop-i in
-    close l.inv.2 l.inv.3 (fits_least c.least_below_lem.ensures c.if-key-below.true)
+    close l.invariant.2 l.invariant.3 (fits_least c.least_below-c.ensures c.if-key-below.true)
 
 pub offset_bounds-keys-i-in-loop-i : goal.offset_bounds-keys-i-in-loop-i
 offset_bounds-keys-i-in-loop-i c = omega arith
@@ -52,8 +52,8 @@ loop-i-smaller c = omega arith
 pub loop-i-preserved : goal.loop-i-preserved
 loop-i-preserved c =
     let l = c.loop-i in
-    let q = c.least_below_lem.ensures in
-    (q.within, simp length-set l.inv.1, go_down l.inv.2 _ q, fits_down l.inv.2 _ q c.if-key-below.false)
+    let q = c.least_below-c.ensures in
+    (q.within, simp length-set l.invariant.1, go_down l.invariant.2 _ q, fits_down l.invariant.2 _ q c.if-key-below.false)
 
 pub offset_bounds-keys-i-2 : goal.offset_bounds-keys-i-2
 offset_bounds-keys-i-2 c = omega arith

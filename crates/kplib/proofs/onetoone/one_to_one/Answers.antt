@@ -8,7 +8,7 @@ use Rattle.kplib.proofs.onetoone.one_to_one.Goals as goal
 
 pub slice_bounds-sum_features-end-2 : goal.slice_bounds-sum_features-end-2
 slice_bounds-sum_features-end-2 c =
-    sym (length-take-le (length c.args.part_sizes.now) _ (omega (arith, c.all_positions.auto.1.0, c.requires.room, c.requires.tables.part_sized.few)))
+    sym (length-take-le (length c.args.part_sizes.now) _ (omega (arith, c.all_positions.auto.chosen, c.requires.room, c.requires.tables.part_sized.few)))
 
 pub sum_features-requires : goal.sum_features-requires
 sum_features-requires c = whole_ok c.requires c.all_positions.ensures

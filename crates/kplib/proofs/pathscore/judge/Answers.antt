@@ -38,7 +38,7 @@ may_score-requires c = (c.requires.partial_few, c.requires.gap_few)
 
 pub returns-then-not-may_score : goal.returns-then-not-may_score
 returns-then-not-may_score c =
-    no_gain c.requires (passed (goal.at.returns-then-not-may_score c).After-sum_block-sums) c.most_alike-most.ensures c.may_score.ensures (not-true c.may_score.result c.if-not-may_score.true)
+    no_gain c.requires (passed (goal.at.returns-then-not-may_score c).After-sum_block-sums) c.most_alike-most.ensures c.may_score.ensures c.if-not-may_score.true
 
 pub loop-from-smaller : goal.loop-from-smaller
 loop-from-smaller c = omega (arith, c.block_end-to.ensures.0, c.loop-from-test.true)

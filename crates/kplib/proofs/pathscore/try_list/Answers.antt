@@ -14,7 +14,7 @@ may_win-requires c = may_ok c.requires
 
 pub returns-then-not-may_win : goal.returns-then-not-may_win
 returns-then-not-may_win c =
-    attempt_lost c.requires c.args.floor c.args.best c.may_win.ensures (not-true c.may_win.result c.if-not-may_win.true) c.requires.ready
+    attempt_lost c.requires c.args.floor c.args.best c.may_win.ensures c.if-not-may_win.true c.requires.ready
 
 pub positions-d-requires : goal.positions-d-requires
 positions-d-requires c =
@@ -28,11 +28,11 @@ terms_of-terms-requires c = may_ok c.requires
 
 pub slice_bounds-judge-end : goal.slice_bounds-judge-end
 slice_bounds-judge-end c =
-    let p = c.positions-d in omega (arith, p.ensures.0, p.auto.1.1.0, c.requires.room, c.requires.planned.few)
+    let p = c.positions-d in omega (arith, p.ensures.0, p.auto.chosen, c.requires.room, c.requires.planned.few)
 
 pub slice_bounds-judge-end-2 : goal.slice_bounds-judge-end-2
 slice_bounds-judge-end-2 c =
-    let p = c.positions-d in sym (length-take-le p.result _ (omega (arith, p.ensures.0, p.auto.1.1.0, c.requires.room, c.requires.planned.few)))
+    let p = c.positions-d in sym (length-take-le p.result _ (omega (arith, p.ensures.0, p.auto.chosen, c.requires.room, c.requires.planned.few)))
 
 pub judge-verdict-requires : goal.judge-verdict-requires
 judge-verdict-requires c =
@@ -44,4 +44,4 @@ greater_of-scored-requires c = omega (arith, c.requires.planned.few)
 pub returns : goal.returns
 returns c =
     attempt_scored c.requires c.args.best.scored c.ready-weight.ensures c.positions-d.ensures.1 c.terms_of-terms.ensures
-    c.may_win.ensures (not-false c.may_win.result c.if-not-may_win.false) c.judge-verdict.ensures c.greater_of-scored.ensures
+    c.may_win.ensures c.if-not-may_win.false c.judge-verdict.ensures c.greater_of-scored.ensures

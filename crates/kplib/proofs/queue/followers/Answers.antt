@@ -27,7 +27,7 @@ pub stand_with-requires : goal.stand_with-requires
 stand_with-requires c = (omega arith, c.loop-i.invariant.long)
 
 pub overflow_cast-i : goal.overflow_cast-i
-overflow_cast-i c = record { fits = omega (arith, parent_less (goal.at.overflow_cast-i c).At-loop-i (omega arith), c.loop-i.invariant.low, c.fits.entry) }
+overflow_cast-i c = record { fits = omega (arith, parent_less (goal.at.overflow_cast-i c).At-loop-i (omega arith), c.loop-i.invariant.low, c.ranges.entry) }
 
 pub loop-i-smaller : goal.loop-i-smaller
 loop-i-smaller c = parent_less (goal.at.loop-i-smaller c).At-loop-i (omega arith)

@@ -81,7 +81,7 @@ key-k-requires c =
     (k.0, k.1, omega (arith, h.few_entries, c.loop-r.invariant.4.most))
 
 pub overflow_add-queued : goal.overflow_add-queued
-overflow_add-queued c = record { fits = omega (arith, c.good, c.requires.key_room, c.loop-r.invariant.4.most) }
+overflow_add-queued c = record { fits = omega (arith, c.well_formed, c.requires.key_room, c.loop-r.invariant.4.most) }
 
 pub put_key-requires : goal.put_key-requires
 put_key-requires c = let q = c.loop-r.invariant.4 in (omega (arith, c.requires.key_room, q.most), q.heap.order)
@@ -97,9 +97,9 @@ loop-r-preserved-then-may-r c =
     let l = c.loop-r in (
       omega arith,
       omega arith,
-      simp length-set l.inv.2,
-      c.put_key.auto.0 ∙ l.inv.3,
-      queueing_row c.requires l.links l.inv.4 l.inv.2 l.inv.3 (omega arith) (extending (goal.at.loop-r-preserved-then-may-r c).Then-may-r) c.key-k.ensures c.put_key.ensures,
+      simp length-set l.invariant.2,
+      c.put_key.auto.keys ∙ l.invariant.3,
+      queueing_row c.requires l.links l.invariant.4 l.invariant.2 l.invariant.3 (omega arith) (extending (goal.at.loop-r-preserved-then-may-r c).Then-may-r) c.key-k.ensures c.put_key.ensures,
     )
 
 pub loop-r-smaller : goal.loop-r-smaller
@@ -108,7 +108,7 @@ loop-r-smaller c = omega arith
 pub loop-r-preserved : goal.loop-r-preserved
 loop-r-preserved c =
     let l = c.loop-r in
-    (omega arith, omega arith, l.inv.2, l.inv.3, queueing_skip l.inv.4 (omega arith) (flag (goal.at.loop-r-preserved c).In-loop-r ∙ c.if-may-r.false))
+    (omega arith, omega arith, l.invariant.2, l.invariant.3, queueing_skip l.invariant.4 (omega arith) (flag (goal.at.loop-r-preserved c).In-loop-r ∙ c.if-may-r.false))
 
 pub shape_of-links : goal.shape_of-links
 shape_of-links c = c.loop-r.invariant.2
@@ -120,4 +120,4 @@ pub returns : goal.returns
 returns c =
     let h = c.requires in
     let l = c.loop-r in
-    (queueing_done l.invariant.4 (omega (arith, h.end_is)), omega (arith, h.key_room, l.invariant.4.most))
+    record { fact = queueing_done l.invariant.4 (omega (arith, h.end_is)); result_in_bounds = omega (arith, h.key_room, l.invariant.4.most) }

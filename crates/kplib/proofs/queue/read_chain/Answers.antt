@@ -35,7 +35,7 @@ loop-i-smaller c = parent_before c.args.links.now c.loop-i.invariant.1 c.require
 pub loop-i-preserved : goal.loop-i-preserved
 loop-i-preserved c =
     let l = c.loop-i in
-    (simp length-set l.inv.0, read_link c.args.links.now l.inv.1 c.requires.links (omega arith))
+    (simp length-set l.invariant.0, read_link c.args.links.now l.invariant.1 c.requires.links (omega arith))
 
 pub shape_of-chain : goal.shape_of-chain
 shape_of-chain c = omega arith

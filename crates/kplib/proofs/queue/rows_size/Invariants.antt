@@ -7,7 +7,7 @@ use Rattle.kplib.proofs.SizeSumLaws.{Summing}
 use Rattle.kplib.proofs.queue.rows_size.Given as goal
 
 abbrev pub invariant-loop-i : goal.invariant-loop-i
-invariant-loop-i l = (l.i ≤ length l.rows) × Summing l.sizes l.rows (to_z w32 l.size) l.i
+invariant-loop-i l = (l.i ≤ length l.rows) × Summing l.sizes l.rows l.size l.i
 
 abbrev pub decreases-loop-i : goal.decreases-loop-i
 decreases-loop-i l = length l.rows - l.i

@@ -62,5 +62,5 @@ loop-at-smaller c =
 pub loop-at-preserved : goal.loop-at-preserved
 loop-at-preserved c =
     let v = c.loop-at.invariant in
-    let k = c.step-at.auto.1.1.1.1.1.1.1 in
-    (v.0, k.0 ∙ v.1, k.1.0 ∙ v.2, k.1.1.0 ∙ v.3, c.step-at.ensures.0)
+    let k = c.step-at.auto in
+    (v.0, k.links ∙ v.1, k.keys ∙ v.2, k.scratch ∙ v.3, c.step-at.ensures.0)

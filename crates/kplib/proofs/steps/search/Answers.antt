@@ -72,10 +72,10 @@ run-requires c =
     )
 
 pub shape_of-links : goal.shape_of-links
-shape_of-links c = c.run.auto.1.1.1.1.1.1.1.0
+shape_of-links c = c.run.auto.links
 
 pub shape_of-keys : goal.shape_of-keys
-shape_of-keys c = c.run.auto.1.1.1.1.1.1.1.1.0 ∙ simp length-set
+shape_of-keys c = c.run.auto.keys ∙ simp length-set
 
 pub returns : goal.returns
 returns c =

@@ -11,12 +11,12 @@ rows_size-size-requires c = rowed_as c.requires (cut _ 64 _ (omega arith) c.read
 pub score_chain-scored-requires : goal.score_chain-scored-requires
 score_chain-scored-requires c =
     let size = c.rows_size-size in
-    scorable_as c.requires (cut _ 64 _ (omega arith) c.read_chain-at.ensures) (read_back _ size.ok ∙ size.ensures) (omega arith)
+    scorable_as c.requires (cut _ 64 _ (omega arith) c.read_chain-at.ensures) (read_back _ size.type_inv ∙ size.ensures) (omega arith)
 
 pub shape_of-scratch : goal.shape_of-scratch
-shape_of-scratch c = c.score_chain-scored.auto.1.1.1.1.1.1.1.1.0
+shape_of-scratch c = c.score_chain-scored.auto.scratch
 
 pub returns : goal.returns
 returns c =
     let size = c.rows_size-size in
-    weighed_as c.requires (cut _ 64 _ (omega arith) c.read_chain-at.ensures) (read_back _ size.ok ∙ size.ensures) c.score_chain-scored.ensures
+    weighed_as c.requires (cut _ 64 _ (omega arith) c.read_chain-at.ensures) (read_back _ size.type_inv ∙ size.ensures) c.score_chain-scored.ensures

@@ -3,7 +3,7 @@ use native.Mathlib.Omega.{arith}
 use Prim.Native.Nat.{◌-◌}
 use lib.ListN.{length}
 use Rattle.kplib.proofs.RowSumLaws.{row_place}
-use Rattle.kplib.proofs.PartSumLaws.{adding_ok, adding_turn, adding_done}
+use Rattle.kplib.proofs.PartSumLaws.{part_end, adding_ok, adding_turn, adding_done}
 use Rattle.kplib.proofs.sums.add_parts.Goals as goal
 
 pub overflow_cast-a : goal.overflow_cast-a
@@ -20,6 +20,9 @@ overflow_add-e c = omega (arith, c.requires.1, row_place c.requires.0 c.loop-i-t
 
 pub offset_bounds-table-a : goal.offset_bounds-table-a
 offset_bounds-table-a c = omega (arith, c.requires.1, row_place c.requires.0 c.loop-i-test.true)
+
+pub slice_bounds-add_row-end : goal.slice_bounds-add_row-end
+slice_bounds-add_row-end c = part_end _ _ _ c.requires.1 (row_place c.requires.0 c.loop-i-test.true).0
 
 pub add_row-requires : goal.add_row-requires
 add_row-requires c =

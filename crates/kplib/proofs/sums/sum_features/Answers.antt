@@ -9,9 +9,9 @@ use Rattle.kplib.proofs.sums.sum_features.Goals as goal
 pub add_parts-requires : goal.add_parts-requires
 unfolding zeros
 add_parts-requires c =
-    (c.requires, omega (arith, c.clear_row.auto.0), cleared_sum (length c.args.out.now) _ c.clear_row.ensures)
+    (c.requires, omega (arith, c.clear_row.auto.row), cleared_sum (length c.args.out.now) _ c.clear_row.ensures)
 
 pub returns : goal.returns
 unfolding zeros
 returns c =
-    parts_all c.requires c.clear_row.auto.0 c.clear_row.ensures c.add_parts.ensures
+    parts_all c.requires c.clear_row.auto.row c.clear_row.ensures c.add_parts.ensures

@@ -6,7 +6,7 @@ use Rattle.kplib.proofs.traverse.answer_alone.Goals as goal
 pub answer_with-requires : goal.answer_with-requires
 answer_with-requires c =
     let x = c.alone-lone.result in
-    (omega (arith, c.place_row-n.ensures.0, lone_few x.scored.target x.row.0), omega (arith, c.requires.1.0))
+    (omega (arith, c.place_row-n.ensures.0, lone_few x.scored.target x.row.0), omega (arith, c.requires.starts_len_bound.0))
 
 pub returns : goal.returns
 returns c =

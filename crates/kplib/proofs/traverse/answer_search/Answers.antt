@@ -9,13 +9,13 @@ pub answer_with-requires : goal.answer_with-requires
 answer_with-requires c = search_few c.search-end.ensures c.place_chain-n.ensures.0
 
 pub shape_of-links : goal.shape_of-links
-shape_of-links c = c.search-end.auto.1.1.1.1.1.1.1.0
+shape_of-links c = c.search-end.auto.links
 
 pub shape_of-keys : goal.shape_of-keys
-shape_of-keys c = c.search-end.auto.1.1.1.1.1.1.1.1.0
+shape_of-keys c = c.search-end.auto.keys
 
 pub shape_of-rows : goal.shape_of-rows
-shape_of-rows c = c.place_chain-n.auto.1.1.1.0
+shape_of-rows c = c.place_chain-n.auto.rows
 
 pub returns : goal.returns
 returns c =

@@ -31,7 +31,7 @@ pub loop-i-preserved : goal.loop-i-preserved
 loop-i-preserved c =
     let l = c.loop-i in
     let a = c.args in
-    (omega arith, simp length-set l.inv.1, rw l.inv.2 (put_on l.i a.from.now a.rows.now (omega arith) (omega arith)))
+    (omega arith, simp length-set l.invariant.1, rw l.invariant.2 (put_on l.i a.from.now a.rows.now (omega arith) (omega arith)))
 
 pub shape_of-rows : goal.shape_of-rows
 shape_of-rows c = omega arith

@@ -14,7 +14,7 @@ pub loop-r-preserved : goal.loop-r-preserved
 loop-r-preserved c =
     let l = c.loop-r in
     let h = c.requires in
-    (omega arith, pairs_on l.inv.1 h.1 c.lay_row.ensures)
+    (omega arith, pairs_on l.invariant.1 h.1 c.lay_row.ensures)
 
 pub returns : goal.returns
 returns c = pairs_done c.loop-r.invariant.1 (omega arith)
