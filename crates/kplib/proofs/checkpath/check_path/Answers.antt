@@ -1,5 +1,4 @@
 -- A refusal is answered at once; then chain, part list and score are asked, and the first that fails is a no.
-use borrow.Author.Tests.{not-true, not-false}
 use Rattle.params.specs.Numbers.{Table, Parts, table_of, parts_of}
 use Rattle.kplib.specs.Proposal.{Proposal, proposal_of, check_of}
 use Rattle.kplib.proofs.ProposalLaws.{refused_check, graph_ready, pairable, no_chain, no_list, no_score, yes}

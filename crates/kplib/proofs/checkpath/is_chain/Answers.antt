@@ -1,9 +1,7 @@
 -- The rows so far are a chain; the first that does not extend them decides.
-use Prim.Native.Nat.{◌-◌}
 use native.Mathlib.Omega.{arith}
 use lib.Seq.{length-take-le}
 use mathlib.Core.Path.{sym}
-use borrow.Author.Tests.{not-true, not-false}
 use Rattle.kplib.proofs.RowChainLaws.{none_grown, grown_below, grown_on, grown_not, grown_all}
 use Rattle.kplib.proofs.checkpath.is_chain.Goals as goal
 

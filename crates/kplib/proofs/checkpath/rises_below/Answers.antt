@@ -1,5 +1,4 @@
 -- What is left of the positions, from the place reached and above the last one, rises below m exactly when all of them do.
-use Prim.Native.Nat.{◌-◌}
 use native.Mathlib.Omega.{arith}
 use Rattle.kplib.proofs.ProposalLaws.{none_risen, falls, past, rises_on, rises_all}
 use Rattle.kplib.proofs.checkpath.rises_below.Goals as goal

@@ -1,7 +1,6 @@
 -- There is no such row, or it does not come later, or none may follow; else each row of the chain is asked.
 use mathlib.Core.List.{reverse}
 use native.Mathlib.Omega.{arith}
-use borrow.Author.Tests.{not-true, not-false}
 use Rattle.kplib.proofs.RowChainLaws.{row_absent, row_early, row_bare, row_stands}
 use Rattle.kplib.proofs.checkpath.row_extends.Goals as goal
 

@@ -1,7 +1,7 @@
 -- The positions written so far, and those that are left, are the whole list.
 use mathlib.Core.Path.{refl}
 use native.Mathlib.Omega.{arith}
-use Prim.Native.Nat.{◌-◌, ◌<◌}
+use Prim.Native.Nat.{◌<◌}
 use lib.ListN.{length, length-set}
 use Rattle.kplib.proofs.CodeLaws.{all_start, all_turn, all_done}
 use Rattle.kplib.proofs.haplotype.all_positions.Goals as goal

@@ -1,7 +1,7 @@
 -- The positions chosen so far, and those of the bits that are left, are the whole list.
 use mathlib.Core.Path.{refl}
 use native.Mathlib.Omega.{arith}
-use Prim.Native.Nat.{◌-◌, ◌<◌}
+use Prim.Native.Nat.{◌<◌}
 use lib.ListN.{length, length-set}
 use Rattle.kplib.proofs.CodeLaws.{place_start, place_turn, place_done}
 use Rattle.kplib.proofs.haplotype.bit_positions.Goals as goal

@@ -1,7 +1,6 @@
 -- The lists of the first i lengths are laid.
 use mathlib.Core.Path.{refl, ◌∙◌}
 use native.Mathlib.Omega.{arith}
-use Prim.Native.Nat.{◌-◌}
 use Rattle.kplib.proofs.LayLaws.{laying_starts, choosing, laying_turn, laying_done}
 use Rattle.kplib.proofs.haplotype.lay_lengths.Goals as goal
 
@@ -16,13 +15,12 @@ lay_choices-at-requires c =
     choosing c.requires c.loop-i-test.true c.loop-i.codes c.loop-i.list_sizes c.loop-i.invariant.1 c.loop-i.invariant.2 c.loop-i.invariant.3
 
 pub loop-i-preserved : goal.loop-i-preserved
-loop-i-preserved c =
-    (
-      omega (arith, c.loop-i-test.true),
-      c.lay_choices-at.auto.codes ∙ c.loop-i.invariant.1,
-      c.lay_choices-at.auto.totals ∙ c.loop-i.invariant.2,
-      laying_turn c.requires c.loop-i-test.true c.loop-i.codes c.loop-i.list_sizes c.loop-i.invariant.1 c.loop-i.invariant.2 c.loop-i.invariant.3 c.lay_choices-at.ensures,
-    )
+loop-i-preserved c = (
+  omega (arith, c.loop-i-test.true),
+  c.lay_choices-at.auto.codes ∙ c.loop-i.invariant.1,
+  c.lay_choices-at.auto.totals ∙ c.loop-i.invariant.2,
+  laying_turn c.requires c.loop-i-test.true c.loop-i.codes c.loop-i.list_sizes c.loop-i.invariant.1 c.loop-i.invariant.2 c.loop-i.invariant.3 c.lay_choices-at.ensures,
+)
 
 pub shape_of-codes : goal.shape_of-codes
 shape_of-codes c = c.loop-i.invariant.1

@@ -1,8 +1,6 @@
 -- The sum so far, with the sizes that are left, is the size of the whole.
 use Prim.Native.Nat.{◌-◌, ◌≤◌}
 use lib.ListN.{length}
-use mir.Syntax.{w32}
-use mir.Val.{to_z}
 use Rattle.kplib.specs.Parts.{whole_of}
 use Rattle.kplib.proofs.SizeSumLaws.{Summing}
 use Rattle.kplib.proofs.haplotype.whole_size.Given as goal

@@ -1,6 +1,5 @@
 -- The hole begins at the front and goes down past smaller keys.
 use mathlib.Core.Path.{refl}
-use Prim.Native.Nat.{◌-◌}
 use native.Mathlib.Omega.{arith}
 use lib.ListN.{length-set}
 use Rattle.paths.proofs.HeapLaws.{open_front, go_down, fits_down, close, none_below, fits_least}

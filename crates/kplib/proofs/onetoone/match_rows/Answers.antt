@@ -1,6 +1,5 @@
 -- The best so far, after the rows that are left, is the answer: source and sink change nothing. Assumes nothing.
 use native.Mathlib.Omega.{arith}
-use Prim.Native.Nat.{◌-◌}
 use Rattle.kplib.proofs.OneToOneLaws.{none_matched, row_matched, all_matched, row_room, row_comparable, row_scored}
 use Rattle.kplib.proofs.onetoone.match_rows.Goals as goal
 

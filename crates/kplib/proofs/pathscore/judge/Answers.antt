@@ -1,9 +1,7 @@
 -- After each block what is added up and what is left are the whole, so a list is given up only where its own seqsim could not win either.
 use mathlib.Core.Path.{refl}
-use Prim.Native.Nat.{◌-◌}
 use native.Mathlib.Omega.{arith}
 use lib.ListN.{length}
-use borrow.Author.Tests.{not-true}
 use Rattle.kplib.specs.Sums.{features_of}
 use Rattle.kplib.proofs.BlockLaws.{Passed, none_passed, block_passed, low_n, block_ok, too_low, no_gain, whole_verdict}
 use Rattle.kplib.proofs.pathscore.judge.Goals.{After-sum_block-sums}

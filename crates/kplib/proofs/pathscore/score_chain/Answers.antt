@@ -1,7 +1,6 @@
 -- The best so far, after the lists that are left, stands for the score. Assumes nothing.
 use mathlib.Core.Path.{refl, ◌∙◌}
 use native.Mathlib.Omega.{arith}
-use Prim.Native.Nat.{◌-◌}
 use lib.ListN.{length}
 use Rattle.kplib.proofs.ChainScoreLaws.{none_tried_lem, attempt, one_more, all_tried}
 use Rattle.kplib.proofs.pathscore.score_chain.Goals as goal
@@ -20,13 +19,12 @@ pub overflow_add-i : goal.overflow_add-i
 overflow_add-i c = omega (arith, c.loop-i-test.true, c.well_formed)
 
 pub loop-i-preserved : goal.loop-i-preserved
-loop-i-preserved c =
-    (
-      omega (arith, c.loop-i-test.true),
-      ◌∙◌ {b = length c.loop-i.chosen} c.try_list-best.auto.chosen c.loop-i.invariant.1,
-      ◌∙◌ {b = length c.loop-i.scratch} c.try_list-best.auto.scratch c.loop-i.invariant.2,
-      one_more c.requires c.loop-i-test.true c.args.floor c.loop-i.best c.loop-i.scratch c.loop-i.invariant.3 c.try_list-best.ensures,
-    )
+loop-i-preserved c = (
+  omega (arith, c.loop-i-test.true),
+  ◌∙◌ {b = length c.loop-i.chosen} c.try_list-best.auto.chosen c.loop-i.invariant.1,
+  ◌∙◌ {b = length c.loop-i.scratch} c.try_list-best.auto.scratch c.loop-i.invariant.2,
+  one_more c.requires c.loop-i-test.true c.args.floor c.loop-i.best c.loop-i.scratch c.loop-i.invariant.3 c.try_list-best.ensures,
+)
 
 pub returns : goal.returns
 returns c =

@@ -2,8 +2,6 @@
 use mathlib.Core.Path.{◌≡◌}
 use Prim.Native.Nat.{◌-◌, ◌≤◌}
 use lib.ListN.{length}
-use mir.Syntax.{w32}
-use mir.Val.{to_z}
 use Rattle.kplib.proofs.ChainScoreLaws.{Tried}
 use Rattle.kplib.proofs.pathscore.score_chain.Given as goal
 

@@ -2,7 +2,6 @@
 use mathlib.Core.Path.{sym}
 use native.Mathlib.Omega.{arith}
 use lib.Seq.{length-take-le}
-use borrow.Author.Tests.{not-true, not-false}
 use Rattle.kplib.proofs.AttemptLaws.{may_ok, attempt_lost, ready_ok, judgeable, attempt_scored}
 use Rattle.kplib.proofs.pathscore.try_list.Goals as goal
 

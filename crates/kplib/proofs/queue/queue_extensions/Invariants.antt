@@ -1,6 +1,6 @@
 -- Row by row, highest first: a row that extends the chain is put behind the entries, its key to the keys, and any other row is passed over.
 use mathlib.Core.Path.{◌≡◌}
-use Prim.Native.Nat.{◌-◌, ◌≤◌}
+use Prim.Native.Nat.{◌≤◌}
 use lib.ListN.{length}
 use Rattle.paths.proofs.QueueLaws.{Queueing}
 use Rattle.kplib.specs.SearchSteps.{parents_of, lasts_of, follows_by}

@@ -1,5 +1,5 @@
 -- The sum so far, with the rest of the rows added to it, is the whole sum.
-use Prim.Native.Nat.{◌-◌, ◌<◌}
+use Prim.Native.Nat.{◌<◌}
 use native.Mathlib.Omega.{arith}
 use lib.ListN.{length, get_or}
 use Rattle.paths.proofs.PickLaws.{all_at}

@@ -1,8 +1,6 @@
 -- The sum so far, with the rest of the rows added to it, is the whole sum.
 use Prim.Native.Nat.{◌-◌, ◌≤◌}
 use lib.ListN.{length}
-use mir.Syntax.{w32}
-use mir.Val.{to_z}
 use Rattle.kplib.proofs.SizeSumLaws.{Summing}
 use Rattle.kplib.proofs.queue.rows_size.Given as goal
 

@@ -1,6 +1,5 @@
 -- Each step leads from where the search stands to where it stands then; when it stops, what is done is the whole.
 use mathlib.Core.Path.{refl, sym, ◌∙◌}
-use Prim.Native.Nat.{◌-◌}
 use native.Mathlib.Omega.{arith}
 use lib.ListN.{length}
 use Rattle.kplib.specs.SearchSteps.{Told, told, Searchable}

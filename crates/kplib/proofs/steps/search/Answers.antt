@@ -65,11 +65,10 @@ pub not_begun-requires : goal.not_begun-requires
 not_begun-requires c = tt
 
 pub run-requires : goal.run-requires
-run-requires c =
-    (
-      searchable_first c.requires (planned (goal.at.run-requires c).After-whole_size-target) c.lay_lists-count.ensures _ refl (simp length-set refl) (length-take-le _ _ (omega (arith, width_few (goal.at.run-requires c).After-whole_size-target))),
-      going_first _ _ c.args.keys.now (omega (arith, c.requires.key_room)) c.key.ensures c.not_begun.ensures,
-    )
+run-requires c = (
+  searchable_first c.requires (planned (goal.at.run-requires c).After-whole_size-target) c.lay_lists-count.ensures _ refl (simp length-set refl) (length-take-le _ _ (omega (arith, width_few (goal.at.run-requires c).After-whole_size-target))),
+  going_first _ _ c.args.keys.now (omega (arith, c.requires.key_room)) c.key.ensures c.not_begun.ensures,
+)
 
 pub shape_of-links : goal.shape_of-links
 shape_of-links c = c.run.auto.links

@@ -1,6 +1,5 @@
 -- What is summed, with the parts of the rows that are left, is the whole sum.
 use native.Mathlib.Omega.{arith}
-use Prim.Native.Nat.{◌-◌}
 use lib.ListN.{length}
 use Rattle.kplib.proofs.RowSumLaws.{row_place}
 use Rattle.kplib.proofs.PartSumLaws.{part_end, adding_ok, adding_turn, adding_done}

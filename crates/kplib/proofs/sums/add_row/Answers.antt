@@ -2,7 +2,7 @@
 use mathlib.Core.Path.{◌∙◌}
 use native.Mathlib.Omega.{arith}
 use borrow.Author.Rules.{rules}
-use Prim.Native.Nat.{◌-◌, ◌<◌}
+use Prim.Native.Nat.{◌<◌}
 use lib.ListN.{length, length-set}
 use Rattle.kplib.proofs.RowSumLaws.{mixed, mixed_all, added_fits, added}
 use Rattle.kplib.proofs.sums.add_row.Goals as goal

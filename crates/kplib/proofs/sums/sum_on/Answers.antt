@@ -1,5 +1,4 @@
 -- What is added up and what is left are the whole.
-use Prim.Native.Nat.{◌-◌}
 use native.Mathlib.Omega.{arith}
 use Rattle.kplib.proofs.BlockLaws.{none_passing, passing_ok, passing_turn, passing_done}
 use Rattle.kplib.proofs.sums.sum_on.Goals as goal

@@ -1,6 +1,5 @@
 -- The rows written so far, and then the buffer's own.
 use mathlib.Core.Path.{refl, ◌∙◌}
-use Prim.Native.Nat.{◌-◌}
 use native.Mathlib.Omega.{arith}
 use lib.ListN.{length-set}
 use Rattle.kplib.proofs.PlaceLaws.{put_on, put_done}

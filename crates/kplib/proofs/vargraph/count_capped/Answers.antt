@@ -1,5 +1,4 @@
 -- A bare graph has one chain; a full one has the empty chain and those that go on from it by some of the rows. Assumes nothing.
-use borrow.Author.Tests.{not-true, not-false}
 use Rattle.kplib.proofs.CappedLaws.{bare_count, graph_count}
 use Rattle.kplib.proofs.vargraph.count_capped.Goals as goal
 

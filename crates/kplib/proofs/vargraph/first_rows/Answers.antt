@@ -1,5 +1,4 @@
 -- Row by row: those passed stand in their places. Assumes nothing.
-use Prim.Native.Nat.{◌-◌}
 use native.Mathlib.Omega.{arith}
 use Rattle.kplib.proofs.CappedLaws.{rows_begin, rows_on, rows_done}
 use Rattle.kplib.proofs.vargraph.first_rows.Goals as goal

@@ -1,7 +1,6 @@
 -- The later rows one by one: those passed have their flag. At the first one that starts at the row's end or behind it, so do all others. Assumes nothing.
 use mathlib.Core.Path.{◌≡◌, ap, ◌∙◌}
 use mathlib.Core.Bool.{not}
-use Prim.Native.Nat.{◌-◌}
 use native.Mathlib.Omega.{arith}
 use lib.ListN.{length}
 use Rattle.kplib.specs.Graph.{edge}

@@ -1,6 +1,5 @@
 -- Row by row: of the rows passed, those at which the flag stands are behind place `to`. Assumes nothing.
-use mathlib.Core.Bool.{false}
-use Prim.Native.Nat.{◌-◌, ◌<◌}
+use Prim.Native.Nat.{◌<◌}
 use native.Mathlib.Omega.{arith}
 use lib.ListN.{length}
 use Rattle.kplib.proofs.CappedLaws.{narrowing_begin, narrowing_room, narrowing_done, narrowing_skip, narrowing_take}

@@ -1,5 +1,4 @@
 -- Row by row: the flags of the rows passed are laid. Assumes nothing.
-use Prim.Native.Nat.{◌-◌}
 use native.Mathlib.Omega.{arith}
 use Rattle.kplib.proofs.TogetherLaws.{pairs_begin, pairs_on, pairs_done}
 use Rattle.kplib.proofs.vargraph.pairs_together.Goals as goal

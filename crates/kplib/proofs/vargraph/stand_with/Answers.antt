@@ -1,6 +1,5 @@
 -- Row by row: those passed have both flags. Assumes nothing.
 use mathlib.Core.Path.{refl}
-use Prim.Native.Nat.{◌-◌}
 use native.Mathlib.Omega.{arith}
 use Rattle.kplib.proofs.TogetherLaws.{both_begin, both_on, both_done}
 use Rattle.kplib.proofs.vargraph.stand_with.Goals as goal
