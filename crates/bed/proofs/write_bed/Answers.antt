@@ -44,8 +44,7 @@ returns-then-not-good_name c =
     let text = a.text.now in
     let fault = write_fault name starts ends rows (length text) in
     let all = rows_text name starts ends rows in
-    refused_written fault all text (bad_name name starts ends rows (length text) c.if-ends-starts.false c.if-rows-eq0.false (sym c.good_name.ensures ∙ not_true
-    c.if-not-good_name.true)) (λ z. omega arith)
+    refused_written fault all text (bad_name name starts ends rows (length text) c.if-ends-starts.false c.if-rows-eq0.false (sym c.good_name.ensures ∙ c.if-not-good_name.true)) (λ z. omega arith)
 
 pub returns-then-missing_row : goal.returns-then-missing_row
 returns-then-missing_row c =
@@ -57,12 +56,12 @@ returns-then-missing_row c =
     let text = a.text.now in
     let fault = write_fault name starts ends rows (length text) in
     let all = rows_text name starts ends rows in
-    refused_written fault all text (missing name starts ends rows (length text) c.if-ends-starts.false (sym c.good_name.ensures ∙ not_false c.if-not-good_name.false) (sym
+    refused_written fault all text (missing name starts ends rows (length text) c.if-ends-starts.false (sym c.good_name.ensures ∙ c.if-not-good_name.false) (sym
     c.missing_row.ensures ∙ c.if-missing_row.true)) (λ z. omega arith)
 
 pub fits-requires : goal.fits-requires
 fits-requires c =
-    (sym c.good_name.ensures ∙ not_false c.if-not-good_name.false)
+    (sym c.good_name.ensures ∙ c.if-not-good_name.false)
 
 pub returns-then-not-fits : goal.returns-then-not-fits
 returns-then-not-fits c =
@@ -74,8 +73,8 @@ returns-then-not-fits c =
     let text = a.text.now in
     let fault = write_fault name starts ends rows (length text) in
     let all = rows_text name starts ends rows in
-    refused_written fault all text (short name starts ends rows (length text) c.if-ends-starts.false (sym c.good_name.ensures ∙ not_false c.if-not-good_name.false) (sym
-    c.missing_row.ensures ∙ c.if-missing_row.false) (not_false (sym c.fits2.ensures ∙ not_true c.if-not-fits.true))) (λ z. omega arith)
+    refused_written fault all text (short name starts ends rows (length text) c.if-ends-starts.false (sym c.good_name.ensures ∙ c.if-not-good_name.false) (sym
+    c.missing_row.ensures ∙ c.if-missing_row.false) (not_false (sym c.fits.ensures ∙ c.if-not-fits.true))) (λ z. omega arith)
 
 pub returns : goal.returns
 returns c =
@@ -87,8 +86,8 @@ returns c =
     let text = a.text.now in
     let fault = write_fault name starts ends rows (length text) in
     let all = rows_text name starts ends rows in
-    let little = not_true (sym c.fits2.ensures ∙ not_false c.if-not-fits.false) in
+    let little = not_true (sym c.fits.ensures ∙ c.if-not-fits.false) in
     let room = ltb-false (length text) (length all) little in
     let put = c.put_rows.ensures in
-    accepted_written fault all text (written name starts ends rows (length text) c.if-ends-starts.false (sym c.good_name.ensures ∙ not_false c.if-not-good_name.false) (sym
+    accepted_written fault all text (written name starts ends rows (length text) c.if-ends-starts.false (sym c.good_name.ensures ∙ c.if-not-good_name.false) (sym
     c.missing_row.ensures ∙ c.if-missing_row.false) little) (stored_length text all put room) (stored_placed text all put room)

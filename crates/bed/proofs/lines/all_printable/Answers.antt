@@ -1,5 +1,4 @@
 -- The rest is printable exactly where the whole is.
-use Prim.Native.Nat.{◌-◌}
 use mathlib.Core.Path.{refl}
 use Rattle.bed.proofs.NameLaws.{printable_low, printable_high, printable_on, printable_end}
 use native.Mathlib.Omega.{arith}

@@ -4,8 +4,8 @@ use Rattle.bed.proofs.parts.behind.Goals as goal
 
 pub returns-then-n-s : goal.returns-then-n-s
 returns-then-n-s c =
-    behind_part c.args.b c.args.s.now _ c.up_to_lem.ensures c.if-n-s.true
+    behind_part c.args.b c.args.s.now _ c.up_to-n.ensures c.if-n-s.true
 
 pub returns : goal.returns
 returns c =
-    behind_none c.args.b c.args.s.now _ c.up_to_lem.ensures c.if-n-s.false
+    behind_none c.args.b c.args.s.now _ c.up_to-n.ensures c.if-n-s.false

@@ -4,8 +4,8 @@ use Rattle.bed.proofs.parts.line_len.Goals as goal
 
 pub returns-then-n-s : goal.returns-then-n-s
 returns-then-n-s c =
-    line_length c.args.s.now _ c.up_to_lem.ensures c.if-n-s.true
+    line_length c.args.s.now _ c.up_to-n.ensures c.if-n-s.true
 
 pub returns : goal.returns
 returns c =
-    line_length_last c.args.s.now _ c.up_to_lem.ensures c.if-n-s.false
+    line_length_last c.args.s.now _ c.up_to-n.ensures c.if-n-s.false

@@ -1,5 +1,4 @@
 -- The bytes passed and those up to b from here are those up to b of the whole.
-use Prim.Native.Nat.{◌-◌}
 use native.Mathlib.Nat.{zero-add}
 use Rattle.bed.proofs.PartLaws.{up_found, up_on, up_ended}
 use native.Mathlib.Omega.{arith}

@@ -1,5 +1,4 @@
 -- The value so far and the digits from here have the value of the whole, where that fits.
-use Prim.Native.Nat.{◌-◌}
 use Rattle.bed.proofs.PartLaws.{value_start, value_on, value_end}
 use native.Mathlib.Omega.{arith}
 use Rattle.bed.proofs.parts.value.Goals as goal

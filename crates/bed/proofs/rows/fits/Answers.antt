@@ -1,5 +1,4 @@
 -- What is left has room for the rest exactly where all of it has for the whole.
-use Prim.Native.Nat.{◌-◌}
 use Rattle.bed.proofs.RowLaws.{room_begun, room_short, room_on, room_end}
 use native.Mathlib.Omega.{arith}
 use Rattle.bed.proofs.rows.fits.Goals as goal
@@ -23,7 +22,7 @@ returns-then-left-n c =
     let a = c.args in
     let l = c.loop-i in
     room_short a.name.now a.starts.now a.ends.now a.rows.now a.room l.left l.i l.invariant.1 c.loop-i-test.true
-    c.number_at.ensures c.number_at-in-loop-i.ensures c.line_room_lem.ensures c.if-left-n.true
+    c.number_at.ensures c.number_at-in-loop-i.ensures c.line_room-n.ensures c.if-left-n.true
 
 pub overflow_add-i : goal.overflow_add-i
 overflow_add-i c = omega arith
@@ -36,7 +35,7 @@ loop-i-preserved c =
     let a = c.args in
     let l = c.loop-i in
     let on = room_on a.name.now a.starts.now a.ends.now a.rows.now a.room l.left l.i l.invariant.1 c.loop-i-test.true
-    c.number_at.ensures c.number_at-in-loop-i.ensures c.line_room_lem.ensures c.if-left-n.false in
+    c.number_at.ensures c.number_at-in-loop-i.ensures c.line_room-n.ensures c.if-left-n.false in
     (omega arith, on)
 
 pub returns : goal.returns

@@ -1,5 +1,4 @@
 -- The rest misses a row exactly where the whole does.
-use Prim.Native.Nat.{◌-◌}
 use mathlib.Core.Path.{refl}
 use Rattle.bed.proofs.RowLaws.{missing_here, missing_on, missing_end}
 use native.Mathlib.Omega.{arith}

@@ -1,5 +1,4 @@
 -- After i turns the first i rows are written.
-use Prim.Native.Nat.{◌-◌}
 use Rattle.text.proofs.PieceLaws.{written_kept}
 use Rattle.bed.proofs.RowLaws.{rows_begun, rows_on, rows_done}
 use native.Mathlib.Omega.{arith}

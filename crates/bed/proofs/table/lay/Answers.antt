@@ -1,7 +1,6 @@
 -- The numbers written so far, and then the buffer's own.
 use mathlib.Core.Path.{refl, sym, ap, ◌∙◌}
 use mathlib.Core.List.{◌++◌}
-use Prim.Native.Nat.{◌-◌}
 use lib.ListN.{take, drop, set, length-set}
 use lib.Seq.{length-take-le, get_or-take}
 use Rattle.kplib.proofs.PlaceLaws.{put_on, put_done}

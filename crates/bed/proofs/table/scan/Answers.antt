@@ -69,7 +69,7 @@ returns-then-not-l c =
     let n = c.line_len-n.ensures in
     let line = line_is a.text.now l.s l.e l.at l.rows l.invariant t n in
     let few = c.if-rows-ge64.false in
-    let j = judged_as line c.Line-of.ensures in
+    let j = judged_as line c.line_of-l.ensures in
     scan_refused c.refused-then-not-l.ensures.0 (λ z. omega arith) (bad_line_lem a.text.now l.s l.e l.at l.rows l.invariant t few (sym j.good ∙ not_true c.if-not-l.true))
 
 pub first-requires : goal.first-requires
@@ -100,10 +100,10 @@ returns-then-not-same_bytes c =
     let n = c.line_len-n.ensures in
     let line = line_is a.text.now l.s l.e l.at l.rows l.invariant t n in
     let few = c.if-rows-ge64.false in
-    let j = judged_as line c.Line-of.ensures in
+    let j = judged_as line c.line_of-l.ensures in
     let good = sym j.good ∙ not_false c.if-not-l.false in
     let names = names_told _ a.text.now c.first.ensures line c.first-in-loop-at.ensures c.same_bytes.ensures in
-    scan_refused c.refused-then-not-same_bytes.ensures.0 (λ z. omega arith) (second_name_lem a.text.now l.s l.e l.at l.rows l.invariant t few good (sym names ∙ not_true c.if-not-same_bytes.true))
+    scan_refused c.refused-then-not-same_bytes.ensures.0 (λ z. omega arith) (second_name_lem a.text.now l.s l.e l.at l.rows l.invariant t few good (sym names ∙ c.if-not-same_bytes.true))
 
 pub offset_bounds-s-rows : goal.offset_bounds-s-rows
 offset_bounds-s-rows c = omega arith
@@ -146,12 +146,12 @@ loop-at-preserved c =
     let n = c.line_len-n.ensures in
     let line = line_is a.text.now l.s l.e l.at l.rows l.invariant t n in
     let few = c.if-rows-ge64.false in
-    let j = judged_as line c.Line-of.ensures in
+    let j = judged_as line c.line_of-l.ensures in
     let good = sym j.good ∙ not_false c.if-not-l.false in
     let names = names_told _ a.text.now c.first.ensures line c.first-in-loop-at.ensures c.same_bytes.ensures in
     let long = length_is a.text.now l.s l.e l.at l.rows l.invariant t n in
     let g = not_false c.if-not-l.false in
-    went_on a.text.now l.s l.e l.at l.rows l.invariant t few good (sym names ∙ not_false c.if-not-same_bytes.false) (j.start g) (j.end g) long.0
+    went_on a.text.now l.s l.e l.at l.rows l.invariant t few good (sym names ∙ c.if-not-same_bytes.false) (j.start g) (j.end g) long.0
 
 pub shape_of-s : goal.shape_of-s
 shape_of-s c =

@@ -1,6 +1,6 @@
 -- Each turn prints one block behind the others, from its own stretch of the parts.
 use native.Mathlib.Omega.{arith}
-use Prim.Native.Nat.{◌-◌, ◌*◌, ◌≤◌}
+use Prim.Native.Nat.{◌*◌, ◌≤◌}
 use lib.ListN.{length}
 use Rattle.params.specs.Numbers.{table_of, parts_of}
 use Rattle.text.proofs.PieceLaws.{written_kept}

@@ -1,6 +1,6 @@
 -- The rows in the table and the rows of the sequences that are left make the rows of all.
 use native.Mathlib.Omega.{arith}
-use Prim.Native.Nat.{◌+◌, ◌-◌}
+use Prim.Native.Nat.{◌+◌}
 use lib.ListN.{get_or}
 use Rattle.desk.specs.Rows.{RowFits}
 use Rattle.desk.proofs.FeatureLaws.{rows_start, row_fits, rows_next, rows_done}

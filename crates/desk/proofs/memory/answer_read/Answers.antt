@@ -6,10 +6,10 @@ use Rattle.desk.proofs.memory.answer_read.Goals as goal
 pub answer_reading-requires : goal.answer_reading-requires
 answer_reading-requires c =
     let empty = empty_room ((c.letter_room-letters.result)) c.letter_room-letters.ensures in
-    reading_loaded c.args.input.now c.requires (empty_with ((c.letter_room-letters.result))) empty _ c.read_job-read.ensures.1 c.record_numbers_lem.ensures _ c.read_job-read.ensures.0
+    reading_loaded c.args.input.now c.requires (empty_with ((c.letter_room-letters.result))) empty _ c.read_job-read.ensures.1 c.record_numbers-numbers.ensures _ c.read_job-read.ensures.0
 
 pub returns : goal.returns
 returns c =
     let empty = empty_room ((c.letter_room-letters.result)) c.letter_room-letters.ensures in
     printed_as c.answer_reading.ensures
-    (reading_text_lem c.args.input.now c.requires (empty_with ((c.letter_room-letters.result))) empty _ c.read_job-read.ensures.1 c.record_numbers_lem.ensures _ c.read_job-read.ensures.0)
+    (reading_text_lem c.args.input.now c.requires (empty_with ((c.letter_room-letters.result))) empty _ c.read_job-read.ensures.1 c.record_numbers-numbers.ensures _ c.read_job-read.ensures.0)

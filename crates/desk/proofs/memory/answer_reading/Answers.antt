@@ -8,12 +8,6 @@ use Rattle.desk.proofs.DeskLaws.{printed_refused, printed_as}
 use Rattle.desk.proofs.ReadLaws.{declined_reading, given_reading, given_loaded}
 use Rattle.desk.proofs.memory.answer_reading.Goals as goal
 
-abbrev middle : tie.After-answer-held-arg5 → tie.After-read2
-middle c = given c.before.before.before.before
-
-abbrev last : tie.After-answer-held-arg11 → tie.After-read2
-last c = middle c.before.before.before.before.before.before
-
 pub slice_bounds-answer_held-end : goal.slice_bounds-answer_held-end
 slice_bounds-answer_held-end c = sym (length-take-le _ _ (given_loaded _ ((lent c.args.starts.now c.args.ends.now c.args.sizes.now c.args.negatives.now c.args.counts.now c.args.part_sizes.now c.args.part_negatives.now c.args.part_counts.now c.args.breaks.now c.args.letters.now)) c.in-Job.is c.requires).starts)
 
@@ -27,33 +21,29 @@ pub slice_bounds-answer_held-end-in-Job-3 : goal.slice_bounds-answer_held-end-in
 slice_bounds-answer_held-end-in-Job-3 c = sym (length-take-le _ _ (given_loaded _ ((lent c.args.starts.now c.args.ends.now c.args.sizes.now c.args.negatives.now c.args.counts.now c.args.part_sizes.now c.args.part_negatives.now c.args.part_counts.now c.args.breaks.now c.args.letters.now)) c.in-Job.is c.requires).negatives)
 
 pub slice_bounds-answer_held-end-in-Job-4 : goal.slice_bounds-answer_held-end-in-Job-4
-slice_bounds-answer_held-end-in-Job-4 c = let g = middle (goal.at.slice_bounds-answer_held-end-in-Job-4 c).In-Job in sym (length-take-le _ _ (given_loaded _ (slices (start g)) g.read2.given.1 (start g).pre).counts)
+slice_bounds-answer_held-end-in-Job-4 c = sym (length-take-le _ _ (given_loaded _ ((lent c.args.starts.now c.args.ends.now c.args.sizes.now c.args.negatives.now c.args.counts.now c.args.part_sizes.now c.args.part_negatives.now c.args.part_counts.now c.args.breaks.now c.args.letters.now)) c.in-Job.is c.requires).counts)
 
 pub slice_bounds-answer_held-end-in-Job-5 : goal.slice_bounds-answer_held-end-in-Job-5
-slice_bounds-answer_held-end-in-Job-5 c = let g = middle (goal.at.slice_bounds-answer_held-end-in-Job-5 c).In-Job-2 in sym (length-take-le _ _ (given_loaded _ (slices (start g)) g.read2.given.1 (start g).pre).numbered)
+slice_bounds-answer_held-end-in-Job-5 c = sym (length-take-le _ _ (given_loaded _ ((lent c.args.starts.now c.args.ends.now c.args.sizes.now c.args.negatives.now c.args.counts.now c.args.part_sizes.now c.args.part_negatives.now c.args.part_counts.now c.args.breaks.now c.args.letters.now)) c.in-Job.is c.requires).numbered)
 
 pub slice_bounds-answer_held-end-in-Job-6 : goal.slice_bounds-answer_held-end-in-Job-6
-slice_bounds-answer_held-end-in-Job-6 c = let g = middle (goal.at.slice_bounds-answer_held-end-in-Job-6 c).In-Job-1 in sym (length-take-le _ _ (given_loaded _ (slices (start g)) g.read2.given.1 (start g).pre).part_sizes)
+slice_bounds-answer_held-end-in-Job-6 c = sym (length-take-le _ _ (given_loaded _ ((lent c.args.starts.now c.args.ends.now c.args.sizes.now c.args.negatives.now c.args.counts.now c.args.part_sizes.now c.args.part_negatives.now c.args.part_counts.now c.args.breaks.now c.args.letters.now)) c.in-Job.is c.requires).part_sizes)
 
 pub slice_bounds-answer_held-end-in-Job-7 : goal.slice_bounds-answer_held-end-in-Job-7
-slice_bounds-answer_held-end-in-Job-7 c = let g = middle (goal.at.slice_bounds-answer_held-end-in-Job-7 c).After-slice_known-1 in sym (length-take-le _ _ (given_loaded _ (slices (start g)) g.read2.given.1 (start g).pre).part_negatives)
+slice_bounds-answer_held-end-in-Job-7 c = sym (length-take-le _ _ (given_loaded _ ((lent c.args.starts.now c.args.ends.now c.args.sizes.now c.args.negatives.now c.args.counts.now c.args.part_sizes.now c.args.part_negatives.now c.args.part_counts.now c.args.breaks.now c.args.letters.now)) c.in-Job.is c.requires).part_negatives)
 
 pub slice_bounds-answer_held-end-in-Job-8 : goal.slice_bounds-answer_held-end-in-Job-8
-slice_bounds-answer_held-end-in-Job-8 c = let g = middle (goal.at.slice_bounds-answer_held-end-in-Job-8 c).After-shared_slice_known-9-1 in sym (length-take-le _ _ (given_loaded _ (slices (start g)) g.read2.given.1 (start g).pre).part_counts)
+slice_bounds-answer_held-end-in-Job-8 c = sym (length-take-le _ _ (given_loaded _ ((lent c.args.starts.now c.args.ends.now c.args.sizes.now c.args.negatives.now c.args.counts.now c.args.part_sizes.now c.args.part_negatives.now c.args.part_counts.now c.args.breaks.now c.args.letters.now)) c.in-Job.is c.requires).part_counts)
 
 pub slice_bounds-answer_held-end-in-Job-9 : goal.slice_bounds-answer_held-end-in-Job-9
-slice_bounds-answer_held-end-in-Job-9 c =
-    let g = middle (goal.at.slice_bounds-answer_held-end-in-Job-9 c).After-shared_slice_known-8-1 in
-    sym (length-take-le _ _ (given_loaded _ (slices (start g)) g.read2.given.1 (start g).pre).breaks)
+slice_bounds-answer_held-end-in-Job-9 c = sym (length-take-le _ _ (given_loaded _ ((lent c.args.starts.now c.args.ends.now c.args.sizes.now c.args.negatives.now c.args.counts.now c.args.part_sizes.now c.args.part_negatives.now c.args.part_counts.now c.args.breaks.now c.args.letters.now)) c.in-Job.is c.requires).breaks)
 
 pub answer_held-requires : goal.answer_held-requires
-answer_held-requires c = let g = last (goal.at.answer_held-requires c).After-answer_held-arg-1 in (given_loaded _ (slices (start g)) g.read2.given.1 (start g).pre).fits
+answer_held-requires c = (given_loaded _ ((lent c.args.starts.now c.args.ends.now c.args.sizes.now c.args.negatives.now c.args.counts.now c.args.part_sizes.now c.args.part_negatives.now c.args.part_counts.now c.args.breaks.now c.args.letters.now)) c.in-Job.is c.requires).fits
 
 pub returns-in-Refused : goal.returns-in-Refused
 returns-in-Refused c =
     printed_as (printed_refused _ (omega arith) c.put_refused.ensures) (ap refused_text c.told_as.ensures ∙ declined_reading _ ((lent c.args.starts.now c.args.ends.now c.args.sizes.now c.args.negatives.now c.args.counts.now c.args.part_sizes.now c.args.part_negatives.now c.args.part_counts.now c.args.breaks.now c.args.letters.now)) c.in-Refused.is)
 
 pub returns-in-Job : goal.returns-in-Job
-returns-in-Job c =
-    let g = last (goal.at.returns-in-Job c).After-answer_held-arg-1 in
-    printed_as c.answer_held.ensures (given_reading _ (slices (start g)) g.read2.given.1)
+returns-in-Job c = printed_as c.answer_held.ensures (given_reading _ ((lent c.args.starts.now c.args.ends.now c.args.sizes.now c.args.negatives.now c.args.counts.now c.args.part_sizes.now c.args.part_negatives.now c.args.part_counts.now c.args.breaks.now c.args.letters.now)) c.in-Job.is)

@@ -1,6 +1,5 @@
 -- Each turn looks at one haplotype's parts.
 use native.Mathlib.Omega.{arith}
-use Prim.Native.Nat.{◌-◌}
 use Rattle.desk.proofs.StretchLaws.{looking_start, looked_rises, looked_long, looking_next, looked_all}
 use Rattle.desk.proofs.stretches.over_parts.Goals as goal
 
