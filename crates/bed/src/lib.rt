@@ -16,14 +16,14 @@ use metrics::refusals::{BAD_LENGTHS, BAD_LINE, LITTLE_TEXT_ROOM, MISSING_ROW};
 use text::pieces::put_bytes;
 
 // How many rows a table has and how long its name is, or the refusal's number.
-#[derive(Drop)]
+#[derive(Clone, Copy)]
 pub enum BedRead {
     Table(u32, u32),
     Refused(u32),
 }
 
 // How many bytes were written, or the refusal's number.
-#[derive(Drop)]
+#[derive(Clone, Copy)]
 pub enum BedWritten {
     Bytes(usize),
     Refused(u32),

@@ -10,7 +10,7 @@ use check::same;
 use text::pieces::{put_bytes, put_digits};
 
 // Whether a line is good, and then its numbers.
-#[derive(Drop)]
+#[derive(Clone, Copy)]
 pub(crate) struct Line {
     pub(crate) good: bool,
     pub(crate) start: u64,

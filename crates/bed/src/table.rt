@@ -10,7 +10,7 @@ use metrics::refusals::{ACCEPTED, BAD_LINE, SECOND_NAME, TOO_MANY_LINES};
 use params::checks::count_fault;
 
 // The first fault, 0 for none, and then how many rows there are.
-#[derive(Drop)]
+#[derive(Clone, Copy)]
 pub(crate) struct Found {
     pub(crate) fault: u32,
     pub(crate) rows: usize,

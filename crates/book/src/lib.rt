@@ -17,7 +17,7 @@ use metrics::refusals::{ACCEPTED, BROKEN_BOOK, LITTLE_BOOK_ROOM, MISSING_VERSION
 const MOST_VERSIONS: usize = 255;
 
 // The version that was added, or the refusal's number.
-#[derive(Drop)]
+#[derive(Clone, Copy)]
 pub enum Saved {
     Version(u32),
     Refused(u32),

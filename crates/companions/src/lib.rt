@@ -18,14 +18,14 @@ use metrics::refusals::{
 };
 
 // Whether two rows may stand together, or the refusal's number.
-#[derive(Drop)]
+#[derive(Clone, Copy)]
 pub enum Paired {
     Answer(bool),
     Refused(u32),
 }
 
 // How many later companions a row has, or the refusal's number.
-#[derive(Drop)]
+#[derive(Clone, Copy)]
 pub enum Later {
     Count(u32),
     Refused(u32),

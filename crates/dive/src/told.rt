@@ -7,14 +7,14 @@ use meta::HaplotypeMeta;
 use params::Settings;
 
 // An answer, a refused one too, and the haplotype's own data.
-#[derive(Drop)]
+#[derive(Clone, Copy)]
 pub struct Told {
     pub answer: Answer,
     pub meta: HaplotypeMeta,
 }
 
 // What several haplotypes came to, and the data of each: entry i is haplotype i's.
-#[derive(Drop)]
+#[derive(Clone, Copy)]
 pub struct ToldSeveral {
     pub refusal: u32,
     pub metas: [HaplotypeMeta; 16],

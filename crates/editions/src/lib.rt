@@ -23,7 +23,7 @@ const LETTERS_SIZE: usize = 1;
 const NUMBER_SIZE: usize = 4;
 
 // How many bytes were written, or the refusal's number.
-#[derive(Drop)]
+#[derive(Clone, Copy)]
 pub enum Moving {
     Refused(u32),
     Wrote(usize),

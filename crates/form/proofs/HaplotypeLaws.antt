@@ -63,7 +63,7 @@ some_haplotype (k ∷ b) zero = some_here (kind_of k) b (haplotypes_in b (body_l
 pub long_from : (n : ℕ) (hs : List (List Part)) → length (breaks_from n hs) ≡ length hs
 unfolding breaks_from
 long_from n [] = refl
-long_from n (h ∷ hs) = ap suc (long_from _ hs)
+long_from n (h ∷ hs) = ap suc (long_from (n + length h) hs)
 
 -- each but the first begins with a break
 pub long_breaks : (hs : List (List Part)) → 1 ≤ length hs → suc (length (breaks_of hs)) ≡ length hs

@@ -12,7 +12,7 @@ use metrics::refusals::{
 };
 
 // What is known between two records: which kinds may follow, how many letters are owed, and the counts so far.
-#[derive(Drop)]
+#[derive(Clone, Copy)]
 pub struct State {
     pub phase: u8,
     pub left: u32,
@@ -22,7 +22,7 @@ pub struct State {
     pub letters: usize,
 }
 
-#[derive(Drop)]
+#[derive(Clone, Copy)]
 pub struct Counts {
     pub variants: usize,
     pub parts: usize,
@@ -30,13 +30,13 @@ pub struct Counts {
     pub letters: usize,
 }
 
-#[derive(Drop)]
+#[derive(Clone, Copy)]
 pub enum Scan {
     Refused(u32),
     Good(Counts),
 }
 
-#[derive(Drop)]
+#[derive(Clone, Copy)]
 pub enum Kind {
     End,
     Settings,
@@ -50,14 +50,14 @@ pub enum Kind {
 }
 
 // Of the form: which kinds of settings and of variants a job has.
-#[derive(Drop)]
+#[derive(Clone, Copy)]
 pub enum Edition {
     One,
     Two,
 }
 
 // A record's kind, how many letters it announces, and where the next one begins.
-#[derive(Drop)]
+#[derive(Clone, Copy)]
 pub struct Record {
     pub kind: Kind,
     pub count: u32,
@@ -125,7 +125,7 @@ pub const LETTERS_PLACE: usize = SETTINGS_BODY;
 pub const NUMBER_PLACE: usize = VARIANT_BODY;
 
 // A kind's shape: how long its body is, from which byte on how many are flags, where the letter count stands, 0 where it has none, and how many flags stand at LETTERS_PLACE.
-#[derive(Drop)]
+#[derive(Clone, Copy)]
 pub struct Shape {
     pub body: usize,
     pub flags: usize,

@@ -41,10 +41,10 @@ pub record Tried (plan : Plan) (features : List ℤ) (chain : List ℕ) (chainSi
   pub rest : after_codes (after_code plan part_features (chain_total plan.width features chain chainSize)) full (drop i codes) (drop i sizes)
       ≡ coded_score plan part_features codes sizes (chain_total plan.width features chain chainSize)
 
-pub none_tried : (plan : Plan) (features : List ℤ) (chain : List ℕ) (chainSize : ℤ) (part_features : List ℤ) (codes : List ℕ) (sizes : List ℤ) (floor : Float) (scratch : List ℤ)
+pub none_tried_lem : (plan : Plan) (features : List ℤ) (chain : List ℕ) (chainSize : ℤ) (part_features : List ℤ) (codes : List ℕ) (sizes : List ℤ) (floor : Float) (scratch : List ℤ)
     {b : Best} → b ≡ none_tried → Tried plan features chain chainSize part_features codes sizes floor b scratch 0
 unfolding coded_score
-none_tried plan features chain chainSize part_features codes sizes floor scratch e = record {
+none_tried_lem plan features chain chainSize part_features codes sizes floor scratch e = record {
   ready = subst (λ (x : Best). Ready x.summed scratch x.weight (features_of plan.width features chain)) (sym e) tt;
   full = start;
   stands = same (ap (λ (x : Best). x.scored) e);

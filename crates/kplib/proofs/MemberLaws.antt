@@ -85,9 +85,11 @@ chosen (suc left) p (suc n) [] =
     ∙ rw (empty_begins p (choices left (suc p) n), chosen left (suc p) (suc n) [])
 chosen (suc left) p (suc n) (q ∷ x) =
     let z : suc p + left ≡ p + suc left = omega arith in
+    let all : ((eqb q p && (eqb (length x) n && rises_below (suc p + left) (suc p) x)) || (eqb (length x) n && (leb (suc p) q && (ltb q (suc p + left) && rises_below (suc p + left) (suc q) x))))
+    ≡ (eqb (length x) n && (leb p q && (ltb q (suc p + left) && rises_below (suc p + left) (suc q) x))) = first_or_later (suc p + left) p q (eqb (length x) n) x (omega arith) in
     one_of_both (q ∷ x) (map (λ (c : List ℕ). p ∷ c) (choices left (suc p) n)) (choices left (suc p) (suc n))
-    ∙ rw (begins q p x (choices left (suc p) n), chosen left (suc p) n x, chosen left (suc p) (suc n) (q ∷ x), z, same_suc (length x) n)
-    (first_or_later (p + suc left) p q (eqb (length x) n) x (omega arith))
+    ∙ rw (begins q p x (choices left (suc p) n), chosen left (suc p) n x, chosen left (suc p) (suc n) (q ∷ x), same_suc (length x) n) (all
+    ∙ ap (λ (m : ℕ). eqb (length x) n && (leb p q && (ltb q m && rises_below m (suc q) x))) z)
 
 -- all positions from p on are the one list of their length
 whole_choice : (n p : ℕ) → choices n p n ≡ positions_from p n ∷ []

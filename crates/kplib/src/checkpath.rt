@@ -20,7 +20,7 @@ use params::Settings;
 use params::checks::call_fault;
 
 // The answer to a proposal, or the number of a refusal.
-#[derive(Drop)]
+#[derive(Clone, Copy)]
 pub enum PathCheck {
     Yes,
     No,

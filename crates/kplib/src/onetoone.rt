@@ -13,7 +13,7 @@ use crate::vargraph::Row;
 use params::Settings;
 
 // The best node's row. Where its target is `Nothing` no node matched, and the row means nothing.
-#[derive(Drop)]
+#[derive(Clone, Copy)]
 pub(crate) struct Lone {
     pub row: Row,
     pub scored: Scored,

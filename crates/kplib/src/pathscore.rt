@@ -14,14 +14,14 @@ use metrics::lanes::magnitude;
 use params::Settings;
 
 // Which part list matched; a partial one says how many parts it leaves out.
-#[derive(Drop)]
+#[derive(Clone, Copy)]
 pub enum Target {
     Nothing,
     Whole,
     Partial(u32),
 }
 
-#[derive(Drop)]
+#[derive(Clone, Copy)]
 pub struct Scored {
     pub target: Target,
     pub score: f32,
@@ -30,14 +30,14 @@ pub struct Scored {
 }
 
 // One part list against one chain: skipped, or its score, sizesim and seqsim.
-#[derive(Drop)]
+#[derive(Clone, Copy)]
 pub(crate) enum Verdict {
     Skipped,
     Scores(f32, f32, f32),
 }
 
 // The best so far, whether the chain's feature row is summed, and if so what its magnitudes sum to.
-#[derive(Drop)]
+#[derive(Clone, Copy)]
 pub(crate) struct Best {
     scored: Scored,
     summed: bool,
@@ -45,7 +45,7 @@ pub(crate) struct Best {
 }
 
 // What a list's score depends on beside its seqsim, and what it must beat (`best`) and reach (`floor`).
-#[derive(Drop)]
+#[derive(Clone, Copy)]
 pub(crate) struct Terms {
     size: f32,
     partial: usize,

@@ -2,7 +2,7 @@
 use params::Settings;
 
 // `width` is how many entries a feature row has, `m` how many parts the haplotype has, `target` its size.
-#[derive(Drop)]
+#[derive(Clone, Copy)]
 pub(crate) struct Plan {
     pub s: Settings,
     pub width: usize,

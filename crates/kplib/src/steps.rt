@@ -11,21 +11,21 @@ use crate::vargraph::pairs_together;
 use params::Settings;
 
 // A chain's size and score.
-#[derive(Drop)]
+#[derive(Clone, Copy)]
 pub(crate) struct Weighed {
     size: i32,
     scored: Scored,
 }
 
 // The best result so far: the entry whose chain has it, and its score.
-#[derive(Drop)]
+#[derive(Clone, Copy)]
 pub(crate) struct Leader {
     pub entry: usize,
     pub scored: Scored,
 }
 
 // Where a search stands: how many entries and how many keys the queue has, how many chains are scored, and the best of them.
-#[derive(Drop)]
+#[derive(Clone, Copy)]
 pub(crate) struct Progress {
     used: usize,
     pub queued: usize,

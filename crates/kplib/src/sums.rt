@@ -58,7 +58,7 @@ pub(crate) fn weight_of(row: &[i32]) -> u32
 }
 
 // Document 01's d and n, of a part of two rows.
-#[derive(Drop)]
+#[derive(Clone, Copy)]
 pub(crate) struct Sums {
     pub(crate) d: u32,
     pub(crate) n: u32,

@@ -20,7 +20,7 @@ use params::checks::{call_fault, parts_fault, queue_room};
 use params::graphparams::search_mode;
 
 // `rows` is how many row numbers stand at the front of the answer buffer; `refusal` is 0 where the job was accepted.
-#[derive(Drop)]
+#[derive(Clone, Copy)]
 pub struct Answer {
     pub refusal: u32,
     pub rows: u32,

@@ -11,11 +11,11 @@ use metrics::refusals::ACCEPTED;
 use params::checks::count_fault;
 
 // A variant's row in the table, from 0.
-#[derive(Drop)]
+#[derive(Clone, Copy)]
 pub(crate) struct Row(pub u32);
 
 // A node of the graph: 0 is the source, then the rows, and the sink.
-#[derive(Drop)]
+#[derive(Clone, Copy)]
 pub(crate) struct Node(pub u32);
 
 pub(crate) fn node_of(row: Row) -> Node
@@ -153,7 +153,7 @@ fn count_capped(starts: &[u64], ends: &[u64], full: bool, cap: u32) -> u32
 }
 
 // The number of chains up to a cap, or the number of a refusal.
-#[derive(Drop)]
+#[derive(Clone, Copy)]
 pub enum ChainCount {
     Chains(u32),
     Refused(u32),

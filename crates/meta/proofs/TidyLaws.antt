@@ -12,16 +12,16 @@ use Rattle.meta.specs.declared.HaplotypeMeta.{HaplotypeMeta}
 use Rattle.meta.proofs.FaultLaws.{new_below}
 use Rattle.meta.proofs.EntryLaws.{zero_at, joined_behind}
 
-blank_of : (n : ℕ) → Tidy (blank_of n)
-blank_of n = record { coverage = λ i h. zero_at 8 i; ps = λ i h. zero_at 8 i; hp = λ i h. zero_at 8 i }
+blank_of_lem : (n : ℕ) → Tidy (blank_of n)
+blank_of_lem n = record { coverage = λ i h. zero_at 8 i; ps = λ i h. zero_at 8 i; hp = λ i h. zero_at 8 i }
 
 -- what is made of tidy data is tidy, refused or not
 made_of : (f : ℕ) (m : HaplotypeMeta) → (f ≡ 0 → Tidy m) → Tidy (made_unless f m).meta
 made_of zero m h = h refl
-made_of (suc f) m h = blank_of 1
+made_of (suc f) m h = blank_of_lem 1
 
 pub blank_tidy : (n : ℕ) → Tidy (blank_made n).meta
-blank_tidy n = made_of (count_fault n) (blank_of n) (λ z. blank_of n)
+blank_tidy n = made_of (count_fault n) (blank_of n) (λ z. blank_of_lem n)
 
 pub new_tidy : (i n : ℕ) → Tidy (new_made i n).meta
 new_tidy i n = made_of (new_fault i n) (new_of i n) (λ z. one (new_below i n z))

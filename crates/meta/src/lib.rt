@@ -15,7 +15,7 @@ use crate::checks::{combine_fault, count_fault, new_fault};
 use metrics::refusals::ACCEPTED;
 
 // Entry i is sample i's; those at and behind `samples` are nobody's. A phase set and a haplotype tag are 0 where absent, else the value + 1.
-#[derive(Drop)]
+#[derive(Clone, Copy)]
 pub struct HaplotypeMeta {
     pub id: u64,
     pub samples: u64,
@@ -26,14 +26,14 @@ pub struct HaplotypeMeta {
 }
 
 // 0 and the data that was made, or the refusal's number and a blank of one sample.
-#[derive(Drop)]
+#[derive(Clone, Copy)]
 pub struct Made {
     pub refusal: u32,
     pub meta: HaplotypeMeta,
 }
 
 // 0, the two combined on the left and the right as it was; or the refusal's number and both as they were.
-#[derive(Drop)]
+#[derive(Clone, Copy)]
 pub struct Combined {
     pub refusal: u32,
     pub left: HaplotypeMeta,

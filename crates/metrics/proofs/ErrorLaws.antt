@@ -164,6 +164,10 @@ over_both m u g a c h e = mul_right_comm (m * u) h c ∙ ap (λ (x : ℕ). x * h
 module _ (f : Format) (a b c : ℕ) (C : 0 < c) (h : b ≤ a) where
   pub sub_at : (x y : Float) → HasValue x false a c → HasValue y false b c → sub f x y ≡ round f false (a - b) c
   unfolding sub
+  sub_at nan y v w = elim v [ ]
+  sub_at (inf _) y v w = elim v [ ]
+  sub_at (fin false m e) nan v w = elim w [ ]
+  sub_at (fin false m e) (inf _) v w = elim w [ ]
   sub_at (fin true m e) y v w = absurd (true≢false v.0)
   sub_at (fin false m e) (fin true n d) v w = absurd (true≢false w.0)
   sub_at (fin false m e) (fin false n d) v w =

@@ -7,14 +7,14 @@ ghost use Rattle.metrics.specs.Promises.{ClearRowPromise, EntriesPromise, SeqToK
 
 use crate::refusals::{BAD_K, BAD_LENGTHS, BAD_NUMBER, TOO_MANY_LETTERS};
 
-#[derive(Drop)]
+#[derive(Clone, Copy)]
 pub enum Counted {
     Done,
     Refused(u32),
 }
 
 // What encoding a letter gives.
-#[derive(Drop)]
+#[derive(Clone, Copy)]
 pub enum Code {
     Letter(u8),
     NoCode,

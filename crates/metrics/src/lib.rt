@@ -13,7 +13,7 @@ pub mod lanes;
 pub mod refusals;
 
 // A similarity, or the number of a refusal.
-#[derive(Drop)]
+#[derive(Clone, Copy)]
 pub enum Sim {
     Value(f32),
     Refused(u32),

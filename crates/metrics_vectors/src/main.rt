@@ -21,7 +21,7 @@ fn capped(n: u64, most: u64) -> u64
 }
 
 // A number of the list, and the place of the byte behind it.
-#[derive(Drop)]
+#[derive(Clone, Copy)]
 struct Field {
     magnitude: u64,
     negative: bool,

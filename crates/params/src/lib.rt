@@ -7,7 +7,7 @@ pub mod order;
 pub mod several;
 
 // The fields of graphparams.rs that document 01 takes, and document 02's `letters`: one value that goes from the job form to the search.
-#[derive(Drop)]
+#[derive(Clone, Copy)]
 pub struct Settings {
     pub k: u8,
     pub squish: bool,

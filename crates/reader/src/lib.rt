@@ -15,7 +15,7 @@ use form::settings::settings_by;
 use metrics::refusals::LITTLE_ROOM;
 use params::Settings;
 
-#[derive(Drop)]
+#[derive(Clone, Copy)]
 pub enum Reading {
     Refused(u32),
     Job(Settings, Counts),

@@ -11,7 +11,7 @@ use form::records::{Edition, Kind, NUMBER_PLACE, Scan, VARIANT2_BODY, edition_of
 use form::scan;
 use metrics::refusals::LITTLE_ROOM;
 
-#[derive(Drop)]
+#[derive(Clone, Copy)]
 pub enum Numbering {
     Refused(u32),
     Numbers(usize),

@@ -23,21 +23,21 @@ use metrics::refusals::{
 };
 use params::Settings;
 
-#[derive(Drop)]
+#[derive(Clone, Copy)]
 pub enum Writing {
     Refused(u32),
     Wrote(usize),
 }
 
 // What is left of some room, where there is enough.
-#[derive(Drop)]
+#[derive(Clone, Copy)]
 enum Left {
     Short,
     Enough(usize),
 }
 
 // How far the writing has come: the next byte, and the next letter.
-#[derive(Drop)]
+#[derive(Clone, Copy)]
 struct Reached {
     at: usize,
     letter: usize,
