@@ -1,4 +1,4 @@
-// What Rust and C link: the library's calls on numbers and slices. Each gives back the refusal's number, 0 for an accepted call.
+// What Rust and C link, by the exports of capi_c: the library's calls on numbers and slices. Each gives back the refusal's number, 0 for an accepted call.
 #![tactic(auto)]
 
 ghost use Rattle.capi.specs.Promises.{NdSeqToKmerPromise, NdSeqsimPromise, NdSizesimPromise, NdCountChainsPromise, NdAnswerPromise};
@@ -24,14 +24,7 @@ use metrics::refusals::ACCEPTED;
 
 mod words;
 
-#[unsafe(no_mangle)]
-pub extern "C" fn nd_seq_to_kmer(
-    text: &[u8],
-    k: u8,
-    negative: bool,
-    letters: u8,
-    row: &mut [i32],
-) -> u32
+pub fn nd_seq_to_kmer(text: &[u8], k: u8, negative: bool, letters: u8, row: &mut [i32]) -> u32
     ensures { NdSeqToKmerPromise text.now k negative letters row.old row.new result }
 {
     let counted = metrics::kmer::seq_to_kmer(text, k, negative, letters, row);
@@ -41,8 +34,7 @@ pub extern "C" fn nd_seq_to_kmer(
     }
 }
 
-#[unsafe(no_mangle)]
-pub extern "C" fn nd_seqsim(a: &[i32], b: &[i32], minkfreq: u32, place: &mut f32) -> u32
+pub fn nd_seqsim(a: &[i32], b: &[i32], minkfreq: u32, place: &mut f32) -> u32
     ensures { NdSeqsimPromise a.now b.now minkfreq place.old place.new result }
 {
     let sim = metrics::seqsim(a, b, minkfreq);
@@ -58,8 +50,7 @@ pub extern "C" fn nd_seqsim(a: &[i32], b: &[i32], minkfreq: u32, place: &mut f32
     }
 }
 
-#[unsafe(no_mangle)]
-pub extern "C" fn nd_sizesim(a: u64, b: u64, place: &mut f32) -> u32
+pub fn nd_sizesim(a: u64, b: u64, place: &mut f32) -> u32
     ensures { NdSizesimPromise a b place.old place.new result }
 {
     let sim = metrics::sizesim(a, b);
@@ -75,14 +66,7 @@ pub extern "C" fn nd_sizesim(a: u64, b: u64, place: &mut f32) -> u32
     }
 }
 
-#[unsafe(no_mangle)]
-pub extern "C" fn nd_count_chains(
-    starts: &[u64],
-    ends: &[u64],
-    full: bool,
-    cap: u32,
-    count: &mut u32,
-) -> u32
+pub fn nd_count_chains(starts: &[u64], ends: &[u64], full: bool, cap: u32, count: &mut u32) -> u32
     ensures { NdCountChainsPromise starts.now ends.now full cap count.old count.new result }
 {
     let counted = kplib::vargraph::count_chains(starts, ends, full, cap);
@@ -99,8 +83,7 @@ pub extern "C" fn nd_count_chains(
 }
 
 // The program's answer to a job's bytes, at the front of `text`. Returns how long it is.
-#[unsafe(no_mangle)]
-pub extern "C" fn nd_answer(job: &[u8], text: &mut [u8; 8192]) -> u32
+pub fn nd_answer(job: &[u8], text: &mut [u8; 8192]) -> u32
     ensures { NdAnswerPromise job.now text.old text.new result }
 {
     let n = desk::answer(job, text);
@@ -108,8 +91,7 @@ pub extern "C" fn nd_answer(job: &[u8], text: &mut [u8; 8192]) -> u32
 }
 
 // The queue's content is open after a search, and only then.
-#[unsafe(no_mangle)]
-pub extern "C" fn nd_apply_haplotype(
+pub fn nd_apply_haplotype(
     settings: &[u32; 14],
     starts: &[u64],
     ends: &[u64],
@@ -148,8 +130,7 @@ pub extern "C" fn nd_apply_haplotype(
 }
 
 // Several haplotypes over one table; each has its refusal and its answer in its own eight words of the reports.
-#[unsafe(no_mangle)]
-pub extern "C" fn nd_apply_haplotypes(
+pub fn nd_apply_haplotypes(
     settings: &[u32; 14],
     starts: &[u64],
     ends: &[u64],
@@ -192,8 +173,7 @@ pub extern "C" fn nd_apply_haplotypes(
 }
 
 // The counts are how many rows there are and how long the name is; both 0 on a refusal.
-#[unsafe(no_mangle)]
-pub extern "C" fn nd_read_bed(
+pub fn nd_read_bed(
     text: &[u8],
     starts: &mut [u64],
     ends: &mut [u64],
@@ -217,8 +197,7 @@ pub extern "C" fn nd_read_bed(
 }
 
 // How many bytes are written; 0 on a refusal.
-#[unsafe(no_mangle)]
-pub extern "C" fn nd_write_bed(
+pub fn nd_write_bed(
     name: &[u8],
     starts: &[u64],
     ends: &[u64],
@@ -243,8 +222,7 @@ pub extern "C" fn nd_write_bed(
 }
 
 // A row at the end of a table, and the table's sheet with it.
-#[unsafe(no_mangle)]
-pub extern "C" fn nd_companions_add(
+pub fn nd_companions_add(
     starts: &mut [u64; 64],
     ends: &mut [u64; 64],
     sheet: &mut [bool; 4096],
@@ -259,8 +237,7 @@ pub extern "C" fn nd_companions_add(
 }
 
 // The last row taken away.
-#[unsafe(no_mangle)]
-pub extern "C" fn nd_companions_remove(
+pub fn nd_companions_remove(
     starts: &[u64; 64],
     ends: &[u64; 64],
     sheet: &mut [bool; 4096],
@@ -272,8 +249,7 @@ pub extern "C" fn nd_companions_remove(
 }
 
 // Yes is 1, no is 0; 0 on a refusal.
-#[unsafe(no_mangle)]
-pub extern "C" fn nd_companions_together(
+pub fn nd_companions_together(
     starts: &[u64; 64],
     ends: &[u64; 64],
     sheet: &[bool; 4096],
@@ -298,8 +274,7 @@ pub extern "C" fn nd_companions_together(
 }
 
 // How many later companions a row has; 0 on a refusal.
-#[unsafe(no_mangle)]
-pub extern "C" fn nd_companions_count(
+pub fn nd_companions_count(
     starts: &[u64; 64],
     ends: &[u64; 64],
     sheet: &[bool; 4096],
@@ -323,8 +298,7 @@ pub extern "C" fn nd_companions_count(
 }
 
 // One read of one sample, as 28 words; a blank of one sample on a refusal.
-#[unsafe(no_mangle)]
-pub extern "C" fn nd_meta_new(index: u64, samples: u64, meta: &mut [u64; 28]) -> u32
+pub fn nd_meta_new(index: u64, samples: u64, meta: &mut [u64; 28]) -> u32
     ensures { NdMetaNewPromise index samples meta.old meta.new result }
 {
     let made = meta::new(index, samples);
@@ -334,8 +308,7 @@ pub extern "C" fn nd_meta_new(index: u64, samples: u64, meta: &mut [u64; 28]) ->
 }
 
 // No read of any sample; a blank of one sample on a refusal.
-#[unsafe(no_mangle)]
-pub extern "C" fn nd_meta_blank(samples: u64, meta: &mut [u64; 28]) -> u32
+pub fn nd_meta_blank(samples: u64, meta: &mut [u64; 28]) -> u32
     ensures { NdMetaBlankPromise samples meta.old meta.new result }
 {
     let told = meta::new_blank(samples);
@@ -345,8 +318,7 @@ pub extern "C" fn nd_meta_blank(samples: u64, meta: &mut [u64; 28]) -> u32
 }
 
 // The two combined, on the left, which a refusal leaves as it was.
-#[unsafe(no_mangle)]
-pub extern "C" fn nd_meta_combine(left: &mut [u64; 28], right: &[u64; 28]) -> u32
+pub fn nd_meta_combine(left: &mut [u64; 28], right: &[u64; 28]) -> u32
     ensures { NdMetaCombinePromise left.old right.now left.new result }
 {
     let own = meta_of_words(left);
@@ -362,8 +334,7 @@ pub extern "C" fn nd_meta_combine(left: &mut [u64; 28], right: &[u64; 28]) -> u3
 }
 
 // Whether a path that someone else proposes is one that the search could have found. Yes is 1, no is 0; 0 on a refusal.
-#[unsafe(no_mangle)]
-pub extern "C" fn nd_check_path(
+pub fn nd_check_path(
     settings: &[u32; 14],
     starts: &[u64],
     ends: &[u64],
@@ -409,8 +380,7 @@ pub extern "C" fn nd_check_path(
 }
 
 // The settings under the next version of a book, which is told; 0 on a refusal.
-#[unsafe(no_mangle)]
-pub extern "C" fn nd_book_save(book: &mut [u8], settings: &[u8; 41], version: &mut u32) -> u32
+pub fn nd_book_save(book: &mut [u8], settings: &[u8; 41], version: &mut u32) -> u32
     ensures { NdBookSavePromise book.old settings.now version.old book.new version.new result }
 {
     let saved = book::save(book, settings);
@@ -426,16 +396,14 @@ pub extern "C" fn nd_book_save(book: &mut [u8], settings: &[u8; 41], version: &m
     }
 }
 
-#[unsafe(no_mangle)]
-pub extern "C" fn nd_book_read(book: &[u8], version: u32, settings: &mut [u8; 41]) -> u32
+pub fn nd_book_read(book: &[u8], version: u32, settings: &mut [u8; 41]) -> u32
     ensures { NdBookReadPromise book.now version settings.old settings.new result }
 {
     book::read(book, version, settings)
 }
 
 // The settings of a version saved again under the next, which is told; 0 on a refusal.
-#[unsafe(no_mangle)]
-pub extern "C" fn nd_book_restore(book: &mut [u8], version: u32, added: &mut u32) -> u32
+pub fn nd_book_restore(book: &mut [u8], version: u32, added: &mut u32) -> u32
     ensures { NdBookRestorePromise book.old version added.old book.new added.new result }
 {
     let restored = book::restore(book, version);
@@ -452,8 +420,7 @@ pub extern "C" fn nd_book_restore(book: &mut [u8], version: u32, added: &mut u32
 }
 
 // A job's bytes in the edition asked for, 1 or 2. How many are written; 0 on a refusal.
-#[unsafe(no_mangle)]
-pub extern "C" fn nd_move_job(job: &[u8], edition: u32, out: &mut [u8], written: &mut u64) -> u32
+pub fn nd_move_job(job: &[u8], edition: u32, out: &mut [u8], written: &mut u64) -> u32
     ensures { NdMoveJobPromise job.now edition out.old written.old out.new written.new result }
 {
     let moved = editions::move_job(job, edition, out);

@@ -7,6 +7,8 @@ use form::records::{Counts, Edition, edition_of};
 use params::Settings;
 use reader::numbers::{Numbering, read_numbers};
 use reader::{Reading, read_job};
+use std::io;
+use streams::read_full;
 use writer::{Writing, write_job, write_numbered_job};
 
 fn at_most(n: usize, most: usize) -> usize
@@ -99,9 +101,9 @@ fn write_again(
     }
 }
 
-fn main() {
+fn main(rt: HostRuntime) -> io::Result<()> {
     let mut bytes = [0u8; 32768];
-    let got = io::read_full(0, &mut bytes);
+    let got = read_full(&mut rt.stdin(), &mut bytes);
     let mut starts = [0u64; 16];
     let mut ends = [0u64; 16];
     let mut sizes = [0i32; 16];
@@ -128,7 +130,7 @@ fn main() {
         &mut letters,
     );
     let Reading::Job(settings, found) = reading else {
-        return;
+        return Ok(());
     };
     let writing = write_again(
         job,
@@ -147,7 +149,7 @@ fn main() {
         &mut out,
     );
     let Writing::Wrote(count) = writing else {
-        return;
+        return Ok(());
     };
-    io::write_all(1, front(&out, count));
+    rt.write_all(front(&out, count))
 }

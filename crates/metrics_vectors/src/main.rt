@@ -4,13 +4,14 @@
 
 ghost use Rattle.std.specs.Prelude.{◌≤◌, ◌<◌, ◌+◌, length};
 
-use libc::{STDIN_FILENO, STDOUT_FILENO};
 use metrics::Sim;
 use metrics::floats::bits_of;
 use metrics::kmer::Counted;
+use std::io;
+use streams::read_full;
 
-fn print(text: &[u8]) {
-    io::write_all(STDOUT_FILENO, text);
+fn print(rt: &impl Print, text: &[u8]) -> io::Result<()> {
+    rt.write_all(text)
 }
 
 fn capped(n: u64, most: u64) -> u64
@@ -57,24 +58,20 @@ fn digits_end(list: &[u8], at: usize) -> usize
     ensures { (at ≤ result) × (result < length list.now) }
 {
     let last = list.len() - 1;
-    let mut end = at;
-    while end < last {
+    for end in at..last {
         if !is_digit(list[end]) {
             return end;
         }
-        end += 1;
     }
-    end
+    last
 }
 
 fn digits_value(list: &[u8], from: usize, to: usize) -> u64
     requires { (from ≤ to) × (to < length list.now) }
 {
     let mut magnitude: u64 = 0;
-    let mut i = from;
-    while i < to {
-        magnitude = with_digit(magnitude, list[i]);
-        i += 1;
+    for &byte in &list[from..to] {
+        magnitude = with_digit(magnitude, byte);
     }
     magnitude
 }
@@ -122,14 +119,12 @@ fn line_end(list: &[u8], at: usize) -> usize
     ensures { (at < result) × (result < length list.now) }
 {
     let last = list.len() - 1;
-    let mut end = at + 1;
-    while end < last {
+    for end in at + 1..last {
         if list[end] == b'\n' {
             return end;
         }
-        end += 1;
     }
-    end
+    last
 }
 
 fn at_least_one(n: usize) -> usize
@@ -146,80 +141,78 @@ fn repeated_letters(list: &[u8], at: usize) -> [u8; 131073]
     let end = line_end(list, at);
     let width = at_least_one(end - first);
     let mut letters = [0u8; 131073];
-    let mut i = 0;
-    while i < 131073 {
+    for i in 0..131073 {
         letters[i] = list[first + i % width];
-        i += 1;
     }
     letters
 }
 
-fn print_refused(n: u32) {
-    print(b"refused ");
-    io::print_decimal(STDOUT_FILENO, n as u64);
-    print(b"\n");
+fn print_refused(rt: &impl Print, n: u32) -> io::Result<()> {
+    print!(rt; "refused {n}\n")
 }
 
-fn print_signed(x: i32) {
-    let wide = x as i64;
-    if wide < 0 {
-        print(b"-");
-        io::print_decimal(STDOUT_FILENO, (0 - wide) as u64);
-        return;
-    }
-    io::print_decimal(STDOUT_FILENO, wide as u64);
+fn print_signed(rt: &impl Print, x: i32) -> io::Result<()> {
+    print!(rt; "{x}")
 }
 
-fn print_entry(i: usize, x: i32) {
+fn print_entry(rt: &impl Print, i: usize, x: i32) -> io::Result<()> {
     if x == 0 {
-        return;
+        return Ok(());
     }
-    print(b" ");
-    io::print_decimal(STDOUT_FILENO, i as u64);
-    print(b":");
-    print_signed(x);
+    print!(rt; " {i}:")?;
+    print_signed(rt, x)
 }
 
-fn print_row(row: &[i32]) {
-    let mut i = 0;
-    while i < row.len() {
-        print_entry(i, row[i]);
-        i += 1;
+fn print_row(rt: &impl Print, row: &[i32]) -> io::Result<()> {
+    for (i, &x) in row.iter().enumerate() {
+        print_entry(rt, i, x)?;
     }
+    Ok(())
 }
 
-fn print_counted(letters: &[u8], k: u8, negative: bool, row: &mut [i32]) {
+fn print_counted(
+    rt: &impl Print,
+    letters: &[u8],
+    k: u8,
+    negative: bool,
+    row: &mut [i32],
+) -> io::Result<()> {
     let counted = metrics::kmer::seq_to_kmer(letters, k, negative, 0, row);
     match counted {
-        Counted::Done => print(b"counted"),
-        Counted::Refused(n) => {
-            print(b"refused ");
-            io::print_decimal(STDOUT_FILENO, n as u64);
-        }
+        Counted::Done => print(rt, b"counted")?,
+        Counted::Refused(n) => print!(rt; "refused {n}")?,
     }
-    print_row(row);
-    print(b"\n");
+    print_row(rt, row)?;
+    print(rt, b"\n")
 }
 
 fn sevens() -> [i32; 4096] {
     [7; 4096]
 }
 
-fn answer_counted(list: &[u8], at: usize, count: u64, k: u8, negative: bool, room: u64)
+fn answer_counted(
+    rt: &impl Print,
+    list: &[u8],
+    at: usize,
+    count: u64,
+    k: u8,
+    negative: bool,
+    room: u64,
+) -> io::Result<()>
     requires { at < length list.now }
 {
     if at + 1 >= list.len() {
-        return;
+        return Ok(());
     }
     let letters = repeated_letters(list, at);
     let n = capped(count, 131073) as usize;
     let entries = capped(room, 4096) as usize;
     let mut row = sevens();
-    print_counted(&letters[..n], k, negative, &mut row[..entries]);
+    print_counted(rt, &letters[..n], k, negative, &mut row[..entries])
 }
 
 // k, negative, room, number of letters, letters. The room holds sevens before the call.
-fn answer_counter(list: &[u8], at: usize)
+fn answer_counter(rt: &impl Print, list: &[u8], at: usize) -> io::Result<()>
     requires { at < length list.now }
 {
     let k = number(list, at);
@@ -227,13 +220,14 @@ fn answer_counter(list: &[u8], at: usize)
     let room = number(list, negative.next);
     let count = number(list, room.next);
     answer_counted(
+        rt,
         list,
         count.next,
         count.magnitude,
         capped(k.magnitude, 255) as u8,
         negative.magnitude == 1,
         room.magnitude,
-    );
+    )
 }
 
 fn entry(magnitude: u64, negative: bool) -> i32 {
@@ -250,11 +244,9 @@ fn behind_numbers(list: &[u8], at: usize, n: usize) -> usize
     ensures { result < length list.now }
 {
     let mut next = at;
-    let mut i = 0;
-    while i < n {
+    for _ in 0..n {
         let x = number(list, next);
         next = x.next;
-        i += 1;
     }
     next
 }
@@ -265,29 +257,26 @@ fn read_row(list: &[u8], at: usize) -> [i32; 64]
 {
     let mut row = [0i32; 64];
     let mut next = at;
-    let mut i = 0;
-    while i < 64 {
+    for i in 0..64 {
         let x = number(list, next);
         row[i] = entry(x.magnitude, x.negative);
         next = x.next;
-        i += 1;
     }
     row
 }
 
-fn print_sim(sim: Sim) {
+fn print_sim(rt: &impl Print, sim: Sim) -> io::Result<()> {
     match sim {
         Sim::Value(x) => {
-            print(b"value ");
-            io::print_hex(STDOUT_FILENO, bits_of(x) as u64, 8);
-            print(b"\n");
+            let bits = bits_of(x);
+            print!(rt; "value {bits:08x}\n")
         }
-        Sim::Refused(n) => print_refused(n),
+        Sim::Refused(n) => print_refused(rt, n),
     }
 }
 
 // minkfreq, the lengths of two rows of at most 64 entries, their entries.
-fn answer_seqsim(list: &[u8], at: usize)
+fn answer_seqsim(rt: &impl Print, list: &[u8], at: usize) -> io::Result<()>
     requires { at < length list.now }
 {
     let minkfreq = number(list, at);
@@ -297,22 +286,25 @@ fn answer_seqsim(list: &[u8], at: usize)
     let n = capped(second.magnitude, 64) as usize;
     let a = read_row(list, second.next);
     let b = read_row(list, behind_numbers(list, second.next, m));
-    print_sim(metrics::seqsim(
-        &a[..m],
-        &b[..n],
-        capped(minkfreq.magnitude, 4294967295) as u32,
-    ));
+    print_sim(
+        rt,
+        metrics::seqsim(
+            &a[..m],
+            &b[..n],
+            capped(minkfreq.magnitude, 4294967295) as u32,
+        ),
+    )
 }
 
-fn answer_sizesim(list: &[u8], at: usize)
+fn answer_sizesim(rt: &impl Print, list: &[u8], at: usize) -> io::Result<()>
     requires { at < length list.now }
 {
     let a = number(list, at);
     let b = number(list, a.next);
-    print_sim(metrics::sizesim(a.magnitude, b.magnitude));
+    print_sim(rt, metrics::sizesim(a.magnitude, b.magnitude))
 }
 
-fn answer_overlaps(list: &[u8], at: usize)
+fn answer_overlaps(rt: &impl Print, list: &[u8], at: usize) -> io::Result<()>
     requires { at < length list.now }
 {
     let s1 = number(list, at);
@@ -320,35 +312,35 @@ fn answer_overlaps(list: &[u8], at: usize)
     let s2 = number(list, e1.next);
     let e2 = number(list, s2.next);
     if metrics::overlaps(s1.magnitude, e1.magnitude, s2.magnitude, e2.magnitude) {
-        print(b"yes\n");
-        return;
+        return print(rt, b"yes\n");
     }
-    print(b"no\n");
+    print(rt, b"no\n")
 }
 
-fn answer_line(list: &[u8], at: usize)
+fn answer_line(rt: &impl Print, list: &[u8], at: usize) -> io::Result<()>
     requires { at + 1 < length list.now }
 {
     let kind = list[at];
     match kind {
-        b'c' => answer_counter(list, at + 1),
-        b's' => answer_seqsim(list, at + 1),
-        b'z' => answer_sizesim(list, at + 1),
-        b'o' => answer_overlaps(list, at + 1),
-        _ => {}
+        b'c' => answer_counter(rt, list, at + 1),
+        b's' => answer_seqsim(rt, list, at + 1),
+        b'z' => answer_sizesim(rt, list, at + 1),
+        b'o' => answer_overlaps(rt, list, at + 1),
+        _ => Ok(()),
     }
 }
 
-fn answer_lines(list: &[u8]) {
+fn answer_lines(rt: &impl Print, list: &[u8]) -> io::Result<()> {
     let mut at = 0;
     while at + 1 < list.len() {
-        answer_line(list, at);
+        answer_line(rt, list, at)?;
         at = line_end(list, at) + 1;
     }
+    Ok(())
 }
 
-fn main() {
+fn main(rt: HostRuntime) -> io::Result<()> {
     let mut list = [0u8; 65536];
-    let n = io::read_full(STDIN_FILENO, &mut list);
-    answer_lines(&list[..n]);
+    let n = read_full(&mut rt.stdin(), &mut list);
+    answer_lines(&rt, &list[..n])
 }

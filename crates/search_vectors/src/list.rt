@@ -6,17 +6,19 @@ use fields::{i32_of, u32_at, u64_at};
 use metrics::kmer::{entries, seq_to_kmer};
 use params::Settings;
 use reader::{Reading, read_job};
+use std::io::Read;
+use streams::read_full;
 
 // The next number of the list; 0 behind its end.
-fn word() -> u32 {
+fn word<R: Read>(input: &mut R) -> u32 {
     let mut bytes = [0u8; 4];
-    io::read_full(0, &mut bytes);
+    read_full(input, &mut bytes);
     u32_at(&bytes, 0)
 }
 
-fn long() -> u64 {
+fn long<R: Read>(input: &mut R) -> u64 {
     let mut bytes = [0u8; 8];
-    io::read_full(0, &mut bytes);
+    read_full(input, &mut bytes);
     u64_at(&bytes, 0)
 }
 
@@ -27,41 +29,38 @@ pub(crate) fn at_most(n: u32, most: usize) -> usize
     if size < most { size } else { most }
 }
 
-pub(crate) fn read_lengths(lengths: &mut [u32; 9]) {
-    lengths[0] = word();
-    lengths[1] = word();
-    lengths[2] = word();
-    lengths[3] = word();
-    lengths[4] = word();
-    lengths[5] = word();
-    lengths[6] = word();
-    lengths[7] = word();
-    lengths[8] = word();
-}
-
-pub(crate) fn read_u64s(into: &mut [u64], count: u32) {
-    let n = at_most(count, into.len());
-    let mut i = 0usize;
-    while i < n {
-        into[i] = long();
-        i += 1;
+pub(crate) fn read_lengths<R: Read>(input: &mut R, lengths: &mut [u32; 9]) {
+    for i in 0..9 {
+        lengths[i] = word(input);
     }
 }
 
-pub(crate) fn read_i32s(into: &mut [i32], count: u32) {
+pub(crate) fn read_u64s<R: Read>(input: &mut R, into: &mut [u64], count: u32) {
     let n = at_most(count, into.len());
-    let mut i = 0usize;
-    while i < n {
-        into[i] = i32_of(word());
-        i += 1;
+    for i in 0..n {
+        into[i] = long(input);
+    }
+}
+
+pub(crate) fn read_i32s<R: Read>(input: &mut R, into: &mut [i32], count: u32) {
+    let n = at_most(count, into.len());
+    for i in 0..n {
+        into[i] = i32_of(word(input));
     }
 }
 
 // One sequence, counted into the entries from `from` on where they are there.
-fn read_row(k: u8, letters: &mut [u8], table: &mut [i32], from: usize, width: usize) {
-    let negative = word() == 1;
-    let count = at_most(word(), letters.len());
-    io::read_full(0, &mut letters[0..count]);
+fn read_row<R: Read>(
+    input: &mut R,
+    k: u8,
+    letters: &mut [u8],
+    table: &mut [i32],
+    from: usize,
+    width: usize,
+) {
+    let negative = word(input) == 1;
+    let count = at_most(word(input), letters.len());
+    read_full(input, &mut letters[0..count]);
     let all = table.len();
     if all < width {
         return;
@@ -78,15 +77,13 @@ fn read_row(k: u8, letters: &mut [u8], table: &mut [i32], from: usize, width: us
     );
 }
 
-pub(crate) fn read_rows(k: u8, letters: &mut [u8], table: &mut [i32]) {
-    let rows = at_most(word(), 66);
+pub(crate) fn read_rows<R: Read>(input: &mut R, k: u8, letters: &mut [u8], table: &mut [i32]) {
+    let rows = at_most(word(input), 66);
     let width = entries(k);
-    let mut row = 0usize;
     let mut from = 0usize;
-    while row < rows {
-        read_row(k, letters, table, from, width);
+    for _ in 0..rows {
+        read_row(input, k, letters, table, from, width);
         from += width;
-        row += 1;
     }
 }
 
@@ -96,10 +93,10 @@ fn change(table: &mut [i32], place: usize, value: i32) {
     }
 }
 
-fn read_change(features: &mut [i32], part_features: &mut [i32]) {
-    let table = word();
-    let place = word() as usize;
-    let value = i32_of(word());
+fn read_change<R: Read>(input: &mut R, features: &mut [i32], part_features: &mut [i32]) {
+    let table = word(input);
+    let place = word(input) as usize;
+    let value = i32_of(word(input));
     if table == 0 {
         change(features, place, value);
     } else {
@@ -107,12 +104,14 @@ fn read_change(features: &mut [i32], part_features: &mut [i32]) {
     }
 }
 
-pub(crate) fn read_changes(features: &mut [i32], part_features: &mut [i32]) {
-    let changes = at_most(word(), 66);
-    let mut i = 0usize;
-    while i < changes {
-        read_change(features, part_features);
-        i += 1;
+pub(crate) fn read_changes<R: Read>(
+    input: &mut R,
+    features: &mut [i32],
+    part_features: &mut [i32],
+) {
+    let changes = at_most(word(input), 66);
+    for _ in 0..changes {
+        read_change(input, features, part_features);
     }
 }
 

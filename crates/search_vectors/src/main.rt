@@ -10,9 +10,13 @@ use crate::list::{
 use crate::print::print_answer;
 use kplib::traverse::apply_haplotype;
 use params::Settings;
+use std::io;
+use std::io::Read;
+use streams::read_full;
 
 // The call with the lengths that the list gives, and its answer printed.
 fn ask_in(
+    rt: &impl Print,
     settings: Settings,
     lengths: &[u32; 9],
     starts: &[u64],
@@ -24,7 +28,7 @@ fn ask_in(
     links: &mut [u32],
     keys: &mut [u64],
     rows: &mut [u32],
-) {
+) -> io::Result<()> {
     let starts_are = at_most(lengths[0], starts.len());
     let ends_are = at_most(lengths[1], ends.len());
     let sizes_are = at_most(lengths[2], sizes.len());
@@ -46,11 +50,12 @@ fn ask_in(
         &mut keys[0..keys_are],
         &mut rows[0..rows_are],
     );
-    print_answer(answer, rows);
+    print_answer(rt, answer, rows)
 }
 
 // The same with the largest queue and answer room there is.
 fn ask(
+    rt: &impl Print,
     settings: Settings,
     lengths: &[u32; 9],
     starts: &[u64],
@@ -59,11 +64,12 @@ fn ask(
     features: &[i32],
     part_sizes: &[i32],
     part_features: &[i32],
-) {
+) -> io::Result<()> {
     let mut links = [0u32; 262145];
     let mut keys = [0u64; 262145];
     let mut rows = [0u32; 80];
     ask_in(
+        rt,
         settings,
         lengths,
         starts,
@@ -75,34 +81,35 @@ fn ask(
         &mut links,
         &mut keys,
         &mut rows,
-    );
+    )
 }
 
 // Reads one call, asks it and prints the answer. False where the list ends.
-fn answer_next() -> bool {
+fn answer_next<R: Read>(rt: &impl Print, input: &mut R) -> io::Result<bool> {
     let mut head = [0u8; 42];
-    let got = io::read_full(0, &mut head);
+    let got = read_full(input, &mut head);
     if got < 42 {
-        return false;
+        return Ok(false);
     }
     let settings = settings_of(&head);
     let mut lengths = [0u32; 9];
-    read_lengths(&mut lengths);
+    read_lengths(input, &mut lengths);
     let mut starts = [0u64; 66];
-    read_u64s(&mut starts, lengths[0]);
+    read_u64s(input, &mut starts, lengths[0]);
     let mut ends = [0u64; 66];
-    read_u64s(&mut ends, lengths[1]);
+    read_u64s(input, &mut ends, lengths[1]);
     let mut sizes = [0i32; 66];
-    read_i32s(&mut sizes, lengths[2]);
+    read_i32s(input, &mut sizes, lengths[2]);
     let mut part_sizes = [0i32; 66];
-    read_i32s(&mut part_sizes, lengths[4]);
+    read_i32s(input, &mut part_sizes, lengths[4]);
     let mut letters = [0u8; 4096];
     let mut features = [0i32; 262144];
-    read_rows(settings.k, &mut letters, &mut features);
+    read_rows(input, settings.k, &mut letters, &mut features);
     let mut part_features = [0i32; 262144];
-    read_rows(settings.k, &mut letters, &mut part_features);
-    read_changes(&mut features, &mut part_features);
+    read_rows(input, settings.k, &mut letters, &mut part_features);
+    read_changes(input, &mut features, &mut part_features);
     ask(
+        rt,
         settings,
         &lengths,
         &starts,
@@ -111,14 +118,17 @@ fn answer_next() -> bool {
         &features,
         &part_sizes,
         &part_features,
-    );
-    true
+    )?;
+    Ok(true)
 }
 
 // A loop has to end, so it counts its turns, of which a list has fewer.
-fn main() {
-    let mut turns = 10000u32;
-    while turns > 0 && answer_next() {
-        turns -= 1;
+fn main(rt: HostRuntime) -> io::Result<()> {
+    let mut input = rt.stdin();
+    for _ in 0..10000 {
+        if !answer_next(&rt, &mut input)? {
+            break;
+        }
     }
+    Ok(())
 }

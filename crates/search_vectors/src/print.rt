@@ -2,56 +2,51 @@
 use kplib::pathscore::Target;
 use kplib::traverse::Answer;
 use metrics::floats::bits_of;
+use std::io;
 
-fn put_word(x: u32) {
-    io::print_hex(1, x as u64, 8);
+fn put_word(rt: &impl Print, x: u32) -> io::Result<()> {
+    print!(rt; "{x:08x}")
 }
 
-fn put_next(x: u32) {
-    io::write_all(1, b" ");
-    put_word(x);
+fn put_next(rt: &impl Print, x: u32) -> io::Result<()> {
+    print!(rt; " {x:08x}")
 }
 
-fn put_target(target: Target) {
+fn put_target(rt: &impl Print, target: Target) -> io::Result<()> {
     match target {
         Target::Nothing => {
-            put_next(0);
-            put_next(0);
+            put_next(rt, 0)?;
+            put_next(rt, 0)
         }
         Target::Whole => {
-            put_next(1);
-            put_next(0);
+            put_next(rt, 1)?;
+            put_next(rt, 0)
         }
         Target::Partial(left_out) => {
-            put_next(2);
-            put_next(left_out);
+            put_next(rt, 2)?;
+            put_next(rt, left_out)
         }
     }
 }
 
-fn put_rows(rows: &[u32]) {
-    let mut i = 0usize;
-    while i < rows.len() {
-        put_next(rows[i]);
-        i += 1;
+fn put_rows(rt: &impl Print, rows: &[u32]) -> io::Result<()> {
+    for &row in rows {
+        put_next(rt, row)?;
     }
+    Ok(())
 }
 
-pub(crate) fn print_answer(a: Answer, rows: &[u32]) {
-    put_word(a.refusal);
-    put_next(a.rows);
+pub(crate) fn print_answer(rt: &impl Print, a: Answer, rows: &[u32]) -> io::Result<()> {
+    put_word(rt, a.refusal)?;
+    put_next(rt, a.rows)?;
     let target = a.target;
-    put_target(target);
-    put_next(bits_of(a.score));
-    put_next(bits_of(a.sizesim));
-    put_next(bits_of(a.seqsim));
-    put_next(a.scored);
-    if a.complete {
-        put_next(1);
-    } else {
-        put_next(0);
-    }
+    put_target(rt, target)?;
+    put_next(rt, bits_of(a.score))?;
+    put_next(rt, bits_of(a.sizesim))?;
+    put_next(rt, bits_of(a.seqsim))?;
+    put_next(rt, a.scored)?;
+    put_next(rt, if a.complete { 1 } else { 0 })?;
     let count = crate::list::at_most(a.rows, rows.len());
-    put_rows(&rows[0..count]);
-    io::write_all(1, b"\n");
+    put_rows(rt, &rows[0..count])?;
+    rt.write_all(b"\n")
 }
