@@ -123,11 +123,11 @@ def kept(source, copy):
     (linked if str(source).endswith(".oantt") else shutil.copy2)(source, copy)
 
 
-def beside(root, copy, names):
-    """A repository beside this one that has these crates' files, and of those that they stand on the built libraries too."""
+def beside(root, copy, names, with_lower=True):
+    """A repository beside this one that has these crates' files, and those of what they stand on, with the built libraries."""
     shutil.rmtree(copy, ignore_errors=True)
     (copy / "crates").mkdir(parents=True)
-    lower = [name for name in below(root, names) if name not in names]
+    lower = [name for name in below(root, names) if name not in names and with_lower]
     lines = (root / "crates.txt").read_text(encoding="utf-8").splitlines(keepends=True)
     (copy / "crates.txt").write_text("".join(line for line in lines if {*crate_lines(line)} & {*lower, *names}), encoding="utf-8")
     for name in [*lower, *names]:
