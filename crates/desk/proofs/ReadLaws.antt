@@ -86,9 +86,9 @@ module _ (input : List ℕ) (short : length input ≤ 32768) (t : Lent) (room : 
 
   module _ (job : Job) (held : read_job input ≡ Held job) where
     -- room for every job of at most 16 variants and 128 parts, and for no other
-    has_room : length job.variants ≤ 16 → length (all_parts job) ≤ 128 → has_room (job_counts job) t ≡ true
+    has_room_lem : length job.variants ≤ 16 → length (all_parts job) ≤ 128 → has_room (job_counts job) t ≡ true
     unfolding five three job_counts
-    has_room v p =
+    has_room_lem v p =
         let l = letters_within input job held in
         let few : length (letters_of job) ≤ 32768 = omega arith in
         let b = few_breaks input job held in
@@ -119,7 +119,7 @@ module _ (input : List ℕ) (short : length input ≤ 32768) (t : Lent) (room : 
     large true e h = refl
     large false e h =
         let f = small e in
-        let r = has_room f.0 f.1 in
+        let r = has_room_lem f.0 f.1 in
         let z : ◌≡◌ {A = Bool} true false = sym r ∙ h in
         let w : ◌≡◌ {A = ℕ} 0 1 = cc in
         let n : ⊥ = omega arith in

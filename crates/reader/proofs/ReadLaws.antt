@@ -136,8 +136,8 @@ module _ (s : List ℕ) {c : Counts} (at : run s 0 outset ≡ Good c) where
           crowded_letters h = crowded (rw (rows_room, parts-room, le-leb _ _ breaks-room, lt-leb _ _ h))
 
           module _ (enough : c.letters ≤ length t.letters) where
-            has_room : has_room c t ≡ true
-            has_room = rw (rows_room, parts-room, le-leb _ _ breaks-room, le-leb _ _ enough)
+            has_room_lem : has_room c t ≡ true
+            has_room_lem = rw (rows_room, parts-room, le-leb _ _ breaks-room, le-leb _ _ enough)
 
             kinds : List ℕ
             kinds = gather variant_letters_here s 0 ++ gather part_letters_here s 0
@@ -188,8 +188,8 @@ module _ (s : List ℕ) {c : Counts} (at : run s 0 outset ≡ Good c) where
                   ls ∙ ap (λ (l : List ℕ). stores set t.letters 0 l) (in_order s c at) ∙ laid t.letters kinds letters_fit ∙ ap (placed t.letters) (sym kinds_are) in
                   λ i. record { starts = e1 i; ends = e2 i; sizes = e3 i; negatives = e4 i; counts = e5 i; part_sizes = e6 i; part_negatives = e7 i; part_counts = e8 i; breaks = e0 i; letters = e9 i }
 
-              pub read_job : (edition : Edition) (head : Settings) → edition ≡ edition_of s → head ≡ settings_by edition (take (length s - 1) (drop 1 s))
+              pub read_job_lem : (edition : Edition) (head : Settings) → edition ≡ edition_of s → head ≡ settings_by edition (take (length s - 1) (drop 1 s))
                   → (Given head c ≡ reading_of (read_job s) t) × (u ≡ lent_after (read_job s) t)
-              read_job edition head e h =
+              read_job_lem edition head e h =
                   let x : take (length s - 1) (drop 1 s) ≡ drop 1 s = take_all (length s - 1) (drop 1 s) (simp length-drop (omega arith)) in
-                  (sym (reading_at ∙ rw has_room (ap (λ (y : Settings). Given y c) (sym (h ∙ rw (x, e))))), laid_job ∙ sym (lent_at ∙ rw has_room))
+                  (sym (reading_at ∙ rw has_room_lem (ap (λ (y : Settings). Given y c) (sym (h ∙ rw (x, e))))), laid_job ∙ sym (lent_at ∙ rw has_room_lem))

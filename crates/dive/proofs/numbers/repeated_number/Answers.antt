@@ -1,8 +1,6 @@
 -- Up to variant s no number stands at an earlier one. Assumes nothing.
 use borrow.Author.Rules.{rules}
 use mathlib.Core.Path.{sym, ◌∙◌}
-use mathlib.Core.Bool.{false}
-use Prim.Native.Nat.{◌-◌}
 use Rattle.params.proofs.CheckLaws.{any_none, any_more, any_here, any_end}
 use Rattle.dive.specs.Numbered.{repeated_number}
 use Rattle.dive.proofs.numbers.repeated_number.Goals as goal

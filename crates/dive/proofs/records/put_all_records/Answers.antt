@@ -1,5 +1,5 @@
 -- Each turn lays down the records of one haplotype more in its own stretch.
-use Prim.Native.Nat.{◌+◌, ◌-◌, ◌*◌}
+use Prim.Native.Nat.{◌+◌, ◌*◌}
 use native.Mathlib.Omega.{arith}
 use Rattle.dive.proofs.RecordStretchLaws.{none_recorded, small, in_rows, in_records, word_in, counted_rows, one_recorded, all_recorded}
 use Rattle.dive.proofs.records.put_all_records.Goals as goal

@@ -1,6 +1,5 @@
 -- The records written so far, and then the buffer's own.
 use mathlib.Core.Path.{refl, ◌∙◌}
-use Prim.Native.Nat.{◌-◌}
 use native.Mathlib.Omega.{arith}
 use lib.ListN.{length-set}
 use Rattle.dive.proofs.RecordLaws.{record_on, record_done}

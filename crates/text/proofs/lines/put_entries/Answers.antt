@@ -1,6 +1,5 @@
 -- After i turns the first i entries are a piece.
 use native.Mathlib.Omega.{arith}
-use Prim.Native.Nat.{◌-◌}
 use mathlib.Core.Path.{sym}
 use lib.Seq.{take_all}
 use Rattle.text.proofs.PieceLaws.{no_entries, next_entry, written_kept}

@@ -1,6 +1,5 @@
 -- After i turns the first i bytes are a piece.
 use native.Mathlib.Omega.{arith}
-use Prim.Native.Nat.{◌-◌}
 use mathlib.Core.Path.{sym}
 use lib.Seq.{take_all}
 use Rattle.text.proofs.PieceLaws.{written_none, written_more, written_kept}

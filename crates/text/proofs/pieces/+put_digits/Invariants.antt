@@ -1,0 +1,5 @@
+-- Each turn leaves one digit less to put.
+use Rattle.text.proofs.pieces.+put_digits.Given as goal
+
+abbrev pub decreases-put_digits : goal.decreases-put_digits
+decreases-put_digits l = l.left
