@@ -77,6 +77,7 @@ fn read_row<R: Read>(
     );
 }
 
+#[tactic(auto, using(metrics::proofs::Entries::never_more))]
 pub(crate) fn read_rows<R: Read>(input: &mut R, k: u8, letters: &mut [u8], table: &mut [i32]) {
     let rows = at_most(word(input), 66);
     let width = entries(k);
