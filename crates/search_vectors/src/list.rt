@@ -77,12 +77,11 @@ fn read_row<R: Read>(
     );
 }
 
-#[tactic(auto, using(metrics::proofs::Entries::never_more))]
 pub(crate) fn read_rows<R: Read>(input: &mut R, k: u8, letters: &mut [u8], table: &mut [i32]) {
     let rows = at_most(word(input), 66);
     let width = entries(k);
     let mut from = 0usize;
-    for _ in 0..rows {
+    for row in 0..rows {
         read_row(input, k, letters, table, from, width);
         from += width;
     }
