@@ -1,7 +1,10 @@
 """An edit, which is one wrong answer that the prover must refuse: its file, and a copy of the repository in which it is made. Also what a crate stands on."""
+import hashlib
+import os
 import re
 import shutil
 import subprocess
+import tempfile
 from dataclasses import dataclass
 from pathlib import Path
 
@@ -12,9 +15,23 @@ EXAMPLE = "write 'file: src/x.rt', 'old: ..' and 'new: ..', each on a line"
 
 
 def crate_lines(text):
-    """What each crate of a crates.txt stands on."""
+    """What each crate of a crates.txt stands on. Behind a name may stand what it is, as `staticlib`."""
     lines = (line.split("#")[0].partition(":") for line in text.splitlines())
-    return {name.strip(): below.split() for name, colon, below in lines if colon}
+    return {name.split()[0]: below.split() for name, colon, below in lines if colon}
+
+
+def below(root, names):
+    """The crates of the repository that these stand on, lowest first."""
+    stands_on, found = crate_lines((root / "crates.txt").read_text(encoding="utf-8")), []
+
+    def take(name):
+        for low in stands_on.get(name, []):
+            if low in stands_on and low not in found:
+                take(low)
+                found.append(low)
+    for name in names:
+        take(name)
+    return found
 
 
 @dataclass(frozen=True)
@@ -81,53 +98,62 @@ def apply_edit(folder, edit):
         path.write_text(text.replace(old, new), encoding="utf-8")
 
 
-def beside(root, copy):
-    """A repository that has this one's crates and what is proved of them, by links, and logs of its own: what rt says in it is not
-    mixed with what another rt says in this one. rt dev writes nothing of its crate to what is shared."""
+PARTS = ("src", "specs", "proofs")
+
+
+def room(root):
+    """A folder for copies of this repository, outside of it: rt ci reads all that stands in a checkout, and wants no second source there."""
+    place = Path(tempfile.gettempdir()) / f"ndigomarr-{os.getuid()}" / hashlib.sha256(str(root).encode()).hexdigest()[:12]
+    place.mkdir(mode=0o700, parents=True, exist_ok=True)
+    if place.parent.stat().st_uid != os.getuid():
+        raise Fault(f"{place.parent} is another's; set TMPDIR to a folder of your own")
+    return place
+
+
+def linked(source, copy):
+    """A second name for a file, or a copy where that cannot be. rt replaces what it has checked and built, and writes into none of it."""
+    try:
+        os.link(source, copy)
+    except OSError:
+        shutil.copy2(source, copy)
+
+
+def kept(source, copy):
+    """What rt checked goes by a second name, what it notes beside that as a copy."""
+    (linked if str(source).endswith(".oantt") else shutil.copy2)(source, copy)
+
+
+def beside(root, copy, names, with_lower=True):
+    """A repository beside this one that has these crates' files, and those of what they stand on, with the built libraries."""
     shutil.rmtree(copy, ignore_errors=True)
     (copy / "crates").mkdir(parents=True)
-    (copy / "target" / "log").mkdir(parents=True)
-    shutil.copy(root / "crates.txt", copy)
-    for crate in (root / "crates").iterdir():
-        (copy / "crates" / crate.name).symlink_to(crate)
-    for part in ("rlib", "stamp", "obj"):
-        (root / "target" / part).mkdir(parents=True, exist_ok=True)
-        (copy / "target" / part).symlink_to(root / "target" / part)
+    lower = [name for name in below(root, names) if name not in names and with_lower]
+    lines = (root / "crates.txt").read_text(encoding="utf-8").splitlines(keepends=True)
+    (copy / "crates.txt").write_text("".join(line for line in lines if {*crate_lines(line)} & {*lower, *names}), encoding="utf-8")
+    for name in [*lower, *names]:
+        for part in PARTS:
+            if (root / "crates" / name / part).is_dir():
+                shutil.copytree(root / "crates" / name / part, copy / "crates" / name / part)
+    for name in lower:
+        if (root / "crates" / name / "out" / "rlib").is_dir():
+            shutil.copytree(root / "crates" / name / "out" / "rlib", copy / "crates" / name / "out" / "rlib", copy_function=linked)
     return copy
 
 
 def copy_with(root, copy, edits):
-    """A repository beside this one in which these edits of one crate are made. rt dev's own folder is copied, so that only what they touch is checked."""
-    beside(root, copy)
+    """A repository beside this one in which these edits of one crate are made. What rt check has kept of the crate goes along, so that only what they touch is checked."""
     name = edits[0].crate
-    crate, known = copy / "crates" / name, root / "target" / "inc" / name
-    crate.unlink()
-    shutil.copytree(root / "crates" / name, crate)
-    (copy / "target" / "inc").mkdir()
-    if known.is_dir():
-        subprocess.run(["cp", "-R", "--reflink=auto", str(known), str(copy / "target" / "inc")], check=True)
+    beside(root, copy, [name])
+    known = Path("crates", name, "out", "incremental")
+    if (root / known).is_dir():
+        shutil.copytree(root / known, copy / known, copy_function=kept)
     for edit in edits:
-        apply_edit(crate, edit)
+        apply_edit(copy / "crates" / name, edit)
     return copy
 
 
-def hand_on(root, name):
-    """Puts what rt check has checked of a crate into rt dev's folder, where that has none of it. rt dev takes from there only what is still as the files
-    have it, so this saves time and says nothing."""
-    library, known = root / "target" / "rlib" / f"{name}.rlib", root / "target" / "inc" / name
-    build = re.search(r"^rattle-build (.*)$", (library / "format").read_text(encoding="utf-8"), re.M) if (library / "format").is_file() else None
-    if build and (library / "toolchain" / "checked").is_dir():
-        shutil.copytree(library / "toolchain" / "checked", known / build[1].replace("/", "_"), copy_function=copy_new, dirs_exist_ok=True)
-
-
-def copy_new(source, copy):
-    if not Path(copy).exists():
-        shutil.copyfile(source, copy)
-
-
-def dev(root, name):
-    """What rt dev says of a crate; it stays in target/log/NAME.dev."""
-    done = subprocess.run(["rt", "dev", name], cwd=root, stdout=subprocess.PIPE, stderr=subprocess.STDOUT, text=True, errors="replace", check=False)
-    (root / "target" / "log").mkdir(parents=True, exist_ok=True)
-    (root / "target" / "log" / f"{name}.dev").write_text(done.stdout, encoding="utf-8")
+def check(root, name):
+    """What rt check says of a crate of a repository."""
+    words = ["rt", "check", "--jobs", "1"]
+    done = subprocess.run(words, cwd=root / "crates" / name, stdout=subprocess.PIPE, stderr=subprocess.STDOUT, text=True, errors="replace", check=False)
     return done.stdout

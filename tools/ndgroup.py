@@ -10,12 +10,13 @@ from ndedit import replacements
 from ndlog import Fault, fact_of
 
 WORD = re.compile(r"[^\s(){}\[\];,.:«»⌜⌝⟦⟧|\"]+")
-MARKS = {"pub", "abbrev", "unfoldable", "record", "data"}
+MARKS = {"pub", "abbrev", "unfoldable", "record", "data", "ruleset"}
 COMMENT = re.compile(r"^\s*(?:--|//).*$", re.M)
 USE = re.compile(r"^(?:ghost )?use ([^\s{;]+?)(?:\.\{(.*?)\})?(?: as \S+)?;?$", re.M)
 HEADER = re.compile(r"^ *module\b.*?\bwhere\b", re.M | re.S)
 PARAGRAPH = re.compile(r"(?:.*\S.*\n?)+")
-FUNCTION = re.compile(r"^(?:pub(?:\(\w+\))? )?(?:extern \"C\" )?fn (\w+)(?:.*\}$|(?s:.*?)^\})", re.M)
+FUNCTION = re.compile(r"^(?P<marks>(?:#\[(?s:.*?)\]\n)*)(?:pub(?:\(\w+\))? )?(?:extern \"C\" )?fn (?P<name>\w+)(?:.*\}$|(?s:.*?)^\})", re.M)
+NAMED = re.compile(r"\bcrate::((?:specs|proofs)(?:::\w+)*)::([\w-]+)")  # a lemma or a definition that an attribute names for the search
 OPENED = re.compile(r"^(?!\s).*\{$", re.M)  # the line behind which a body begins; a body on one line with its function is none
 CONSTANT = re.compile(r"^(?:pub )?const (\w+)(.*);$", re.M)
 
@@ -60,7 +61,7 @@ class File:
 
     def __init__(self, folder, path):
         self.name, self.text = str(path.relative_to(folder)), path.read_text(encoding="utf-8")
-        self.own = re.compile(rf"Rattle·{folder.name}·(?:specs|proofs)\.")
+        self.own = re.compile(rf"Rattle\.{folder.name}\.(?=(?:specs|proofs)\.)")
         self.modules, self.whole, self.brought = [], [], []
         self.bring(self.text)
         self.functions = self.code() if path.suffix == ".rt" else {}
@@ -74,6 +75,7 @@ class File:
                 self.modules.append(inside)
                 self.whole += [] if names else [f"{inside}.antt"]
                 self.brought += [(f"{inside}.antt", *name.split(" as ")) for name in names.split(", ") if name]
+        self.brought += [(f"{module.replace('::', '/')}.antt", name) for module, name in NAMED.findall(text)]
 
     def paragraphs(self):
         """Each line `use`, and each paragraph; that names also what the headers of sections name, since those stand above all of a section."""
@@ -88,8 +90,8 @@ class File:
         for whole in FUNCTION.finditer(self.text):
             opened = OPENED.search(self.text, *whole.span())
             body = range(opened.end() if opened else whole.end(), whole.end())
-            contract = Piece(self.name, {whole[1]}, words_of(self.text[whole.start():body.start]))
-            found["/".join([*modules, whole[1]])] = contract, Piece(self.name, set(), words_of(whole[0]), body)
+            contract = Piece(self.name, {whole["name"]}, words_of(self.text[whole.end("marks"):body.start]))
+            found["/".join([*modules, whole["name"]])] = contract, Piece(self.name, set(), words_of(whole[0]), body)
         return found
 
     def beside(self):
@@ -119,10 +121,12 @@ class Crate:
             for below in piece.rests_on:
                 self.users.setdefault(below, set()).add(piece)
 
-    def proof_of(self, place):
-        """The proof file of a function. That of one that calls itself stands in a folder +NAME."""
+    def proofs_of(self, place):
+        """The proof files of a function. Those of one that calls itself stand in a folder +NAME."""
         above, _, name = place.rpartition("/")
-        return self.files.get(f"proofs/{place}/Proof.antt") or self.files.get("/".join(filter(None, ("proofs", above, f"+{name}", "Proof.antt"))))
+        folders = f"proofs/{place}", "/".join(filter(None, ("proofs", above, f"+{name}")))
+        paths = [f"{folder}/{kind}.antt" for folder in folders for kind in ("Invariants", "Answers", "Proof")]
+        return [self.files[path] for path in paths if path in self.files]
 
     def link(self, file):
         """What the pieces of a file rest on."""
@@ -140,8 +144,9 @@ class Crate:
             piece.rests_on.update(always, *(known.get(word, ()) for word in piece.words))
         for place, (contract, code) in file.functions.items():
             code.rests_on.add(contract)
-            if not self.proof_of(place):  # what is found for it waits for what it calls
-                code.rests_on.update(called for other, (_, called) in self.functions.items() if other.rpartition("/")[2] in code.words)
+            # what the prover finds for it waits for what it calls, and rests on what its own files say
+            code.rests_on.update(called for other, (_, called) in self.functions.items() if other.rpartition("/")[2] in code.words)
+            code.rests_on.update(piece for proof in self.proofs_of(place) if proof.name.endswith("/Invariants.antt") for piece in proof.pieces)
 
     def declaring(self, file, name):
         return [piece for piece in self.files[file].pieces if name in piece.names] if file in self.files else []
@@ -149,8 +154,8 @@ class Crate:
     def of_function(self, file, module):
         """The pieces behind a module that the checker makes of a function: its code and, seen from outside, its proof."""
         place = "/".join(module.replace("+", "").split("/")[1:-1])
-        proof = self.proof_of(place)
-        return [*self.functions.get(place, ()), *(proof.pieces if proof and proof is not file else [])]
+        proofs = [proof for proof in self.proofs_of(place) if proof is not file]
+        return [*self.functions.get(place, ()), *(piece for proof in proofs for piece in proof.pieces)]
 
     def changes(self, edit):
         """The pieces that an edit changes, with what it writes there; none where it changes anything else, or cannot be made."""
@@ -174,10 +179,11 @@ class Crate:
         return next((piece for piece in self.files[file].pieces if at in piece.span), None)
 
     def facts(self, fact):
-        """The pieces in which a fact stands: its paragraphs, or the code of a function that has no proof file."""
+        """The pieces in which a fact stands: its paragraphs, or the code of a function where the prover finds what holds it."""
         place, _, need = fact.replace("+", "").partition(" ")
-        file = self.files.get(f"proofs/{place}") or self.proof_of(place)
-        return set(self.declaring(file.name, need)) if file else set(self.functions.get(place, ())[1:])
+        files = [self.files[f"proofs/{place}"]] if f"proofs/{place}" in self.files else self.proofs_of(place)
+        said = {piece for file in files for piece in self.declaring(file.name, need)}
+        return said or set(self.functions.get(place, ())[1:])
 
     def resting_on(self, changed):
         """The pieces that rest on any of these, and these."""
@@ -241,8 +247,8 @@ class Group:
     def follows(self, reach, item):
         """Whether a function waits for one that the same edit may have refused: then its failure may be a consequence."""
         places = ["/".join(name.split("::")[1:]) for name in (item.waits_for if item else [])]
-        proofs = [self.crate.proof_of(place) for place in places]
-        pieces = {piece for place in places for piece in self.crate.functions.get(place, ())} | {piece for proof in proofs if proof for piece in proof.pieces}
+        pieces = {piece for place in places for piece in self.crate.functions.get(place, ())}
+        pieces |= {piece for place in places for proof in self.crate.proofs_of(place) for piece in proof.pieces}
         return bool(pieces & reach.touched)
 
 

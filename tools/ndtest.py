@@ -6,6 +6,7 @@ import sys
 import tempfile
 import unittest
 from pathlib import Path
+from unittest import mock
 
 HERE = Path(__file__).resolve().parent
 
@@ -26,12 +27,16 @@ def logs():
 
 
 class FolderTest(unittest.TestCase):
-    """Each test has an empty folder, `root`, of its own."""
+    """Each test has an empty folder, `root`, of its own, and another for what goes beside it."""
 
     def setUp(self):
-        held = tempfile.TemporaryDirectory()
+        held, beside = tempfile.TemporaryDirectory(), tempfile.TemporaryDirectory()
         self.addCleanup(held.cleanup)
+        self.addCleanup(beside.cleanup)
         self.root = Path(held.name)
+        there = mock.patch.object(tempfile, "tempdir", beside.name)
+        there.start()
+        self.addCleanup(there.stop)
 
     def write(self, path, text):
         (self.root / path).parent.mkdir(parents=True, exist_ok=True)

@@ -1,4 +1,4 @@
-"""Made from the exports of crates/capi by tools/prototypes --write."""
+"""Made from the exports of crates/capi_c by tools/prototypes --write."""
 import ctypes
 
 from ._settings import Words
