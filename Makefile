@@ -4,13 +4,9 @@
 # where `make install` puts things
 PREFIX ?= /usr/local
 
-# rt waits for all crates of a batch before it starts the next: a batch of four keeps two cores busy where a long crate stands beside a short one.
-# Each takes about 1 GB. Who sets RT_JOBS decides.
-rt := RT_JOBS=$${RT_JOBS:-4} rt
-
 program:
 	tools/emulate >&2
-	rt check ndigomarr copy_job >&2
+	tools/program ndigomarr copy_job >&2
 
 ndigo:
 	ndigo/build
@@ -21,10 +17,10 @@ run: program ndigo
 	target/bin/ndigo draw examples/first-dive.tsv > target/first-dive.svg
 	@echo 'picture target/first-dive.svg'
 
-# What `runs` and `wrong` need: the programs, and all that the library stands on, which is itself proved as it is made.
-below_capi := $(filter $(notdir $(wildcard crates/*)),$(shell sed -n 's/^capi://p' crates.txt))
+# What `runs` and `wrong` need: every crate proved, lowest first, and the programs. What earlier checks have kept is not proved again.
 proofs:
-	$(rt) check ndigomarr copy_job $(below_capi) >&2
+	rt all check >&2
+	tools/program ndigomarr copy_job >&2
 
 packages:
 	oracle/setup
@@ -51,28 +47,29 @@ texts:
 	tools/test_changed
 	tools/test_unproved
 	tools/test_ndform
-	rt fmt --check
+	tools/layout
+	tools/test_gate
 
 # The wrong answers that rt ci does not try, in folders of their own. What is run beside them is one thing after the other and has the way first.
 wrong:
 	nice tools/wrong
 
-# What is run, one after the other, since two rt in one folder mix their logs. One archive serves all that link it.
+# What is run, one after the other. One archive serves all that link it.
 runs:
 	tools/run-examples
 	set -e; ARCHIVE_MADE=$$(tools/library); export ARCHIVE_MADE; NDIGO_NEEDS_PROGRAM=1 SHEET_WRITER=target/bin/copy_job ndigo/test; ndigo/deeper/test; oracle/run --short; oracle/soak --short; bindings/test; oracle/bed/check; ndigo/build; tools/around; bindings/test-install; workflow/test
 
-# What stands on one line runs at the same time. rt ci stands last: its last line, 'N passed, 0 failed', is the gate's. It proves all from nothing, so what runs before it builds for itself.
+# What stands on one line runs at the same time. rt ci stands last: its last line, 'N passed, 0 failed', is the gate's. It trusts nothing that a check has kept, so what runs before it builds for itself.
 test:
 	$(MAKE) --no-print-directory --jobs=3 --output-sync=line proofs packages texts
 	$(MAKE) --no-print-directory --jobs=2 --output-sync=line wrong runs
-	$(rt) ci
+	tools/gate
 
 # After a changed line: what differs from main and what stands on it, not the whole gate.
 changed:
 	tools/changed
 
-# Every wrong answer as rt ci tries its own: each proves its whole crate from nothing.
+# Every wrong answer, and as rt must-fail tries its own too, from nothing.
 must-fail:
 	tools/wrong --official
 
