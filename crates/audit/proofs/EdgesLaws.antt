@@ -125,7 +125,8 @@ module _ (starts ends : List ℕ) where
   never full (s ∷ rows) c h = never full rows (s ∷ c) (rw h)
 
   -- one row more
-  chain_step : (full : Bool) (s : ℕ) (c : List ℕ) {u : Bool} → is_chain_in starts ends full c ≡ true → ltb s size ≡ true → extends_in starts ends full c s ≡ u → is_chain_in starts ends full (s ∷ c) ≡ u
+  chain_step : (full : Bool) (s : ℕ) (c : List ℕ) {u : Bool} → is_chain_in starts ends full c ≡ true → ltb s size ≡ true → extends_in starts ends full c s ≡ u → is_chain_in starts ends
+      full (s ∷ c) ≡ u
   unfolding is_chain
   chain_step full s c h e f = rw (h, e) f
 

@@ -15,7 +15,8 @@ use Rattle.params.specs.Numbers.{first_of, bound_rules}
 use Rattle.params.proofs.CheckLaws.{given, passed, numbered, Passed, none_given, stops, goes_on}
 use Rattle.params.proofs.BoundLaws.{no_bounds}
 use Rattle.bed.specs.Bed.{tab, newline}
-use Rattle.bed.specs.Reading.{same_bytes, lines_of, up_to, behind_first, name_in, start_in, end_in, good_line, line_rules, lines_from, text_rules, starts_in, ends_in, read_fault, read_answer, unless_refused}
+use Rattle.bed.specs.Reading.{same_bytes, lines_of, up_to, behind_first, name_in, start_in, end_in, good_line, line_rules, lines_from, text_rules, starts_in, ends_in, read_fault}
+use Rattle.bed.specs.Reading.{read_answer, unless_refused}
 use Rattle.bed.specs.Steps.{first_line, Rows, Scanned, Checked}
 use Rattle.bed.specs.declared.table.Found.{Found}
 use Rattle.bed.specs.declared.BedRead.TheVariants.{Table, Refused}

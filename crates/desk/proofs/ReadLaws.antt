@@ -48,7 +48,18 @@ empty_with letters = lent (replicate 16 0) (replicate 16 0) (replicate 16 (pos 0
     (replicate 128 (pos 0)) (replicate 128 false) (replicate 128 0) (replicate 15 0) letters
 
 pub empty_room : (letters : List ℕ) → 32768 ≡ length letters → Room (empty_with letters)
-empty_room letters e = record { starts = refl; ends = refl; sizes = refl; negatives = refl; counts = refl; part_sizes = refl; part_negatives = refl; part_counts = refl; breaks = refl; letters = sym e }
+empty_room letters e = record {
+  starts = refl;
+  ends = refl;
+  sizes = refl;
+  negatives = refl;
+  counts = refl;
+  part_sizes = refl;
+  part_negatives = refl;
+  part_counts = refl;
+  breaks = refl;
+  letters = sym e;
+}
 
 pub told_room : (n : ℕ) → n ≡ 30 → 26 ≡ told_as n
 unfolding told_as

@@ -367,7 +367,8 @@ module _ (s : List ℕ) (at : ℕ) (inside : at < length s) where
   unfolding record_at
   there = rw (lt-ltb at (length s) inside)
 
-  pub record_here : (kind : Kind) (count n : ℕ) → kind ≡ kind_of (get_or s at 0) → count ≡ count_of kind body → n ≡ body_len kind → record { kind = kind; count = count; next = at + 1 + n } ≡ record_at s at
+  pub record_here : (kind : Kind) (count n : ℕ) → kind ≡ kind_of (get_or s at 0) → count ≡ count_of kind body → n ≡ body_len kind → record
+      { kind = kind; count = count; next = at + 1 + n } ≡ record_at s at
   record_here kind count n k c b = rw (c, b, rest_is, k) (sym there)
 
   module _ (r : Record) (is : r ≡ record_at s at) where

@@ -47,7 +47,8 @@ unfolding run
 run_letters [] n st c e = let y : ◌≡◌ {A = ℕ} 0 1 = cc in omega arith
 run_letters (k ∷ b) (suc n) st c e = let h = run_letters b n st c e in omega arith
 run_letters (k ∷ b) zero st c e =
-    let h = one (fault_of st (kind_of k) b) (kind_of k) st (run b (body_len (kind_of k)) (after st (kind_of k) b)) c (eqb (fault_of st (kind_of k) b) 0) (is_end (kind_of k)) refl refl e (length b) (λ r.
+    let h = one (fault_of st (kind_of k) b) (kind_of k) st (run b (body_len (kind_of k)) (after st (kind_of k) b)) c (eqb (fault_of st (kind_of k) b) 0) (is_end (kind_of k)) refl refl e
+    (length b) (λ r.
     let i = run_letters b (body_len (kind_of k)) (after st (kind_of k) b) c r in
     let j = grows (is_letters (kind_of k)) st (kind_of k) b refl in
     omega arith) in

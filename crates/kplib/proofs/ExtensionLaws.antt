@@ -123,7 +123,8 @@ module _ {plan : Plan} {together : List Bool} {sizes : List ℤ} {links keys : L
 
   -- a turn of the loop whose row extends the chain: its link stands behind the others, and its key is put to the others
   pub queueing_row : (links' : List ℕ) {keys' : List ℕ} {added r k : ℕ} {keys'' : List ℕ}
-      → Queueing (follows_by plan together) (length sizes) (distance_to sizes plan.target) used queued entry (parents_of links) (lasts_of links) keys (parents_of links') (lasts_of links') keys' added r
+      → Queueing (follows_by plan together) (length sizes) (distance_to sizes plan.target) used queued entry (parents_of links) (lasts_of links) keys (parents_of links')
+      (lasts_of links') keys' added r
       → length links' ≡ length links → length keys' ≡ length keys → 0 < r → extends (follows_by plan together) (chain_of links entry) (r - 1) ≡ true
       → k ≡ key_of (nat_abs (to_z w32 (of_z w32 (to_z w32 (of_z w32 size) +ℤ to_z w32 (of_z w32 (get_or sizes (r - 1) (pos 0))))) -ℤ to_z w32 (of_z w32 plan.target))) (used + added)
       → Heap keys'' (queued + added + 1) (take (queued + added) keys' ++ (k ∷ []))

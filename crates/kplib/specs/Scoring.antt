@@ -1,5 +1,6 @@
 -- What the functions behind the scoring ask and promise one another. No public promise cites this file.
-use Rattle.std.specs.Prelude.{ℕ, zero, suc, ◌+◌, ◌-◌, ◌*◌, ◌/◌, ◌%◌, ◌^◌, ◌≤◌, ◌<◌, ◌≡◌, Bool, true, false, cond, not, ◌&&◌, List, [], ◌∷◌, ◌++◌, map, T, eqb, ℤ, pos, nat_abs, length, get_or, take, Float}
+use Rattle.std.specs.Prelude.{ℕ, zero, suc, ◌+◌, ◌-◌, ◌*◌, ◌/◌, ◌%◌, ◌^◌, ◌≤◌, ◌<◌, ◌≡◌, Bool, true, false, cond, not, ◌&&◌, List, [], ◌∷◌, ◌++◌, map, T, eqb, ℤ, pos, nat_abs}
+use Rattle.std.specs.Prelude.{length, get_or, take, Float}
 use Rattle.std.specs.Float.Ieee.{lt, le}
 use Rattle.metrics.specs.Similarity.{whole, sizesim_value, magnitude_sum}
 use Rattle.paths.specs.Best.{All}

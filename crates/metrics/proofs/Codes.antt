@@ -1,6 +1,7 @@
 -- The letters' codes, the table that has them, and the mask in place of a division. A code is a digit in base 4, and a letter without one counts as 0
 -- in document 01. The table's mark is 4 ^ 6, a multiple of every row's size, so that it falls away under the mask. Assumes nothing.
-use Rattle.std.proofs.Common.{◌≡◌, ℕ, zero, suc, ◌+◌, ◌-◌, ◌*◌, ◌%◌, ◌^◌, ◌<◌, ◌≤◌, Bool, true, false, cond, ◌||◌, eqb, List, length, get_or, set, sym, refl, ap, ◌∙◌, arith, get_or-set_other, get_or-set_same, pow-add, ne_eqb, eqb-true}
+use Rattle.std.proofs.Common.{◌≡◌, ℕ, zero, suc, ◌+◌, ◌-◌, ◌*◌, ◌%◌, ◌^◌, ◌<◌, ◌≤◌, Bool, true, false, cond, ◌||◌, eqb, List, length, get_or, set, sym, refl, ap, ◌∙◌, arith}
+use Rattle.std.proofs.Common.{get_or-set_other, get_or-set_same, pow-add, ne_eqb, eqb-true}
 use native.Mathlib.Nat.{pow-succ', mul-add-mod_self_right}
 use lib.Bits.{bit_and, and_mask}
 use borrow.Author.Tests.{eqb-false}

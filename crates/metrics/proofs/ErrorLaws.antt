@@ -3,7 +3,10 @@
 -- below 2 ^ (prec + j) smallest values it is off by at most half of 2 ^ j (`round_near`) and does not leave the binade (`round_most`);
 -- from 2 ^ (prec - 1 + j) on it is a multiple of 2 ^ j (`round_multiple`). Division and subtraction are each one rounding of the exact
 -- fraction (`div_whole`, `sub_at`), and a difference that has few enough digits is exact (`sub_exact`). Assumes nothing.
-use Rattle.std.proofs.Common.{◌≡◌, ℕ, zero, suc, ◌+◌, ◌-◌, ◌*◌, ◌/◌, ◌%◌, ◌^◌, ◌<◌, ◌≤◌, Bool, true, false, not, T, eqb, ltb, sym, refl, ap, ◌∙◌, subst, true≢false, le_trans, le_of_eq, le_refl, lt_of_lt_of_le, lt_of_le_of_lt, le_of_lt, lt_irrefl, mul-le-mul_right, mod-lt, mul_assoc, mul_comm, div-lt_iff_lt-mul, add-mul, mul-le-mul, mul-pos, one-mul, lt_of_not-le, div-add-mod', le-div_iff_mul-le, mul_right_comm, le_of_mul-le-mul_right, mul_left_comm, arith, eqb→eq, ltb→lt, leb→le, pow_pos, pow_mono, pow-add, shl_lt, le-ltb, ne_eqb}
+use Rattle.std.proofs.Common.{◌≡◌, ℕ, zero, suc, ◌+◌, ◌-◌, ◌*◌, ◌/◌, ◌%◌, ◌^◌, ◌<◌, ◌≤◌, Bool, true, false, not, T, eqb, ltb, sym, refl, ap, ◌∙◌, subst, true≢false, le_trans}
+use Rattle.std.proofs.Common.{le_of_eq, le_refl, lt_of_lt_of_le, lt_of_le_of_lt, le_of_lt, lt_irrefl, mul-le-mul_right, mod-lt, mul_assoc, mul_comm, div-lt_iff_lt-mul, add-mul}
+use Rattle.std.proofs.Common.{mul-le-mul, mul-pos, one-mul, lt_of_not-le, div-add-mod', le-div_iff_mul-le, mul_right_comm, le_of_mul-le-mul_right, mul_left_comm, arith, eqb→eq}
+use Rattle.std.proofs.Common.{ltb→lt, leb→le, pow_pos, pow_mono, pow-add, shl_lt, le-ltb, ne_eqb}
 use Prim.Native.Nat.{compare, Ordering}
 use native.Mathlib.Nat.{mul-sub, eq_of_mul-eq-mul_left}
 use lib.Dec.{is_le, compare_is_eq, nleb→lt}

@@ -1,6 +1,8 @@
 -- Signed entries by their bits, one more pair of entries in the pass over two rows, and what the whole pass shows. Where the rows are within their
 -- limit no sum wraps, since what is added up and what is left are the whole. Assumes nothing.
-use Rattle.std.proofs.Common.{◌≡◌, ℕ, zero, suc, ◌+◌, ◌-◌, ◌*◌, ◌%◌, ◌<◌, ◌≤◌, Bool, true, false, cond, T, ltb, leb, List, [], ◌∷◌, length, get_or, drop, ℤ, pos, negsuc, ◌+ℤ◌, ◌-ℤ◌, nat_abs, refl, ap, ◌∙◌, subst, zero-le, le_refl, add-mul, mul-le-mul, one-mul, arith, w64, SFits, to_z, of_z, ltb-false, ltb-true, le-ltb, lt-ltb, eq-eqb}
+use Rattle.std.proofs.Common.{◌≡◌, ℕ, zero, suc, ◌+◌, ◌-◌, ◌*◌, ◌%◌, ◌<◌, ◌≤◌, Bool, true, false, cond, T, ltb, leb, List, [], ◌∷◌, length, get_or, drop, ℤ, pos, negsuc, ◌+ℤ◌}
+use Rattle.std.proofs.Common.{◌-ℤ◌, nat_abs, refl, ap, ◌∙◌, subst, zero-le, le_refl, add-mul, mul-le-mul, one-mul, arith, w64, SFits, to_z, of_z, ltb-false, ltb-true, le-ltb}
+use Rattle.std.proofs.Common.{lt-ltb, eq-eqb}
 use lib.Bits.{bit_or, or_add_and, and_le_l, and_le_r}
 use lib.Signed.{mag, lt_z}
 use lib.Ieee.{Float}

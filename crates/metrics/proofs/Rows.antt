@@ -1,5 +1,6 @@
 -- Sums over what is left of a row. Assumes nothing.
-use Rattle.std.proofs.Common.{◌≡◌, ℕ, suc, ◌+◌, ◌*◌, ◌<◌, ◌≤◌, Bool, true, false, cond, leb, List, [], ◌∷◌, length, get_or, drop, ℤ, pos, ◌-ℤ◌, nat_abs, refl, zero-le, le_refl, add-mul, add-one, arith, drop_of_length-le, drop-cons, leb-false}
+use Rattle.std.proofs.Common.{◌≡◌, ℕ, suc, ◌+◌, ◌*◌, ◌<◌, ◌≤◌, Bool, true, false, cond, leb, List, [], ◌∷◌, length, get_or, drop, ℤ, pos, ◌-ℤ◌, nat_abs, refl, zero-le, le_refl}
+use Rattle.std.proofs.Common.{add-mul, add-one, arith, drop_of_length-le, drop-cons, leb-false}
 use Rattle.metrics.specs.Similarity.{magnitude_sum, both, part_d, part_n, sum_by, sum_d, sum_n}
 use Rattle.metrics.proofs.Ints.{apart_le}
 

@@ -1,6 +1,7 @@
 -- The run: how many letters in a row read, up to the last one. The window of the last k letters is kept exactly when the run is k or more: if each of
 -- them reads, they all belong to it, and if one does not, the run begins behind it. Once over the test `reads`. Assumes nothing.
-use Rattle.std.proofs.Common.{◌≡◌, ℕ, suc, ◌+◌, ◌-◌, ◌%◌, ◌^◌, ◌<◌, ◌≤◌, Bool, true, false, cond, ◌&&◌, eqb, leb, List, [], ◌∷◌, ◌++◌, length, get_or, take, set, ℤ, pos, sym, refl, ap, ◌∙◌, add-one, arith, take-append-drop, take-suc, leb-false, leb-true}
+use Rattle.std.proofs.Common.{◌≡◌, ℕ, suc, ◌+◌, ◌-◌, ◌%◌, ◌^◌, ◌<◌, ◌≤◌, Bool, true, false, cond, ◌&&◌, eqb, leb, List, [], ◌∷◌, ◌++◌, length, get_or, take, set, ℤ, pos, sym, refl}
+use Rattle.std.proofs.Common.{ap, ◌∙◌, add-one, arith, take-append-drop, take-suc, leb-false, leb-true}
 use lib.Seq.{set-get_or}
 use Rattle.metrics.specs.Letters.{encoded, read_by, number_of, all_read, counts_reading}
 use Rattle.metrics.specs.Lanes.{entry_of}

@@ -2,7 +2,10 @@
 -- From 1/2 on, q rounds to a multiple R / 2 ^ 24 and is off by at most half of 1 / 2 ^ 24; 1 − R / 2 ^ 24 is exact (`sub_exact`), so S = 2 ^ 24 − R.
 -- Below 1/2, q is off by at most a quarter of 1 / 2 ^ 24. The difference from 1 lies between 1/2 and 1, rounds to a multiple S / 2 ^ 24, and is off by another
 -- half: three quarters together. Zero n is 1.0, exact. The laws of the two roundings are those of ErrorLaws. Assumes nothing.
-use Rattle.std.proofs.Common.{◌≡◌, ℕ, zero, suc, ◌+◌, ◌-◌, ◌*◌, ◌^◌, ◌<◌, ◌≤◌, Bool, true, false, cond, not, eqb, ltb, leb, [], ◌∷◌, length, ℤ, pos, negsuc, ◌-ℤ◌, ◌*ℤ◌, nat_abs, sym, refl, ap, ◌∙◌, subst, ⊎_elim, le_trans, le_of_eq, le_refl, lt_of_lt_of_le, lt_of_le_of_lt, mul-le-mul_right, mul_assoc, mul_comm, add-mul, eq-or-lt_of_le, mul-lt-mul_of_pos_right, one-mul, mul_right_comm, le_of_mul-le-mul_right, mul_left_comm, arith, lit<, lit≤, pow_pos, ltb-false, ltb-true, eqb-true, leb-false, leb-true}
+use Rattle.std.proofs.Common.{◌≡◌, ℕ, zero, suc, ◌+◌, ◌-◌, ◌*◌, ◌^◌, ◌<◌, ◌≤◌, Bool, true, false, cond, not, eqb, ltb, leb, [], ◌∷◌, length, ℤ, pos, negsuc, ◌-ℤ◌, ◌*ℤ◌, nat_abs}
+use Rattle.std.proofs.Common.{sym, refl, ap, ◌∙◌, subst, ⊎_elim, le_trans, le_of_eq, le_refl, lt_of_lt_of_le, lt_of_le_of_lt, mul-le-mul_right, mul_assoc, mul_comm, add-mul}
+use Rattle.std.proofs.Common.{eq-or-lt_of_le, mul-lt-mul_of_pos_right, one-mul, mul_right_comm, le_of_mul-le-mul_right, mul_left_comm, arith, lit<, lit≤, pow_pos, ltb-false}
+use Rattle.std.proofs.Common.{ltb-true, eqb-true, leb-false, leb-true}
 use lib.Ieee.{Float, fin, binary32, round, sub, div, of_int}
 use lib.Ieee.Exact.{HasValue}
 use lib.Ieee.Scale.{round_same, grid}

@@ -1,6 +1,7 @@
 -- The entries of a counted row sum to plus or minus the number of windows kept, and their magnitudes to that number. Each window adds one to one
 -- entry of the row, so the sum over the entries is the length of the list of windows; document 01 keeps all length - k + 1. Assumes nothing.
-use Rattle.std.proofs.Common.{◌≡◌, ℕ, zero, suc, ◌+◌, ◌-◌, ◌^◌, ◌<◌, ◌≤◌, Bool, true, false, cond, ◌&&◌, eqb, ltb, leb, List, [], ◌∷◌, ◌++◌, length, take, ℤ, pos, ◌+ℤ◌, refl, ap, ◌∙◌, ⊎_elim, zero-le, eq-or-lt_of_le, arith, length-take-le, ltb-false, le-ltb, eq-eqb, ne_eqb, le-leb, leb-false, leb-true}
+use Rattle.std.proofs.Common.{◌≡◌, ℕ, zero, suc, ◌+◌, ◌-◌, ◌^◌, ◌<◌, ◌≤◌, Bool, true, false, cond, ◌&&◌, eqb, ltb, leb, List, [], ◌∷◌, ◌++◌, length, take, ℤ, pos, ◌+ℤ◌, refl, ap}
+use Rattle.std.proofs.Common.{◌∙◌, ⊎_elim, zero-le, eq-or-lt_of_le, arith, length-take-le, ltb-false, le-ltb, eq-eqb, ne_eqb, le-leb, leb-false, leb-true}
 use lib.IntN.{+ℤ_idl, +ℤ_idr}
 use Rattle.metrics.specs.declared.kmer.Counted.TheVariants.{Done}
 use Rattle.metrics.specs.Similarity.{magnitude_sum}

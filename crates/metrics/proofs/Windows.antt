@@ -1,7 +1,10 @@
 -- The windows of k letters that are kept, once over k and over the test that keeps them, letter by letter: the windows of one letter more are those
 -- so far and the one that ends with it, if it is kept; its number is that of all letters modulo 4 ^ k, and it counts once more in its own entry.
 -- Assumes nothing.
-use Rattle.std.proofs.Common.{◌≡◌, ℕ, zero, suc, ◌+◌, ◌-◌, ◌*◌, ◌/◌, ◌%◌, ◌^◌, ◌<◌, ◌≤◌, Bool, true, false, cond, ◌&&◌, eqb, leb, List, [], ◌∷◌, ◌++◌, length, get_or, take, drop, set, replicate, ℤ, pos, nat_abs, sym, refl, ap, ◌∙◌, subst, append_assoc, append-nil, zero-le, le_refl, add-zero, add_assoc, mul-le-mul_right, mod-eq_of_lt, mul_assoc, add-mul, div-add-mod', mul_right_comm, add-one, arith, length-append, length-drop, length-set, take-append-drop, length-take-le, take_all, get_or-set_other, take-suc, get_or-set_same, ext_get_or, pow-add, eq-eqb, eqb-true, le-leb, leb-false, leb-true}
+use Rattle.std.proofs.Common.{◌≡◌, ℕ, zero, suc, ◌+◌, ◌-◌, ◌*◌, ◌/◌, ◌%◌, ◌^◌, ◌<◌, ◌≤◌, Bool, true, false, cond, ◌&&◌, eqb, leb, List, [], ◌∷◌, ◌++◌, length, get_or, take, drop}
+use Rattle.std.proofs.Common.{set, replicate, ℤ, pos, nat_abs, sym, refl, ap, ◌∙◌, subst, append_assoc, append-nil, zero-le, le_refl, add-zero, add_assoc, mul-le-mul_right}
+use Rattle.std.proofs.Common.{mod-eq_of_lt, mul_assoc, add-mul, div-add-mod', mul_right_comm, add-one, arith, length-append, length-drop, length-set, take-append-drop}
+use Rattle.std.proofs.Common.{length-take-le, take_all, get_or-set_other, take-suc, get_or-set_same, ext_get_or, pow-add, eq-eqb, eqb-true, le-leb, leb-false, leb-true}
 use native.Mathlib.Nat.{pow-succ', mul-add-mod_self_right, pow-le-pow_right}
 use borrow.Author.Tests.{eqb-false, lt-leb}
 use lib.IntN.{suc_ℤ, pred_ℤ}

@@ -1,5 +1,6 @@
 -- Document 01, "Numbers a job may hold": the table of refusals, and which of its rows a call is refused by.
-use Rattle.std.specs.Prelude.{ℕ, zero, suc, ◌+◌, ◌-◌, ◌*◌, ◌^◌, Bool, true, false, not, cond, ◌&&◌, ◌||◌, List, [], ◌∷◌, ◌++◌, leb, ltb, eqb, ℤ, pos, negsuc, nat_abs, length, get_or, take, drop, Float}
+use Rattle.std.specs.Prelude.{ℕ, zero, suc, ◌+◌, ◌-◌, ◌*◌, ◌^◌, Bool, true, false, not, cond, ◌&&◌, ◌||◌, List, [], ◌∷◌, ◌++◌, leb, ltb, eqb, ℤ, pos, negsuc, nat_abs, length}
+use Rattle.std.specs.Prelude.{get_or, take, drop, Float}
 use Rattle.std.specs.Float.Ieee.{le}
 use Rattle.metrics.specs.Similarity.{whole, magnitude_sum}
 use Rattle.params.specs.declared.Settings.{Settings}

@@ -53,7 +53,8 @@ module _ (follows : List ℕ → ℕ → Bool) where
     pub chains_from_step : (c : List ℕ) → chains_from follows n c ≡ 1 + sum_by (λ e. chains_from follows n e) (extensions follows n c)
     unfolding chains_from chains_within
     chains_from_step c =
-        let a : chains_within follows n (n - first_after c) c ≡ chains_within follows n (suc (n - first_after c)) c = enough (n - first_after c) (suc (n - first_after c)) c (omega arith) (omega arith) in
+        let a : chains_within follows n (n - first_after c) c ≡ chains_within follows n (suc (n - first_after c)) c = enough (n - first_after c) (suc (n - first_after c)) c
+        (omega arith) (omega arith) in
         let b = sum_extensions (λ e. chains_within follows n (n - first_after c) e) (λ e. chains_from follows n e) c n
         (λ s l e. enough (n - first_after c) (n - suc s) (s ∷ c) (omega (arith, extends_first_after c s e)) (omega arith)) in
         omega (arith, a, b)

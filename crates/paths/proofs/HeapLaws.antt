@@ -180,7 +180,8 @@ module _ {h : List ℕ} {n i k : ℕ} {l : List ℕ} (o : Open h n i k l) where
     same = same_moved c (omega (arith, q.below, q.after));
   }
 
-  fits_lifted : 0 < i → k < get_or h (above_of i) 0 → FitsBelow h n i k → (j : ℕ) → 0 < j → j < n → above_of j ≡ above_of i → (t : Bool) → eqb j i ≡ t → k ≤ get_or (set h i (get_or h (above_of i) 0)) j 0
+  fits_lifted : 0 < i → k < get_or h (above_of i) 0 → FitsBelow h n i k → (j : ℕ) → 0 < j → j < n → above_of j ≡ above_of i → (t : Bool) → eqb j i ≡ t → k ≤ get_or
+      (set h i (get_or h (above_of i) 0)) j 0
   fits_lifted z q b j p r m true e =
       let y : j ≡ i = eqb-true j i e in
       rw y (omega (arith, get_or-set_same h i (get_or h (above_of i) 0) 0 (omega (arith, o.in_it, o.room))))

@@ -8,7 +8,8 @@ use Rattle.capi.proofs.nd_check_path.Goals.{After-check_path-checked}
 use Rattle.capi.proofs.nd_check_path.Goals as goal
 
 -- what the check said, of the settings that the words say
-told : (c : After-check_path-checked) → let a = c.args in c.check_path-checked.result ≡ check_of (settings_of_words a.settings.now) (table_of a.starts.now a.ends.now a.sizes.now a.features.now) (parts_of a.part_sizes.now a.part_features.now) (proposal_of a.rows.now a.positions.now a.score)
+told : (c : After-check_path-checked) → let a = c.args in c.check_path-checked.result ≡ check_of (settings_of_words a.settings.now)
+    (table_of a.starts.now a.ends.now a.sizes.now a.features.now) (parts_of a.part_sizes.now a.part_features.now) (proposal_of a.rows.now a.positions.now a.score)
 told c = c.check_path-checked.ensures ∙ check_alike _ _ _ _ c.settings_of_words-s.ensures
 
 pub returns-in-Yes : goal.returns-in-Yes

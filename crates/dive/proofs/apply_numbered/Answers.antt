@@ -15,16 +15,33 @@ good c = sym c.number_fault-own.ensures ∙ c.if-own-ne-ACCEPTED.false
 pub returns-then-own-ne-ACCEPTED : goal.returns-then-own-ne-ACCEPTED
 returns-then-own-ne-ACCEPTED c =
     let fault = rw c.queue_room-room.ensures at c.numbered_fault-fault.ensures in
-    let h = refused_numbered ((let a = c.args in numbered_lent a.s a.starts.now a.ends.now a.sizes.now a.features.now a.numbers.now a.part_sizes.now a.part_features.now a.links.now a.keys.now a.rows.now a.records.now)) c.args.rows.now c.args.records.now c.number_fault-own.ensures c.if-own-ne-ACCEPTED.true fault c.refused.ensures in
+    let h = refused_numbered ((let a = c.args in numbered_lent a.s a.starts.now a.ends.now a.sizes.now a.features.now a.numbers.now a.part_sizes.now a.part_features.now a.links.now
+    a.keys.now a.rows.now a.records.now)) c.args.rows.now c.args.records.now c.number_fault-own.ensures c.if-own-ne-ACCEPTED.true fault c.refused.ensures in
     (h.0, (h.1.0, (h.1.1, (λ _. refl, λ _. refl))))
 
 pub put_records-requires : goal.put_records-requires
 put_records-requires c =
-    rows_fit ((let a = c.args in numbered_lent a.s a.starts.now a.ends.now a.sizes.now a.features.now a.numbers.now a.part_sizes.now a.part_features.now a.links.now a.keys.now a.rows.now a.records.now)) (good (goal.at.put_records-requires c).Else-own-ne-ACCEPTED) c.args.rows.now c.apply_haplotype-answer.ensures.0 c.apply_haplotype-answer.ensures.1.0
+    rows_fit ((let a = c.args in numbered_lent a.s a.starts.now a.ends.now a.sizes.now a.features.now a.numbers.now a.part_sizes.now a.part_features.now a.links.now a.keys.now
+    a.rows.now a.records.now)) (good (goal.at.put_records-requires c).Else-own-ne-ACCEPTED) c.args.rows.now c.apply_haplotype-answer.ensures.0 c.apply_haplotype-answer.ensures.1.0
 
 pub returns : goal.returns
 returns c =
     let g = good (goal.at.returns c).Else-own-ne-ACCEPTED in
     let e = c.apply_haplotype-answer.ensures in
-    let h = accepted_numbered ((let a = c.args in numbered_lent a.s a.starts.now a.ends.now a.sizes.now a.features.now a.numbers.now a.part_sizes.now a.part_features.now a.links.now a.keys.now a.rows.now a.records.now)) g c.args.rows.now e.0 e.1.0 c.args.records.now c.put_records.ensures in
-    (h.0, (h.1.0, (h.1.1, (λ z. e.1.1.0 (as_searched ((let a = c.args in numbered_lent a.s a.starts.now a.ends.now a.sizes.now a.features.now a.numbers.now a.part_sizes.now a.part_features.now a.links.now a.keys.now a.rows.now a.records.now)) g ∙ z), λ z. e.1.1.1 (as_searched ((let a = c.args in numbered_lent a.s a.starts.now a.ends.now a.sizes.now a.features.now a.numbers.now a.part_sizes.now a.part_features.now a.links.now a.keys.now a.rows.now a.records.now)) g ∙ z)))))
+    let h = accepted_numbered ((let a = c.args in numbered_lent a.s a.starts.now a.ends.now a.sizes.now a.features.now a.numbers.now a.part_sizes.now a.part_features.now a.links.now
+    a.keys.now a.rows.now a.records.now)) g c.args.rows.now e.0 e.1.0 c.args.records.now c.put_records.ensures in (
+      h.0,
+      (
+        h.1.0,
+        (
+          h.1.1,
+          (
+            λ z. e.1.1.0 (as_searched ((let a = c.args in numbered_lent a.s a.starts.now a.ends.now a.sizes.now a.features.now a.numbers.now a.part_sizes.now
+                a.part_features.now a.links.now a.keys.now a.rows.now a.records.now)) g ∙ z),
+            λ z. e.1.1.1 (as_searched
+                ((let a = c.args in numbered_lent a.s a.starts.now a.ends.now a.sizes.now a.features.now a.numbers.now a.part_sizes.now a.part_features.now a.links.now a.keys.now a.rows.now
+                a.records.now)) g ∙ z),
+          ),
+        ),
+      ),
+    )

@@ -31,17 +31,21 @@ pub returns-then-job-eq1 : goal.returns-then-job-eq1
 returns-then-job-eq1 c = down_letters _ _ _ c.requires.0 c.requires.1 (asked (goal.at.returns-then-job-eq1 c).Else-off_row) (on_rows (goal.at.returns-then-job-eq1 c).Else-off_row) c.if-job-eq1.true
 
 pub returns-then-variants-gt-MOST_ROWS : goal.returns-then-variants-gt-MOST_ROWS
-returns-then-variants-gt-MOST_ROWS c = down_rows _ _ _ c.requires.0 c.requires.1 (asked (goal.at.returns-then-variants-gt-MOST_ROWS c).Else-off_row) (on_rows (goal.at.returns-then-variants-gt-MOST_ROWS c).Else-off_row) c.if-job-eq1.false _ c.requires.2 c.if-variants-gt-MOST_ROWS.true
+returns-then-variants-gt-MOST_ROWS c = down_rows _ _ _ c.requires.0 c.requires.1 (asked (goal.at.returns-then-variants-gt-MOST_ROWS c).Else-off_row)
+    (on_rows (goal.at.returns-then-variants-gt-MOST_ROWS c).Else-off_row) c.if-job-eq1.false _ c.requires.2 c.if-variants-gt-MOST_ROWS.true
 
 pub overflow_sub-job : goal.overflow_sub-job
 overflow_sub-job c =
-    let h = down_takes c.args.edition c.args.job.now 0 c.requires.0 c.requires.1 (asked (goal.at.overflow_sub-job c).Else-off_row) (on_rows (goal.at.overflow_sub-job c).Else-off_row) c.if-job-eq1.false c.args.variants c.requires.2 (bytes (goal.at.overflow_sub-job c).After-shared_slice_known-2-1) in
+    let h = down_takes c.args.edition c.args.job.now 0 c.requires.0 c.requires.1 (asked (goal.at.overflow_sub-job c).Else-off_row) (on_rows (goal.at.overflow_sub-job c).Else-off_row)
+    c.if-job-eq1.false c.args.variants c.requires.2 (bytes (goal.at.overflow_sub-job c).After-shared_slice_known-2-1) in
     omega arith
 
 pub returns-then-room-job : goal.returns-then-room-job
 returns-then-room-job c =
-    down_little _ _ _ c.requires.0 c.requires.1 (asked (goal.at.returns-then-room-job c).Else-off_row) (on_rows (goal.at.returns-then-room-job c).Else-off_row) c.if-job-eq1.false _ c.requires.2 (bytes (goal.at.returns-then-room-job c).After-shared_slice_known-2-1) c.if-room-job.true
+    down_little _ _ _ c.requires.0 c.requires.1 (asked (goal.at.returns-then-room-job c).Else-off_row) (on_rows (goal.at.returns-then-room-job c).Else-off_row) c.if-job-eq1.false _
+    c.requires.2 (bytes (goal.at.returns-then-room-job c).After-shared_slice_known-2-1) c.if-room-job.true
 
 pub returns : goal.returns
 returns c =
-    down_none _ _ _ c.requires.0 c.requires.1 (asked (goal.at.returns c).Else-off_row) (on_rows (goal.at.returns c).Else-off_row) c.if-job-eq1.false _ c.requires.2 (bytes (goal.at.returns c).After-shared_slice_known-2-1) c.if-variants-gt-MOST_ROWS.false c.if-room-job.false
+    down_none _ _ _ c.requires.0 c.requires.1 (asked (goal.at.returns c).Else-off_row) (on_rows (goal.at.returns c).Else-off_row) c.if-job-eq1.false _ c.requires.2
+    (bytes (goal.at.returns c).After-shared_slice_known-2-1) c.if-variants-gt-MOST_ROWS.false c.if-room-job.false

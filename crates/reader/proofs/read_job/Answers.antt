@@ -37,11 +37,13 @@ returns-then-not-parts_fit c =
 
 pub returns-then-breaks-c : goal.returns-then-breaks-c
 returns-then-breaks-c c =
-    crowded_breaks _ (good (goal.at.returns-then-breaks-c c).In-Good) _ (rows_room_lem (goal.at.returns-then-breaks-c c).Else-not-rows_fit) (parts_room_lem (goal.at.returns-then-breaks-c c).Else-not-parts_fit) c.if-breaks-c.true
+    crowded_breaks _ (good (goal.at.returns-then-breaks-c c).In-Good) _ (rows_room_lem (goal.at.returns-then-breaks-c c).Else-not-rows_fit)
+    (parts_room_lem (goal.at.returns-then-breaks-c c).Else-not-parts_fit) c.if-breaks-c.true
 
 pub returns-then-letters-c : goal.returns-then-letters-c
 returns-then-letters-c c =
-    crowded_letters _ (good (goal.at.returns-then-letters-c c).In-Good) _ (rows_room_lem (goal.at.returns-then-letters-c c).Else-not-rows_fit) (parts_room_lem (goal.at.returns-then-letters-c c).Else-not-parts_fit) c.if-breaks-c.false c.if-letters-c.true
+    crowded_letters _ (good (goal.at.returns-then-letters-c c).In-Good) _ (rows_room_lem (goal.at.returns-then-letters-c c).Else-not-rows_fit)
+    (parts_room_lem (goal.at.returns-then-letters-c c).Else-not-parts_fit) c.if-breaks-c.false c.if-letters-c.true
 
 pub slice_bounds-settings_by-count : goal.slice_bounds-settings_by-count
 slice_bounds-settings_by-count c = let h = settings (goal.at.slice_bounds-settings_by-count c).Else-letters-c in omega arith
@@ -54,5 +56,6 @@ returns-in-Refused c = read_refused _ _ (scan_is _ ∙ sym c.scan-found.ensures 
 
 pub returns-else-letters-c : goal.returns-else-letters-c
 returns-else-letters-c c =
-    read_job_lem _ (good (goal.at.returns-else-letters-c c).In-Good) _ (rows_room_lem (goal.at.returns-else-letters-c c).Else-not-rows_fit) (parts_room_lem (goal.at.returns-else-letters-c c).Else-not-parts_fit) c.if-breaks-c.false c.if-letters-c.false _ c.fill.ensures.variants c.fill.ensures.parts
+    read_job_lem _ (good (goal.at.returns-else-letters-c c).In-Good) _ (rows_room_lem (goal.at.returns-else-letters-c c).Else-not-rows_fit)
+    (parts_room_lem (goal.at.returns-else-letters-c c).Else-not-parts_fit) c.if-breaks-c.false c.if-letters-c.false _ c.fill.ensures.variants c.fill.ensures.parts
     c.fill.ensures.begins c.fill.ensures.sequence _ _ c.edition_of.ensures c.settings_by-head.ensures

@@ -12,7 +12,8 @@ least_fits : (c : After-left_after-first) → let a = c.args in settings_size a.
 least_fits c = omega (arith, c.if-room-least.false, c.settings_size.ensures)
 
 -- what is left behind the variants
-variants_left : (c : After-left_after-first) → let a = c.args in c.left_after-first.result ≡ left_of (total (variant_kind_by a.edition) a.counts.now) (a.room - (settings_size a.edition + 1 + a.breaks))
+variants_left : (c : After-left_after-first) → let a = c.args in c.left_after-first.result ≡ left_of (total (variant_kind_by a.edition) a.counts.now)
+    (a.room - (settings_size a.edition + 1 + a.breaks))
 variants_left c =
     let a = c.args in
     c.left_after-first.ensures ∙ (λ i. left_of (total (c.variant_kind.ensures i) a.counts.now) (a.room - (c.settings_size.ensures i + 1 + a.breaks)))
@@ -34,4 +35,5 @@ returns-in-Short c = spare_short _ _ _ _ (least_fits (goal.at.returns-in-Short c
 
 pub returns-in-Enough : goal.returns-in-Enough
 returns-in-Enough c =
-    spare_enough _ _ _ _ (least_fits (goal.at.returns-in-Enough c).After-left_after-first) _ _ (sym c.in-Enough.is ∙ variants_left (goal.at.returns-in-Enough c).After-left_after-first) c.left_after.ensures
+    spare_enough _ _ _ _ (least_fits (goal.at.returns-in-Enough c).After-left_after-first) _ _ (sym c.in-Enough.is ∙ variants_left (goal.at.returns-in-Enough c).After-left_after-first)
+    c.left_after.ensures

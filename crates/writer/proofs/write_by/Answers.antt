@@ -8,11 +8,13 @@ use Rattle.writer.proofs.JobLaws.{sound, write_fault_lem, write_short, write_fit
 use Rattle.writer.proofs.write_by.Goals.{Else-fault-ne0, In-Enough}
 use Rattle.writer.proofs.write_by.Goals as goal
 
-none : (c : Else-fault-ne0) → 0 ≡ writing_fault c.args.edition c.args.numbers.now c.args.settings (lent c.args.starts.now c.args.ends.now c.args.sizes.now c.args.negatives.now c.args.letter_counts.now c.args.part_sizes.now c.args.part_negatives.now c.args.part_letter_counts.now c.args.breaks.now c.args.letters.now)
+none : (c : Else-fault-ne0) → 0 ≡ writing_fault c.args.edition c.args.numbers.now c.args.settings (lent c.args.starts.now c.args.ends.now c.args.sizes.now c.args.negatives.now
+    c.args.letter_counts.now c.args.part_sizes.now c.args.part_negatives.now c.args.part_letter_counts.now c.args.breaks.now c.args.letters.now)
 none c = sym c.if-fault-ne0.false ∙ c.writing_fault-fault.ensures
 
 -- the job fits
-fits : (c : In-Enough) → JobFits c.args.edition c.args.numbers.now c.args.settings (lent c.args.starts.now c.args.ends.now c.args.sizes.now c.args.negatives.now c.args.letter_counts.now c.args.part_sizes.now c.args.part_negatives.now c.args.part_letter_counts.now c.args.breaks.now c.args.letters.now) (length c.args.out.now)
+fits : (c : In-Enough) → JobFits c.args.edition c.args.numbers.now c.args.settings (lent c.args.starts.now c.args.ends.now c.args.sizes.now c.args.negatives.now c.args.letter_counts.now
+    c.args.part_sizes.now c.args.part_negatives.now c.args.part_letter_counts.now c.args.breaks.now c.args.letters.now) (length c.args.out.now)
 fits c =
     write_fits _ _ _ _ c.args.out.now (sym c.if-fault-ne0.false ∙ c.writing_fault-fault.ensures) (sym c.in-Enough.is ∙ c.spare-room.ensures)
 

@@ -47,8 +47,15 @@ pub overflow_add-a : goal.overflow_add-a
 overflow_add-a c = omega (arith, (turn (goal.at.overflow_add-a c).In-loop-r).room_there)
 
 pub write_sequence-a-requires : goal.write_sequence-a-requires
-write_sequence-a-requires c =
-    ((turn (goal.at.write_sequence-a-requires c).In-loop-r).letters_there, omega (arith, (turn (goal.at.write_sequence-a-requires c).In-loop-r).room_again, c.write_part.auto.out ∙ c.loop-r.invariant.4))
+write_sequence-a-requires c = (
+  (turn (goal.at.write_sequence-a-requires c).In-loop-r).letters_there,
+  omega (
+    arith,
+    (turn (goal.at.write_sequence-a-requires c).In-loop-r).room_again,
+    c.write_part.auto.out ∙
+        c.loop-r.invariant.4,
+  ),
+)
 
 pub overflow_add-r : goal.overflow_add-r
 overflow_add-r c = omega arith

@@ -9,8 +9,10 @@ use Rattle.writer.proofs.write_variants.Given as goal
 
 abbrev pub invariant-loop-r : goal.invariant-loop-r
 invariant-loop-r l =
-    (sets l.out l.a (variants_at l.edition l.numbers l.starts l.ends l.sizes l.negatives l.counts l.letters l.r l.p) ≡ sets l.initial.out l.at (variants_at l.edition l.numbers l.starts l.ends l.sizes l.negatives l.counts l.letters 0 0))
-    × (l.a + length (variants_at l.edition l.numbers l.starts l.ends l.sizes l.negatives l.counts l.letters l.r l.p) ≡ l.at + length (variants_at l.edition l.numbers l.starts l.ends l.sizes l.negatives l.counts l.letters 0 0))
+    (sets l.out l.a (variants_at l.edition l.numbers l.starts l.ends l.sizes l.negatives l.counts l.letters l.r l.p) ≡ sets l.initial.out l.at
+    (variants_at l.edition l.numbers l.starts l.ends l.sizes l.negatives l.counts l.letters 0 0))
+    × (l.a + length (variants_at l.edition l.numbers l.starts l.ends l.sizes l.negatives l.counts l.letters l.r l.p) ≡ l.at + length
+    (variants_at l.edition l.numbers l.starts l.ends l.sizes l.negatives l.counts l.letters 0 0))
     × (l.p + sum (drop l.r l.counts) ≡ sum l.counts) × (l.r ≤ length l.starts) × (length l.out ≡ length l.initial.out)
 
 abbrev pub decreases-loop-r : goal.decreases-loop-r

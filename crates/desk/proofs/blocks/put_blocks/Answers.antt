@@ -9,14 +9,26 @@ use Rattle.desk.proofs.blocks.put_blocks.Goals.{After-stretch_end-to}
 use Rattle.desk.proofs.blocks.put_blocks.Goals as goal
 
 pub loop-i-init : goal.loop-i-init
-loop-i-init c = blocks_start c.args.s ((table_of c.args.starts.now c.args.ends.now c.args.sizes.now c.args.features.now)) _ ((parts_of c.args.part_sizes.now c.args.part_features.now)) c.args.width c.args.breaks.now _ c.requires
+loop-i-init c = blocks_start c.args.s ((table_of c.args.starts.now c.args.ends.now c.args.sizes.now c.args.features.now)) _ ((parts_of c.args.part_sizes.now c.args.part_features.now))
+    c.args.width c.args.breaks.now _ c.requires
 
 -- the haplotype's stretch lies within the parts, and its rows within theirs
-stretched : (c : After-stretch_end-to) → let l = c.loop-i in let to = c.stretch_end-to.result in ((l.from ≤ to) × (to ≤ length c.args.part_sizes.now)) × ((l.from * c.args.width ≤ to * c.args.width) × (to * c.args.width ≤ length c.args.part_features.now))
+stretched : (c : After-stretch_end-to) → let l = c.loop-i in let to = c.stretch_end-to.result in ((l.from ≤ to) × (to ≤ length c.args.part_sizes.now)) ×
+    ((l.from * c.args.width ≤ to * c.args.width) × (to * c.args.width ≤ length c.args.part_features.now))
 stretched c =
     let l = c.loop-i in let m = c.loop-i-test.true in let is = c.stretch_end-to.ensures in (
-      (rises _ ((table_of c.args.starts.now c.args.ends.now c.args.sizes.now c.args.features.now)) _ ((parts_of c.args.part_sizes.now c.args.part_features.now)) _ _ _ c.requires _ _ _ _ l.invariant m _ is, parts_end _ ((table_of c.args.starts.now c.args.ends.now c.args.sizes.now c.args.features.now)) _ ((parts_of c.args.part_sizes.now c.args.part_features.now)) _ _ _ c.requires _ _ _ _ l.invariant m _ is),
-      (rows_rise _ ((table_of c.args.starts.now c.args.ends.now c.args.sizes.now c.args.features.now)) _ ((parts_of c.args.part_sizes.now c.args.part_features.now)) _ _ _ c.requires _ _ _ _ l.invariant m _ is, rows_end _ ((table_of c.args.starts.now c.args.ends.now c.args.sizes.now c.args.features.now)) _ ((parts_of c.args.part_sizes.now c.args.part_features.now)) _ _ _ c.requires _ _ _ _ l.invariant m _ is),
+      (
+        rises _ ((table_of c.args.starts.now c.args.ends.now c.args.sizes.now c.args.features.now)) _ ((parts_of c.args.part_sizes.now c.args.part_features.now)) _ _ _ c.requires _ _ _ _
+            l.invariant m _ is,
+        parts_end _ ((table_of c.args.starts.now c.args.ends.now c.args.sizes.now c.args.features.now)) _
+            ((parts_of c.args.part_sizes.now c.args.part_features.now)) _ _ _ c.requires _ _ _ _ l.invariant m _ is,
+      ),
+      (
+        rows_rise _ ((table_of c.args.starts.now c.args.ends.now c.args.sizes.now c.args.features.now)) _ ((parts_of c.args.part_sizes.now c.args.part_features.now)) _ _ _ c.requires _ _
+            _ _ l.invariant m _ is,
+        rows_end _ ((table_of c.args.starts.now c.args.ends.now c.args.sizes.now c.args.features.now)) _
+            ((parts_of c.args.part_sizes.now c.args.part_features.now)) _ _ _ c.requires _ _ _ _ l.invariant m _ is,
+      ),
     )
 
 pub stretch_end-to-requires : goal.stretch_end-to-requires
@@ -63,10 +75,12 @@ loop-i-smaller c = let m = c.loop-i-test.true in omega arith
 
 pub loop-i-preserved : goal.loop-i-preserved
 loop-i-preserved c =
-    blocks_next _ ((table_of c.args.starts.now c.args.ends.now c.args.sizes.now c.args.features.now)) _ ((parts_of c.args.part_sizes.now c.args.part_features.now)) _ _ _ c.requires _ _ _ _ c.loop-i.invariant c.loop-i-test.true _ c.stretch_end-to.ensures _ _ c.put_block-end.ensures
+    blocks_next _ ((table_of c.args.starts.now c.args.ends.now c.args.sizes.now c.args.features.now)) _ ((parts_of c.args.part_sizes.now c.args.part_features.now)) _ _ _ c.requires _ _
+    _ _ c.loop-i.invariant c.loop-i-test.true _ c.stretch_end-to.ensures _ _ c.put_block-end.ensures
 
 pub shape_of-out : goal.shape_of-out
 shape_of-out c = written_kept c.loop-i.invariant.printed.written
 
 pub returns : goal.returns
-returns c = blocks_done _ ((table_of c.args.starts.now c.args.ends.now c.args.sizes.now c.args.features.now)) _ ((parts_of c.args.part_sizes.now c.args.part_features.now)) _ _ _ c.requires _ _ _ _ c.loop-i.invariant c.loop-i-test.false
+returns c = blocks_done _ ((table_of c.args.starts.now c.args.ends.now c.args.sizes.now c.args.features.now)) _ ((parts_of c.args.part_sizes.now c.args.part_features.now)) _ _ _
+    c.requires _ _ _ _ c.loop-i.invariant c.loop-i-test.false

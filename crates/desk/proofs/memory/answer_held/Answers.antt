@@ -15,10 +15,12 @@ small c = within_limits _ _ _ c.limit_fault-fault.ensures c.if-fault-ne0.false
 
 -- the rows end within the tables
 variants_room : (c : After-entries-width) → length c.args.counts.now * c.entries-width.result ≤ 4096
-variants_room c = let k = small c in variants_end _ _ _ ((lent c.args.starts.now c.args.ends.now c.args.sizes.now c.args.negatives.now c.args.counts.now c.args.part_sizes.now c.args.part_negatives.now c.args.part_counts.now c.args.breaks.now c.args.letters.now)) c.requires k.0 k.1 c.entries-width.ensures
+variants_room c = let k = small c in variants_end _ _ _ ((lent c.args.starts.now c.args.ends.now c.args.sizes.now c.args.negatives.now c.args.counts.now c.args.part_sizes.now
+    c.args.part_negatives.now c.args.part_counts.now c.args.breaks.now c.args.letters.now)) c.requires k.0 k.1 c.entries-width.ensures
 
 parts_room : (c : After-entries-width) → length c.args.part_counts.now * c.entries-width.result ≤ 32768
-parts_room c = let k = small c in parts_end _ _ _ ((lent c.args.starts.now c.args.ends.now c.args.sizes.now c.args.negatives.now c.args.counts.now c.args.part_sizes.now c.args.part_negatives.now c.args.part_counts.now c.args.breaks.now c.args.letters.now)) c.requires k.0 k.1 c.entries-width.ensures
+parts_room c = let k = small c in parts_end _ _ _ ((lent c.args.starts.now c.args.ends.now c.args.sizes.now c.args.negatives.now c.args.counts.now c.args.part_sizes.now
+    c.args.part_negatives.now c.args.part_counts.now c.args.breaks.now c.args.letters.now)) c.requires k.0 k.1 c.entries-width.ensures
 
 pub over_parts-long-requires : goal.over_parts-long-requires
 over_parts-long-requires c = c.requires.rising
@@ -26,15 +28,20 @@ over_parts-long-requires c = c.requires.rising
 pub returns-then-fault-ne0 : goal.returns-then-fault-ne0
 returns-then-fault-ne0 c =
     printed_as (printed_refused _ (omega arith) c.put_refused.ensures)
-    (limit_text c.args.s _ ((lent c.args.starts.now c.args.ends.now c.args.sizes.now c.args.negatives.now c.args.counts.now c.args.part_sizes.now c.args.part_negatives.now c.args.part_counts.now c.args.breaks.now c.args.letters.now)) _ c.over_parts-long.ensures _ c.limit_fault-fault.ensures c.if-fault-ne0.true)
+    (limit_text c.args.s _ ((lent c.args.starts.now c.args.ends.now c.args.sizes.now c.args.negatives.now c.args.counts.now c.args.part_sizes.now c.args.part_negatives.now
+    c.args.part_counts.now c.args.breaks.now c.args.letters.now)) _ c.over_parts-long.ensures _ c.limit_fault-fault.ensures c.if-fault-ne0.true)
 
 pub count_rows-next-requires : goal.count_rows-next-requires
 count_rows-next-requires c =
-    variants_fit _ _ _ ((lent c.args.starts.now c.args.ends.now c.args.sizes.now c.args.negatives.now c.args.counts.now c.args.part_sizes.now c.args.part_negatives.now c.args.part_counts.now c.args.breaks.now c.args.letters.now)) c.requires (small (goal.at.count_rows-next-requires c).After-entries-width).0 (small (goal.at.count_rows-next-requires c).After-entries-width).1 c.entries-width.ensures _ c.variant_table-features.ensures
+    variants_fit _ _ _ ((lent c.args.starts.now c.args.ends.now c.args.sizes.now c.args.negatives.now c.args.counts.now c.args.part_sizes.now c.args.part_negatives.now
+    c.args.part_counts.now c.args.breaks.now c.args.letters.now)) c.requires (small (goal.at.count_rows-next-requires c).After-entries-width).0
+    (small (goal.at.count_rows-next-requires c).After-entries-width).1 c.entries-width.ensures _ c.variant_table-features.ensures
 
 pub count_rows-requires : goal.count_rows-requires
 count_rows-requires c =
-    parts_fit_lem _ _ _ ((lent c.args.starts.now c.args.ends.now c.args.sizes.now c.args.negatives.now c.args.counts.now c.args.part_sizes.now c.args.part_negatives.now c.args.part_counts.now c.args.breaks.now c.args.letters.now)) c.requires (small (goal.at.count_rows-requires c).After-entries-width).0 (small (goal.at.count_rows-requires c).After-entries-width).1 c.entries-width.ensures _ c.part_table-part_features.ensures _ c.count_rows-next.ensures.next
+    parts_fit_lem _ _ _ ((lent c.args.starts.now c.args.ends.now c.args.sizes.now c.args.negatives.now c.args.counts.now c.args.part_sizes.now c.args.part_negatives.now
+    c.args.part_counts.now c.args.breaks.now c.args.letters.now)) c.requires (small (goal.at.count_rows-requires c).After-entries-width).0
+    (small (goal.at.count_rows-requires c).After-entries-width).1 c.entries-width.ensures _ c.part_table-part_features.ensures _ c.count_rows-next.ensures.next
 
 pub overflow_mul-v : goal.overflow_mul-v
 overflow_mul-v c = let h = variants_room (goal.at.overflow_mul-v c).After-entries-width in omega arith
@@ -72,11 +79,17 @@ slice_bounds-put_haplotypes-end-2 c =
 
 pub put_haplotypes-requires : goal.put_haplotypes-requires
 put_haplotypes-requires c =
-    blocks_fit _ _ _ ((lent c.args.starts.now c.args.ends.now c.args.sizes.now c.args.negatives.now c.args.counts.now c.args.part_sizes.now c.args.part_negatives.now c.args.part_counts.now c.args.breaks.now c.args.letters.now)) c.requires (small (goal.at.put_haplotypes-requires c).After-entries-width).0 (small (goal.at.put_haplotypes-requires c).After-entries-width).1 c.entries-width.ensures _ (c.count_rows.ensures.kept ∙ sym c.part_table-part_features.ensures)
+    blocks_fit _ _ _ ((lent c.args.starts.now c.args.ends.now c.args.sizes.now c.args.negatives.now c.args.counts.now c.args.part_sizes.now c.args.part_negatives.now
+    c.args.part_counts.now c.args.breaks.now c.args.letters.now)) c.requires (small (goal.at.put_haplotypes-requires c).After-entries-width).0
+    (small (goal.at.put_haplotypes-requires c).After-entries-width).1 c.entries-width.ensures _ (c.count_rows.ensures.kept ∙ sym c.part_table-part_features.ensures)
 
 pub returns : goal.returns
 returns c =
-    let wide_is = power_is _ _ _ ((lent c.args.starts.now c.args.ends.now c.args.sizes.now c.args.negatives.now c.args.counts.now c.args.part_sizes.now c.args.part_negatives.now c.args.part_counts.now c.args.breaks.now c.args.letters.now)) c.requires (small (goal.at.returns c).After-entries-width).0 (small (goal.at.returns c).After-entries-width).1 c.entries-width.ensures in
+    let wide_is = power_is _ _ _ ((lent c.args.starts.now c.args.ends.now c.args.sizes.now c.args.negatives.now c.args.counts.now c.args.part_sizes.now c.args.part_negatives.now
+    c.args.part_counts.now c.args.breaks.now c.args.letters.now)) c.requires (small (goal.at.returns c).After-entries-width).0 (small (goal.at.returns c).After-entries-width).1
+    c.entries-width.ensures in
     printed_as c.put_haplotypes.ensures
-    (counted_text c.args.s _ ((lent c.args.starts.now c.args.ends.now c.args.sizes.now c.args.negatives.now c.args.counts.now c.args.part_sizes.now c.args.part_negatives.now c.args.part_counts.now c.args.breaks.now c.args.letters.now)) _ c.over_parts-long.ensures _ c.limit_fault-fault.ensures c.entries-width.result c.count_rows-next.result c.count_rows.result _ _ _ _
+    (counted_text c.args.s _ ((lent c.args.starts.now c.args.ends.now c.args.sizes.now c.args.negatives.now c.args.counts.now c.args.part_sizes.now c.args.part_negatives.now
+    c.args.part_counts.now c.args.breaks.now c.args.letters.now)) _ c.over_parts-long.ensures _ c.limit_fault-fault.ensures c.entries-width.result c.count_rows-next.result
+    c.count_rows.result _ _ _ _
     wide_is c.if-fault-ne0.false c.count_rows-next.ensures c.count_rows.ensures)

@@ -42,12 +42,14 @@ returns-then-n-gt16 c = passed _ _ _ _ (few (goal.at.returns-then-n-gt16 c).Else
 pub returns-then-numbers-v : goal.returns-then-numbers-v
 unfolding number_fault
 returns-then-numbers-v c =
-    passed _ _ _ _ (few (goal.at.returns-then-numbers-v c).Else-v-gt64) (passed _ _ _ _ (few_haplotypes (goal.at.returns-then-numbers-v c).Else-n-gt16) (given _ _ _ (other_than_v (goal.at.returns-then-numbers-v c).Then-numbers-v)))
+    passed _ _ _ _ (few (goal.at.returns-then-numbers-v c).Else-v-gt64) (passed _ _ _ _ (few_haplotypes (goal.at.returns-then-numbers-v c).Else-n-gt16)
+    (given _ _ _ (other_than_v (goal.at.returns-then-numbers-v c).Then-numbers-v)))
 
 pub returns-then-repeated_number : goal.returns-then-repeated_number
 unfolding number_fault
 returns-then-repeated_number c =
-    passed _ _ _ _ (few (goal.at.returns-then-repeated_number c).Else-v-gt64) (passed _ _ _ _ (few_haplotypes (goal.at.returns-then-repeated_number c).Else-n-gt16) (passed _ _ _ _ (exactly_v (goal.at.returns-then-repeated_number c).Else-numbers-v) (given _ _ _ (repeated (goal.at.returns-then-repeated_number c).Then-repeated_number))))
+    passed _ _ _ _ (few (goal.at.returns-then-repeated_number c).Else-v-gt64) (passed _ _ _ _ (few_haplotypes (goal.at.returns-then-repeated_number c).Else-n-gt16)
+    (passed _ _ _ _ (exactly_v (goal.at.returns-then-repeated_number c).Else-numbers-v) (given _ _ _ (repeated (goal.at.returns-then-repeated_number c).Then-repeated_number))))
 
 pub overflow_mul-v : goal.overflow_mul-v
 overflow_mul-v c = let a = c.args in omega (arith, few_in_all a.v a.n 64 16 (omega arith) (omega arith))
@@ -55,11 +57,13 @@ overflow_mul-v c = let a = c.args in omega (arith, few_in_all a.v a.n 64 16 (ome
 pub returns-then-record_room-v : goal.returns-then-record_room-v
 unfolding number_fault
 returns-then-record_room-v c =
-    passed _ _ _ _ (few (goal.at.returns-then-record_room-v c).Else-v-gt64) (passed _ _ _ _ (few_haplotypes (goal.at.returns-then-record_room-v c).Else-n-gt16) (passed _ _ _ _ (exactly_v (goal.at.returns-then-record_room-v c).Else-numbers-v) (passed _ _ _ _ (apart (goal.at.returns-then-record_room-v c).Else-repeated_number)
+    passed _ _ _ _ (few (goal.at.returns-then-record_room-v c).Else-v-gt64) (passed _ _ _ _ (few_haplotypes (goal.at.returns-then-record_room-v c).Else-n-gt16)
+    (passed _ _ _ _ (exactly_v (goal.at.returns-then-record_room-v c).Else-numbers-v) (passed _ _ _ _ (apart (goal.at.returns-then-record_room-v c).Else-repeated_number)
     (given _ _ _ (lt-ltb _ _ c.if-record_room-v.true)))))
 
 pub returns : goal.returns
 unfolding number_fault
 returns c =
-    passed _ _ _ _ (few (goal.at.returns c).Else-v-gt64) (passed _ _ _ _ (few_haplotypes (goal.at.returns c).Else-n-gt16) (passed _ _ _ _ (exactly_v (goal.at.returns c).Else-numbers-v) (passed _ _ _ _ (apart (goal.at.returns c).Else-repeated_number)
+    passed _ _ _ _ (few (goal.at.returns c).Else-v-gt64) (passed _ _ _ _ (few_haplotypes (goal.at.returns c).Else-n-gt16)
+    (passed _ _ _ _ (exactly_v (goal.at.returns c).Else-numbers-v) (passed _ _ _ _ (apart (goal.at.returns c).Else-repeated_number)
     (passed _ _ _ _ (le-ltb _ _ c.if-record_room-v.false) refl))))

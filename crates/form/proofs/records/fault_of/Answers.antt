@@ -38,31 +38,43 @@ returns-then-not-in_place c =
 
 pub returns-then-too_many : goal.returns-then-too_many
 returns-then-too_many c =
-    fault_27 _ _ _ (known_kind (goal.at.returns-then-too_many c).Else-is_unknown) _ c.body_len.ensures c.if-b-body_len.false (placed (goal.at.returns-then-too_many c).Else-not-in_place) (sym c.too_many.ensures ∙ c.if-too_many.true)
+    fault_27 _ _ _ (known_kind (goal.at.returns-then-too_many c).Else-is_unknown) _ c.body_len.ensures c.if-b-body_len.false (placed (goal.at.returns-then-too_many c).Else-not-in_place)
+    (sym c.too_many.ensures ∙ c.if-too_many.true)
 
 pub returns-then-not-flags_ok : goal.returns-then-not-flags_ok
 returns-then-not-flags_ok c =
-    fault_24 _ _ _ (known_kind (goal.at.returns-then-not-flags_ok c).Else-is_unknown) _ c.body_len.ensures c.if-b-body_len.false (placed (goal.at.returns-then-not-flags_ok c).Else-not-in_place) (within (goal.at.returns-then-not-flags_ok c).Else-too_many) (sym c.flags_ok.ensures ∙ c.if-not-flags_ok.true)
+    fault_24 _ _ _ (known_kind (goal.at.returns-then-not-flags_ok c).Else-is_unknown) _ c.body_len.ensures c.if-b-body_len.false
+    (placed (goal.at.returns-then-not-flags_ok c).Else-not-in_place) (within (goal.at.returns-then-not-flags_ok c).Else-too_many) (sym c.flags_ok.ensures ∙ c.if-not-flags_ok.true)
 
 pub returns-then-count_of-gt-MOST_LETTERS : goal.returns-then-count_of-gt-MOST_LETTERS
 returns-then-count_of-gt-MOST_LETTERS c =
-    fault_13 _ _ _ (known_kind (goal.at.returns-then-count_of-gt-MOST_LETTERS c).Else-is_unknown) _ c.body_len.ensures c.if-b-body_len.false (placed (goal.at.returns-then-count_of-gt-MOST_LETTERS c).Else-not-in_place) (within (goal.at.returns-then-count_of-gt-MOST_LETTERS c).Else-too_many) (flagged (goal.at.returns-then-count_of-gt-MOST_LETTERS c).Else-not-flags_ok) (rw c.count_of.ensures at c.if-count_of-gt-MOST_LETTERS.true)
+    fault_13 _ _ _ (known_kind (goal.at.returns-then-count_of-gt-MOST_LETTERS c).Else-is_unknown) _ c.body_len.ensures c.if-b-body_len.false
+    (placed (goal.at.returns-then-count_of-gt-MOST_LETTERS c).Else-not-in_place) (within (goal.at.returns-then-count_of-gt-MOST_LETTERS c).Else-too_many)
+    (flagged (goal.at.returns-then-count_of-gt-MOST_LETTERS c).Else-not-flags_ok) (rw c.count_of.ensures at c.if-count_of-gt-MOST_LETTERS.true)
 
 pub returns-then-not-pad_ok : goal.returns-then-not-pad_ok
 returns-then-not-pad_ok c =
-    fault_23 _ _ _ (known_kind (goal.at.returns-then-not-pad_ok c).Else-is_unknown) _ c.body_len.ensures c.if-b-body_len.false (placed (goal.at.returns-then-not-pad_ok c).Else-not-in_place) (within (goal.at.returns-then-not-pad_ok c).Else-too_many) (flagged (goal.at.returns-then-not-pad_ok c).Else-not-flags_ok) (few (goal.at.returns-then-not-pad_ok c).Else-count_of-gt-MOST_LETTERS)
+    fault_23 _ _ _ (known_kind (goal.at.returns-then-not-pad_ok c).Else-is_unknown) _ c.body_len.ensures c.if-b-body_len.false
+    (placed (goal.at.returns-then-not-pad_ok c).Else-not-in_place) (within (goal.at.returns-then-not-pad_ok c).Else-too_many)
+    (flagged (goal.at.returns-then-not-pad_ok c).Else-not-flags_ok) (few (goal.at.returns-then-not-pad_ok c).Else-count_of-gt-MOST_LETTERS)
     (sym c.pad_ok.ensures ∙ c.if-not-pad_ok.true)
 
 pub returns-then-b-gt0 : goal.returns-then-b-gt0
 returns-then-b-gt0 c =
-    fault_25 _ _ _ (known_kind (goal.at.returns-then-b-gt0 c).Else-is_unknown) _ c.body_len.ensures c.if-b-body_len.false (placed (goal.at.returns-then-b-gt0 c).Else-not-in_place) (within (goal.at.returns-then-b-gt0 c).Else-too_many) (flagged (goal.at.returns-then-b-gt0 c).Else-not-flags_ok) (few (goal.at.returns-then-b-gt0 c).Else-count_of-gt-MOST_LETTERS) (padded (goal.at.returns-then-b-gt0 c).Else-not-pad_ok)
+    fault_25 _ _ _ (known_kind (goal.at.returns-then-b-gt0 c).Else-is_unknown) _ c.body_len.ensures c.if-b-body_len.false (placed (goal.at.returns-then-b-gt0 c).Else-not-in_place)
+    (within (goal.at.returns-then-b-gt0 c).Else-too_many) (flagged (goal.at.returns-then-b-gt0 c).Else-not-flags_ok)
+    (few (goal.at.returns-then-b-gt0 c).Else-count_of-gt-MOST_LETTERS) (padded (goal.at.returns-then-b-gt0 c).Else-not-pad_ok)
     (sym c.is_end.ensures ∙ c.if-is_end.true) c.if-b-gt0.true
 
 pub returns-else-b-gt0 : goal.returns-else-b-gt0
 returns-else-b-gt0 c =
-    fault_none_end _ _ _ (known_kind (goal.at.returns-else-b-gt0 c).Else-is_unknown) _ c.body_len.ensures c.if-b-body_len.false (placed (goal.at.returns-else-b-gt0 c).Else-not-in_place) (within (goal.at.returns-else-b-gt0 c).Else-too_many) (flagged (goal.at.returns-else-b-gt0 c).Else-not-flags_ok) (few (goal.at.returns-else-b-gt0 c).Else-count_of-gt-MOST_LETTERS) (padded (goal.at.returns-else-b-gt0 c).Else-not-pad_ok)
+    fault_none_end _ _ _ (known_kind (goal.at.returns-else-b-gt0 c).Else-is_unknown) _ c.body_len.ensures c.if-b-body_len.false (placed (goal.at.returns-else-b-gt0 c).Else-not-in_place)
+    (within (goal.at.returns-else-b-gt0 c).Else-too_many) (flagged (goal.at.returns-else-b-gt0 c).Else-not-flags_ok)
+    (few (goal.at.returns-else-b-gt0 c).Else-count_of-gt-MOST_LETTERS) (padded (goal.at.returns-else-b-gt0 c).Else-not-pad_ok)
     (sym c.is_end.ensures ∙ c.if-is_end.true) c.if-b-gt0.false
 
 pub returns-else-is_end : goal.returns-else-is_end
 returns-else-is_end c =
-    fault_none _ _ _ (known_kind (goal.at.returns-else-is_end c).Else-is_unknown) _ c.body_len.ensures c.if-b-body_len.false (placed (goal.at.returns-else-is_end c).Else-not-in_place) (within (goal.at.returns-else-is_end c).Else-too_many) (flagged (goal.at.returns-else-is_end c).Else-not-flags_ok) (few (goal.at.returns-else-is_end c).Else-count_of-gt-MOST_LETTERS) (padded (goal.at.returns-else-is_end c).Else-not-pad_ok) (sym c.is_end.ensures ∙ c.if-is_end.false)
+    fault_none _ _ _ (known_kind (goal.at.returns-else-is_end c).Else-is_unknown) _ c.body_len.ensures c.if-b-body_len.false (placed (goal.at.returns-else-is_end c).Else-not-in_place)
+    (within (goal.at.returns-else-is_end c).Else-too_many) (flagged (goal.at.returns-else-is_end c).Else-not-flags_ok)
+    (few (goal.at.returns-else-is_end c).Else-count_of-gt-MOST_LETTERS) (padded (goal.at.returns-else-is_end c).Else-not-pad_ok) (sym c.is_end.ensures ∙ c.if-is_end.false)

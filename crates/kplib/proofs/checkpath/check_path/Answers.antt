@@ -20,27 +20,32 @@ returns-then-fault-ne-ACCEPTED c = refused_check _ _ _ c.proposal_fault-fault.en
 
 pub is_chain-requires : goal.is_chain-requires
 is_chain-requires c =
-    graph_ready c.args.s (table (goal.at.is_chain-requires c).Start) (parts (goal.at.is_chain-requires c).Start) (proposal (goal.at.is_chain-requires c).Start) c.proposal_fault-fault.ensures c.if-fault-ne-ACCEPTED.false
+    graph_ready c.args.s (table (goal.at.is_chain-requires c).Start) (parts (goal.at.is_chain-requires c).Start) (proposal (goal.at.is_chain-requires c).Start)
+    c.proposal_fault-fault.ensures c.if-fault-ne-ACCEPTED.false
 
 pub returns-then-not-is_chain : goal.returns-then-not-is_chain
 unfolding check_of
 returns-then-not-is_chain c =
-    no_chain c.args.s (table (goal.at.returns-then-not-is_chain c).Start) (parts (goal.at.returns-then-not-is_chain c).Start) (proposal (goal.at.returns-then-not-is_chain c).Start) c.proposal_fault-fault.ensures c.if-fault-ne-ACCEPTED.false c.is_chain.ensures (c.if-not-is_chain.true)
+    no_chain c.args.s (table (goal.at.returns-then-not-is_chain c).Start) (parts (goal.at.returns-then-not-is_chain c).Start) (proposal (goal.at.returns-then-not-is_chain c).Start)
+    c.proposal_fault-fault.ensures c.if-fault-ne-ACCEPTED.false c.is_chain.ensures (c.if-not-is_chain.true)
 
 pub returns-then-not-is_part_list : goal.returns-then-not-is_part_list
 unfolding check_of
 returns-then-not-is_part_list c =
-    no_list c.args.s (table (goal.at.returns-then-not-is_part_list c).Start) (parts (goal.at.returns-then-not-is_part_list c).Start) (proposal (goal.at.returns-then-not-is_part_list c).Start) c.proposal_fault-fault.ensures c.if-fault-ne-ACCEPTED.false c.is_part_list.ensures (c.if-not-is_part_list.true)
+    no_list c.args.s (table (goal.at.returns-then-not-is_part_list c).Start) (parts (goal.at.returns-then-not-is_part_list c).Start)
+    (proposal (goal.at.returns-then-not-is_part_list c).Start) c.proposal_fault-fault.ensures c.if-fault-ne-ACCEPTED.false c.is_part_list.ensures (c.if-not-is_part_list.true)
 
 pub score_pair-verdict-requires : goal.score_pair-verdict-requires
 score_pair-verdict-requires c =
-    pairable c.args.s (table (goal.at.score_pair-verdict-requires c).Start) (parts (goal.at.score_pair-verdict-requires c).Start) (proposal (goal.at.score_pair-verdict-requires c).Start) c.proposal_fault-fault.ensures c.if-fault-ne-ACCEPTED.false
+    pairable c.args.s (table (goal.at.score_pair-verdict-requires c).Start) (parts (goal.at.score_pair-verdict-requires c).Start)
+    (proposal (goal.at.score_pair-verdict-requires c).Start) c.proposal_fault-fault.ensures c.if-fault-ne-ACCEPTED.false
     c.is_chain.ensures (c.if-not-is_chain.false) c.is_part_list.ensures (c.if-not-is_part_list.false)
 
 pub returns-then-gives_score : goal.returns-then-gives_score
 unfolding check_of
 returns-then-gives_score c =
-    yes c.args.s (table (goal.at.returns-then-gives_score c).Start) (parts (goal.at.returns-then-gives_score c).Start) (proposal (goal.at.returns-then-gives_score c).Start) c.proposal_fault-fault.ensures c.if-fault-ne-ACCEPTED.false
+    yes c.args.s (table (goal.at.returns-then-gives_score c).Start) (parts (goal.at.returns-then-gives_score c).Start) (proposal (goal.at.returns-then-gives_score c).Start)
+    c.proposal_fault-fault.ensures c.if-fault-ne-ACCEPTED.false
     c.is_chain.ensures (c.if-not-is_chain.false) c.is_part_list.ensures (c.if-not-is_part_list.false) c.score_pair-verdict.ensures c.gives_score.ensures c.if-gives_score.true
 
 pub returns : goal.returns

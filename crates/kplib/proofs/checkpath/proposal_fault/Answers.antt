@@ -16,16 +16,20 @@ proposal c = let a = c.args in proposal_of a.rows.now a.positions.now a.score
 
 pub returns-then-fault-ne-ACCEPTED : goal.returns-then-fault-ne-ACCEPTED
 returns-then-fault-ne-ACCEPTED c =
-    by_call c.args.s (table (goal.at.returns-then-fault-ne-ACCEPTED c).Start) (parts (goal.at.returns-then-fault-ne-ACCEPTED c).Start) (proposal (goal.at.returns-then-fault-ne-ACCEPTED c).Start) c.call_fault-fault.ensures c.if-fault-ne-ACCEPTED.true
+    by_call c.args.s (table (goal.at.returns-then-fault-ne-ACCEPTED c).Start) (parts (goal.at.returns-then-fault-ne-ACCEPTED c).Start)
+    (proposal (goal.at.returns-then-fault-ne-ACCEPTED c).Start) c.call_fault-fault.ensures c.if-fault-ne-ACCEPTED.true
 
 pub returns-then-rows-gt64 : goal.returns-then-rows-gt64
 returns-then-rows-gt64 c =
-    long_rows c.args.s (table (goal.at.returns-then-rows-gt64 c).Start) (parts (goal.at.returns-then-rows-gt64 c).Start) (proposal (goal.at.returns-then-rows-gt64 c).Start) 262145 64 c.call_fault-fault.ensures c.if-fault-ne-ACCEPTED.false c.if-rows-gt64.true
+    long_rows c.args.s (table (goal.at.returns-then-rows-gt64 c).Start) (parts (goal.at.returns-then-rows-gt64 c).Start) (proposal (goal.at.returns-then-rows-gt64 c).Start) 262145 64
+    c.call_fault-fault.ensures c.if-fault-ne-ACCEPTED.false c.if-rows-gt64.true
 
 pub returns-then-positions-gt64 : goal.returns-then-positions-gt64
 returns-then-positions-gt64 c =
-    long_positions c.args.s (table (goal.at.returns-then-positions-gt64 c).Start) (parts (goal.at.returns-then-positions-gt64 c).Start) (proposal (goal.at.returns-then-positions-gt64 c).Start) 262145 64 c.call_fault-fault.ensures c.if-fault-ne-ACCEPTED.false c.if-rows-gt64.false c.if-positions-gt64.true
+    long_positions c.args.s (table (goal.at.returns-then-positions-gt64 c).Start) (parts (goal.at.returns-then-positions-gt64 c).Start)
+    (proposal (goal.at.returns-then-positions-gt64 c).Start) 262145 64 c.call_fault-fault.ensures c.if-fault-ne-ACCEPTED.false c.if-rows-gt64.false c.if-positions-gt64.true
 
 pub returns : goal.returns
 returns c =
-    no_fault c.args.s (table (goal.at.returns c).Start) (parts (goal.at.returns c).Start) (proposal (goal.at.returns c).Start) 262145 64 c.call_fault-fault.ensures c.if-fault-ne-ACCEPTED.false c.if-rows-gt64.false c.if-positions-gt64.false
+    no_fault c.args.s (table (goal.at.returns c).Start) (parts (goal.at.returns c).Start) (proposal (goal.at.returns c).Start) 262145 64 c.call_fault-fault.ensures
+    c.if-fault-ne-ACCEPTED.false c.if-rows-gt64.false c.if-positions-gt64.false

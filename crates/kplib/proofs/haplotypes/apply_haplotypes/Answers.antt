@@ -11,21 +11,26 @@ use Rattle.kplib.proofs.HaplotypesLaws.{rows_room, reports_room, still_accepted,
 use Rattle.kplib.proofs.haplotypes.apply_haplotypes.Goals.{After-several_fault-refusal, After-shared_slice_known-in-loop-i-2-1, In-loop-i}
 use Rattle.kplib.proofs.haplotypes.apply_haplotypes.Goals as goal
 
-found : (c : After-several_fault-refusal) → c.several_fault-refusal.result ≡ several_fault ((let a = c.args in several_lent a.s a.starts.now a.ends.now a.sizes.now a.features.now a.part_ends.now a.feature_ends.now a.part_sizes.now a.part_features.now a.links.now a.keys.now a.rows.now a.reports.now))
+found : (c : After-several_fault-refusal) → c.several_fault-refusal.result ≡ several_fault ((let a = c.args in several_lent a.s a.starts.now a.ends.now a.sizes.now a.features.now
+    a.part_ends.now a.feature_ends.now a.part_sizes.now a.part_features.now a.links.now a.keys.now a.rows.now a.reports.now))
 found c = rw c.queue_room-room.ensures at c.several_fault-refusal.ensures
 
 -- the haplotype's stretches lie within their slices
 many : (c : In-loop-i) → length c.args.feature_ends.now ≡ length c.args.part_ends.now
-many c = as_many_ends ((let a = c.args in several_lent a.s a.starts.now a.ends.now a.sizes.now a.features.now a.part_ends.now a.feature_ends.now a.part_sizes.now a.part_features.now a.links.now a.keys.now a.rows.now a.reports.now)) c.loop-i.invariant.accepted
+many c = as_many_ends ((let a = c.args in several_lent a.s a.starts.now a.ends.now a.sizes.now a.features.now a.part_ends.now a.feature_ends.now a.part_sizes.now a.part_features.now
+    a.links.now a.keys.now a.rows.now a.reports.now)) c.loop-i.invariant.accepted
 
 parts : (c : After-shared_slice_known-in-loop-i-2-1) → let a = c.args in let end = get_or a.part_ends.now c.loop-i.i 0 in (c.begin_of-part.result ≤ end) × (end ≤ length a.part_sizes.now)
 parts c =
-    let p = parts_within ((let a = c.args in several_lent a.s a.starts.now a.ends.now a.sizes.now a.features.now a.part_ends.now a.feature_ends.now a.part_sizes.now a.part_features.now a.links.now a.keys.now a.rows.now a.reports.now)) c.loop-i.invariant.accepted c.loop-i.i c.loop-i-test.true in
+    let p = parts_within ((let a = c.args in several_lent a.s a.starts.now a.ends.now a.sizes.now a.features.now a.part_ends.now a.feature_ends.now a.part_sizes.now a.part_features.now
+    a.links.now a.keys.now a.rows.now a.reports.now)) c.loop-i.invariant.accepted c.loop-i.i c.loop-i-test.true in
     (omega (arith, p.0, c.begin_of-part.ensures), p.1)
 
-rows_of_parts : (c : After-shared_slice_known-in-loop-i-2-1) → let a = c.args in let end = get_or a.feature_ends.now c.loop-i.i 0 in (c.begin_of-feature.result ≤ end) × (end ≤ length a.part_features.now)
+rows_of_parts : (c : After-shared_slice_known-in-loop-i-2-1) → let a = c.args in let end = get_or a.feature_ends.now c.loop-i.i 0 in (c.begin_of-feature.result ≤ end) ×
+    (end ≤ length a.part_features.now)
 rows_of_parts c =
-    let p = features_within ((let a = c.args in several_lent a.s a.starts.now a.ends.now a.sizes.now a.features.now a.part_ends.now a.feature_ends.now a.part_sizes.now a.part_features.now a.links.now a.keys.now a.rows.now a.reports.now)) c.loop-i.invariant.accepted c.loop-i.i c.loop-i-test.true in
+    let p = features_within ((let a = c.args in several_lent a.s a.starts.now a.ends.now a.sizes.now a.features.now a.part_ends.now a.feature_ends.now a.part_sizes.now
+    a.part_features.now a.links.now a.keys.now a.rows.now a.reports.now)) c.loop-i.invariant.accepted c.loop-i.i c.loop-i-test.true in
     (omega (arith, p.0, c.begin_of-feature.ensures), p.1)
 
 pub returns-then-refusal-ne0 : goal.returns-then-refusal-ne0
@@ -63,28 +68,62 @@ pub overflow_mul-word : goal.overflow_mul-word
 overflow_mul-word c = omega (arith, reports_room c.loop-i.invariant c.loop-i-test.true, few_haplotypes c.loop-i.invariant)
 
 pub offset_bounds-part_sizes-part : goal.offset_bounds-part_sizes-part
-offset_bounds-part_sizes-part c = omega (arith, (parts (goal.at.offset_bounds-part_sizes-part c).After-shared_slice_known-in-loop-i-2-1).0, (parts (goal.at.offset_bounds-part_sizes-part c).After-shared_slice_known-in-loop-i-2-1).1, c.well_formed)
+offset_bounds-part_sizes-part c = omega (
+  arith,
+  (parts (goal.at.offset_bounds-part_sizes-part c).After-shared_slice_known-in-loop-i-2-1).0,
+  (parts (goal.at.offset_bounds-part_sizes-part c).After-shared_slice_known-in-loop-i-2-1).1,
+  c.well_formed,
+)
 
 pub slice_bounds-answer_haplotype-count : goal.slice_bounds-answer_haplotype-count
-slice_bounds-answer_haplotype-count c = omega (arith, (parts (goal.at.slice_bounds-answer_haplotype-count c).After-shared_slice_known-in-loop-i-2-1).0, (parts (goal.at.slice_bounds-answer_haplotype-count c).After-shared_slice_known-in-loop-i-2-1).1)
+slice_bounds-answer_haplotype-count c = omega (
+  arith,
+  (parts (goal.at.slice_bounds-answer_haplotype-count c).After-shared_slice_known-in-loop-i-2-1).0,
+  (parts (goal.at.slice_bounds-answer_haplotype-count c).After-shared_slice_known-in-loop-i-2-1).1,
+)
 
 pub slice_bounds-answer_haplotype-start : goal.slice_bounds-answer_haplotype-start
-slice_bounds-answer_haplotype-start c = omega (arith, (parts (goal.at.slice_bounds-answer_haplotype-start c).After-shared_slice_known-in-loop-i-2-1).0, (parts (goal.at.slice_bounds-answer_haplotype-start c).After-shared_slice_known-in-loop-i-2-1).1)
+slice_bounds-answer_haplotype-start c = omega (
+  arith,
+  (parts (goal.at.slice_bounds-answer_haplotype-start c).After-shared_slice_known-in-loop-i-2-1).0,
+  (parts (goal.at.slice_bounds-answer_haplotype-start c).After-shared_slice_known-in-loop-i-2-1).1,
+)
 
 pub slice_bounds-answer_haplotype-end : goal.slice_bounds-answer_haplotype-end
-slice_bounds-answer_haplotype-end c = omega (arith, (parts (goal.at.slice_bounds-answer_haplotype-end c).After-shared_slice_known-in-loop-i-2-1).0, (parts (goal.at.slice_bounds-answer_haplotype-end c).After-shared_slice_known-in-loop-i-2-1).1)
+slice_bounds-answer_haplotype-end c = omega (
+  arith,
+  (parts (goal.at.slice_bounds-answer_haplotype-end c).After-shared_slice_known-in-loop-i-2-1).0,
+  (parts (goal.at.slice_bounds-answer_haplotype-end c).After-shared_slice_known-in-loop-i-2-1).1,
+)
 
 pub offset_bounds-part_features-feature : goal.offset_bounds-part_features-feature
-offset_bounds-part_features-feature c = omega (arith, (rows_of_parts (goal.at.offset_bounds-part_features-feature c).After-shared_slice_known-in-loop-i-2-1).0, (rows_of_parts (goal.at.offset_bounds-part_features-feature c).After-shared_slice_known-in-loop-i-2-1).1, c.well_formed)
+offset_bounds-part_features-feature c = omega (
+  arith,
+  (rows_of_parts (goal.at.offset_bounds-part_features-feature c).After-shared_slice_known-in-loop-i-2-1).0,
+  (rows_of_parts (goal.at.offset_bounds-part_features-feature c).After-shared_slice_known-in-loop-i-2-1).1,
+  c.well_formed,
+)
 
 pub slice_bounds-answer_haplotype-count-in-loop-i : goal.slice_bounds-answer_haplotype-count-in-loop-i
-slice_bounds-answer_haplotype-count-in-loop-i c = omega (arith, (rows_of_parts (goal.at.slice_bounds-answer_haplotype-count-in-loop-i c).After-shared_slice_known-in-loop-i-2-1).0, (rows_of_parts (goal.at.slice_bounds-answer_haplotype-count-in-loop-i c).After-shared_slice_known-in-loop-i-2-1).1)
+slice_bounds-answer_haplotype-count-in-loop-i c = omega (
+  arith,
+  (rows_of_parts (goal.at.slice_bounds-answer_haplotype-count-in-loop-i c).After-shared_slice_known-in-loop-i-2-1).0,
+  (rows_of_parts (goal.at.slice_bounds-answer_haplotype-count-in-loop-i c).After-shared_slice_known-in-loop-i-2-1).1,
+)
 
 pub slice_bounds-answer_haplotype-start-in-loop-i : goal.slice_bounds-answer_haplotype-start-in-loop-i
-slice_bounds-answer_haplotype-start-in-loop-i c = omega (arith, (rows_of_parts (goal.at.slice_bounds-answer_haplotype-start-in-loop-i c).After-shared_slice_known-in-loop-i-2-1).0, (rows_of_parts (goal.at.slice_bounds-answer_haplotype-start-in-loop-i c).After-shared_slice_known-in-loop-i-2-1).1)
+slice_bounds-answer_haplotype-start-in-loop-i c = omega (
+  arith,
+  (rows_of_parts (goal.at.slice_bounds-answer_haplotype-start-in-loop-i c).After-shared_slice_known-in-loop-i-2-1).0,
+  (rows_of_parts (goal.at.slice_bounds-answer_haplotype-start-in-loop-i c).After-shared_slice_known-in-loop-i-2-1).1,
+)
 
 pub slice_bounds-answer_haplotype-end-in-loop-i : goal.slice_bounds-answer_haplotype-end-in-loop-i
-slice_bounds-answer_haplotype-end-in-loop-i c = omega (arith, (rows_of_parts (goal.at.slice_bounds-answer_haplotype-end-in-loop-i c).After-shared_slice_known-in-loop-i-2-1).0, (rows_of_parts (goal.at.slice_bounds-answer_haplotype-end-in-loop-i c).After-shared_slice_known-in-loop-i-2-1).1)
+slice_bounds-answer_haplotype-end-in-loop-i c = omega (
+  arith,
+  (rows_of_parts (goal.at.slice_bounds-answer_haplotype-end-in-loop-i c).After-shared_slice_known-in-loop-i-2-1).0,
+  (rows_of_parts (goal.at.slice_bounds-answer_haplotype-end-in-loop-i c).After-shared_slice_known-in-loop-i-2-1).1,
+)
 
 pub overflow_add-at : goal.overflow_add-at
 overflow_add-at c =

@@ -6,7 +6,8 @@ use Rattle.kplib.proofs.haplotypes.apply_haplotypes.Given as goal
 
 abbrev pub invariant-loop-i : goal.invariant-loop-i
 invariant-loop-i l =
-    Turned l.s l.starts l.ends l.sizes l.features l.part_ends l.feature_ends l.part_sizes l.part_features l.initial.links l.initial.keys l.initial.rows l.initial.reports l.v l.i l.links l.keys l.rows l.reports
+    Turned l.s l.starts l.ends l.sizes l.features l.part_ends l.feature_ends l.part_sizes l.part_features l.initial.links l.initial.keys l.initial.rows l.initial.reports l.v l.i l.links
+    l.keys l.rows l.reports
 
 abbrev pub decreases-loop-i : goal.decreases-loop-i
 decreases-loop-i l =

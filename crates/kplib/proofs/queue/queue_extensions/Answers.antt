@@ -23,7 +23,8 @@ flag c =
 extending : (c : Then-may-r) → extends ((follows_by c.args.plan c.args.together.now)) (chain_of c.args.links.now c.args.entry) ((c.loop-r.r - 1)) ≡ true
 extending c =
     let row_in_here : (c.loop-r.r - 1) < length c.args.sizes.now = omega (arith, c.loop-r.invariant.1) in
-    let flag_here : extends ((follows_by c.args.plan c.args.together.now)) (chain_of c.args.links.now c.args.entry) ((c.loop-r.r - 1)) ≡ get_or c.followers-may.result ((c.loop-r.r - 1)) false = let h = c.requires in
+    let flag_here : extends ((follows_by c.args.plan c.args.together.now)) (chain_of c.args.links.now c.args.entry) ((c.loop-r.r - 1)) ≡ get_or c.followers-may.result ((c.loop-r.r - 1))
+    false = let h = c.requires in
     found h c.followers-may.ensures ((c.loop-r.r - 1)) (omega (arith, c.loop-r.invariant.0)) (omega (arith, row_in_here, h.sized.few)) in
     flag_here ∙ c.if-may-r.true
 

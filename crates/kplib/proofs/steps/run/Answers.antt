@@ -51,8 +51,14 @@ returns-then-at-steps c =
     gone_steps (asked (goal.at.returns-then-at-steps c).At-loop-at) c.loop-at.invariant.4 c.if-at-eq0.false (c.if-at-steps.true ∙ c.loop-at.invariant.0)
 
 pub step-at-requires : goal.step-at-requires
-step-at-requires c =
-    (asked (goal.at.step-at-requires c).At-loop-at, (pos_of c.if-at-eq0.false, lt_of_ne c.loop-at.invariant.4.run.below (λ z. c.if-at-steps.false (z ∙ sym c.loop-at.invariant.0)), c.loop-at.invariant.4))
+step-at-requires c = (
+  asked (goal.at.step-at-requires c).At-loop-at,
+  (
+    pos_of c.if-at-eq0.false,
+    lt_of_ne c.loop-at.invariant.4.run.below (λ z. c.if-at-steps.false (z ∙ sym c.loop-at.invariant.0)),
+    c.loop-at.invariant.4,
+  ),
+)
 
 pub loop-at-smaller : goal.loop-at-smaller
 loop-at-smaller c =

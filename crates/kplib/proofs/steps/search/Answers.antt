@@ -21,7 +21,13 @@ width_few c = omega (arith, c.entries-width.ensures, c.requires.checked.rows.sho
 target_is : (c : After-whole_size-target) → to_z w32 (of_z w32 c.whole_size-target.result) ≡ haplotype_size c.args.part_sizes.now
 target_is c = read_back _ c.whole_size-target.type_inv ∙ c.whole_size-target.ensures
 
-planned : (c : After-whole_size-target) → ◌≡◌ {A = Plan} (record { s = c.args.s; width = c.entries-width.result; m = length c.args.part_sizes.now; target = to_z w32 (of_z w32 c.whole_size-target.result) }) (record { s = c.args.s; width = 4 ^ c.args.s.k; m = length c.args.part_sizes.now; target = haplotype_size c.args.part_sizes.now })
+planned : (c : After-whole_size-target) → ◌≡◌ {A = Plan} (record {
+  s = c.args.s;
+  width = c.entries-width.result;
+  m = length c.args.part_sizes.now;
+  target = to_z w32
+      (of_z w32 c.whole_size-target.result);
+}) (record { s = c.args.s; width = 4 ^ c.args.s.k; m = length c.args.part_sizes.now; target = haplotype_size c.args.part_sizes.now })
 planned c = plan_is c.args.s c.args.part_sizes.now c.entries-width.ensures (target_is c)
 
 pub entries-width-requires : goal.entries-width-requires
@@ -66,7 +72,8 @@ not_begun-requires c = tt
 
 pub run-requires : goal.run-requires
 run-requires c = (
-  searchable_first c.requires (planned (goal.at.run-requires c).After-whole_size-target) c.lay_lists-count.ensures _ refl (simp length-set refl) (length-take-le _ _ (omega (arith, width_few (goal.at.run-requires c).After-whole_size-target))),
+  searchable_first c.requires (planned (goal.at.run-requires c).After-whole_size-target) c.lay_lists-count.ensures _ refl (simp length-set refl)
+      (length-take-le _ _ (omega (arith, width_few (goal.at.run-requires c).After-whole_size-target))),
   going_first _ _ c.args.keys.now (omega (arith, c.requires.key_room)) c.key.ensures c.not_begun.ensures,
 )
 

@@ -46,5 +46,6 @@ shape_of-scratch c = c.weigh-weighed.auto.scratch
 pub returns : goal.returns
 returns c =
     let b = c.requires in
-    gone_on b.0 b.1.2 c.take_next-entry.auto.keys b.1.0 b.1.1 c.take_next-entry.ensures _ _ c.queue_extensions-added.ensures.fact c.queue_extensions-added.ensures.result_in_bounds c.weigh-weighed.ensures
+    gone_on b.0 b.1.2 c.take_next-entry.auto.keys b.1.0 b.1.1 c.take_next-entry.ensures _ _ c.queue_extensions-added.ensures.fact c.queue_extensions-added.ensures.result_in_bounds
+    c.weigh-weighed.ensures
     c.advance.ensures

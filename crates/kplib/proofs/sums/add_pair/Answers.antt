@@ -48,4 +48,5 @@ overflow_add-n c =
 pub returns : goal.returns
 returns c =
     let a = c.args in
-    pair_is a.minkfreq a.x a.y a.s (first (goal.at.returns c).After-magnitude) (second (goal.at.returns c).After-magnitude-2) (apart (goal.at.returns c).After-magnitude-apart) c.kept.ensures c.kept-2.ensures
+    pair_is a.minkfreq a.x a.y a.s (first (goal.at.returns c).After-magnitude) (second (goal.at.returns c).After-magnitude-2) (apart (goal.at.returns c).After-magnitude-apart)
+    c.kept.ensures c.kept-2.ensures

@@ -17,7 +17,8 @@ pub returns-then-count_fault-ne-ACCEPTED : goal.returns-then-count_fault-ne-ACCE
 returns-then-count_fault-ne-ACCEPTED c = combine_left _ _ (λ z. c.if-count_fault-ne-ACCEPTED.true (c.count_fault.ensures ∙ z))
 
 pub returns-then-count_fault-ne-ACCEPTED-2 : goal.returns-then-count_fault-ne-ACCEPTED-2
-returns-then-count_fault-ne-ACCEPTED-2 c = combine_right _ _ (own (goal.at.returns-then-count_fault-ne-ACCEPTED-2 c).Else-count_fault-ne-ACCEPTED) (λ z. c.if-count_fault-ne-ACCEPTED-2.true (c.count_fault-2.ensures ∙ z))
+returns-then-count_fault-ne-ACCEPTED-2 c = combine_right _ _ (own (goal.at.returns-then-count_fault-ne-ACCEPTED-2 c).Else-count_fault-ne-ACCEPTED)
+    (λ z. c.if-count_fault-ne-ACCEPTED-2.true (c.count_fault-2.ensures ∙ z))
 
 pub returns-then-left-right : goal.returns-then-left-right
 returns-then-left-right c =
@@ -28,8 +29,10 @@ sum_passes-requires c = count_within _ (own (goal.at.sum_passes-requires c).Else
 
 pub returns-then-sum_passes : goal.returns-then-sum_passes
 returns-then-sum_passes c =
-    combine_over _ _ (own (goal.at.returns-then-sum_passes c).Else-count_fault-ne-ACCEPTED) (its (goal.at.returns-then-sum_passes c).Else-count_fault-ne-ACCEPTED-2) c.if-left-right.false (sym c.sum_passes.ensures ∙ c.if-sum_passes.true)
+    combine_over _ _ (own (goal.at.returns-then-sum_passes c).Else-count_fault-ne-ACCEPTED) (its (goal.at.returns-then-sum_passes c).Else-count_fault-ne-ACCEPTED-2)
+    c.if-left-right.false (sym c.sum_passes.ensures ∙ c.if-sum_passes.true)
 
 pub returns : goal.returns
 returns c =
-    combine_fine _ _ (own (goal.at.returns c).Else-count_fault-ne-ACCEPTED) (its (goal.at.returns c).Else-count_fault-ne-ACCEPTED-2) c.if-left-right.false (sym c.sum_passes.ensures ∙ c.if-sum_passes.false)
+    combine_fine _ _ (own (goal.at.returns c).Else-count_fault-ne-ACCEPTED) (its (goal.at.returns c).Else-count_fault-ne-ACCEPTED-2) c.if-left-right.false
+    (sym c.sum_passes.ensures ∙ c.if-sum_passes.false)

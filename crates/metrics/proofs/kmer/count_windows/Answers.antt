@@ -156,7 +156,8 @@ loop-read-preserved c =
       new_is (goal.at.loop-read-preserved c).After-next_window-window,
       length-set out ((c.next_window-window.result)) c.counted_if.result ∙ c.loop-read.invariant.3,
       turn_by_run k seq c.loop-read.read c.loop-read-test.true (read_by c.args.letters) (omega arith) c.args.negative out
-          c.loop-read.invariant.4 c.next_run-run.result ((c.next_window-window.result)) c.counted_if.result (run_is (goal.at.loop-read-preserved c).After-next_run-run) (new_is (goal.at.loop-read-preserved c).After-next_window-window) y,
+          c.loop-read.invariant.4 c.next_run-run.result ((c.next_window-window.result)) c.counted_if.result (run_is (goal.at.loop-read-preserved c).After-next_run-run)
+          (new_is (goal.at.loop-read-preserved c).After-next_window-window) y,
       run_few (goal.at.loop-read-preserved c).After-next_run-run,
       λ other. run_is (goal.at.loop-read-preserved c).After-next_run-run,
     )

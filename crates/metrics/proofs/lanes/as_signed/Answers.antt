@@ -16,7 +16,8 @@ pub overflow_sub-result : goal.overflow_sub-result
 overflow_sub-result c = rw (less (goal.at.overflow_sub-result c).Else-t-lt2147483648) (wide _ (omega arith))
 
 pub overflow_cast-result-else-t-lt2147483648-2 : goal.overflow_cast-result-else-t-lt2147483648-2
-overflow_cast-result-else-t-lt2147483648-2 c = rw (less (goal.at.overflow_cast-result-else-t-lt2147483648-2 c).Else-t-lt2147483648, again (negsuc (4294967295 - c.args.t)) (omega arith)) (record { sfits = omega arith })
+overflow_cast-result-else-t-lt2147483648-2 c = rw (less (goal.at.overflow_cast-result-else-t-lt2147483648-2 c).Else-t-lt2147483648, again (negsuc (4294967295 - c.args.t)) (omega arith))
+    (record { sfits = omega arith })
 
 pub returns-then-t-lt2147483648 : goal.returns-then-t-lt2147483648
 returns-then-t-lt2147483648 c = λ h. to_z_pos w32 c.args.t h

@@ -22,21 +22,25 @@ width c =
     let known_here : Settled c.args.s = settled c.args.s (settings_passed_here) in
     c.entries-e.ensures ∙ power _ (known_here).k_high
 
-lengths_passed : (c : Else-shape-ne-ACCEPTED) → Passed (length_rules (4 ^ c.args.s.k) ((table_of c.args.starts.now c.args.ends.now c.args.sizes.now c.args.features.now)) ((parts_of c.args.part_sizes.now c.args.part_features.now)))
+lengths_passed : (c : Else-shape-ne-ACCEPTED) → Passed (length_rules (4 ^ c.args.s.k) ((table_of c.args.starts.now c.args.ends.now c.args.sizes.now c.args.features.now))
+    ((parts_of c.args.part_sizes.now c.args.part_features.now)))
 lengths_passed c =
     let settings_passed_here : Passed (settings_rules c.args.s) = none_given (settings_rules c.args.s) refl (sym c.settings_fault-settings.ensures ∙ c.if-settings-ne-ACCEPTED.false) in
     let known_here : Settled c.args.s = settled c.args.s (settings_passed_here) in
     let width_here : c.entries-e.result ≡ 4 ^ c.args.s.k = c.entries-e.ensures ∙ power _ (known_here).k_high in
-    none_given (length_rules (4 ^ c.args.s.k) ((table_of c.args.starts.now c.args.ends.now c.args.sizes.now c.args.features.now)) ((parts_of c.args.part_sizes.now c.args.part_features.now))) refl (sym (rw (width_here) at c.length_fault-shape.ensures) ∙ c.if-shape-ne-ACCEPTED.false)
+    none_given (length_rules (4 ^ c.args.s.k) ((table_of c.args.starts.now c.args.ends.now c.args.sizes.now c.args.features.now))
+    ((parts_of c.args.part_sizes.now c.args.part_features.now))) refl (sym (rw (width_here) at c.length_fault-shape.ensures) ∙ c.if-shape-ne-ACCEPTED.false)
 
-shaped : (c : Else-shape-ne-ACCEPTED) → Measured (4 ^ c.args.s.k) ((table_of c.args.starts.now c.args.ends.now c.args.sizes.now c.args.features.now)) ((parts_of c.args.part_sizes.now c.args.part_features.now))
+shaped : (c : Else-shape-ne-ACCEPTED) → Measured (4 ^ c.args.s.k) ((table_of c.args.starts.now c.args.ends.now c.args.sizes.now c.args.features.now))
+    ((parts_of c.args.part_sizes.now c.args.part_features.now))
 shaped c = measured (4 ^ c.args.s.k) ((table_of c.args.starts.now c.args.ends.now c.args.sizes.now c.args.features.now)) ((parts_of c.args.part_sizes.now c.args.part_features.now)) (lengths_passed c)
 
 bounds_passed : (c : Else-bounds-ne-ACCEPTED) → Passed (bound_rules c.args.starts.now c.args.ends.now)
 bounds_passed c =
     none_given (bound_rules c.args.starts.now c.args.ends.now) refl (sym c.bound_fault-bounds.ensures ∙ c.if-bounds-ne-ACCEPTED.false)
 
-limits_passed : (c : Else-limits-ne-ACCEPTED) → Passed (limit_rules (4 ^ c.args.s.k) ((table_of c.args.starts.now c.args.ends.now c.args.sizes.now c.args.features.now)) ((parts_of c.args.part_sizes.now c.args.part_features.now)))
+limits_passed : (c : Else-limits-ne-ACCEPTED) → Passed (limit_rules (4 ^ c.args.s.k) ((table_of c.args.starts.now c.args.ends.now c.args.sizes.now c.args.features.now))
+    ((parts_of c.args.part_sizes.now c.args.part_features.now)))
 limits_passed c =
     let settings_passed_here : Passed (settings_rules c.args.s) = none_given (settings_rules c.args.s) refl (sym c.settings_fault-settings.ensures ∙ c.if-settings-ne-ACCEPTED.false) in
     let known_here : Settled c.args.s = settled c.args.s (settings_passed_here) in
@@ -52,14 +56,16 @@ length_fault-shape-requires c = rw c.entries-e.ensures (never_more _)
 
 pub returns-then-shape-ne-ACCEPTED : goal.returns-then-shape-ne-ACCEPTED
 returns-then-shape-ne-ACCEPTED c =
-    by_lengths _ _ (settings_passed (goal.at.returns-then-shape-ne-ACCEPTED c).Else-settings-ne-ACCEPTED) (rw (width (goal.at.returns-then-shape-ne-ACCEPTED c).After-entries-e) at c.length_fault-shape.ensures) c.if-shape-ne-ACCEPTED.true
+    by_lengths _ _ (settings_passed (goal.at.returns-then-shape-ne-ACCEPTED c).Else-settings-ne-ACCEPTED)
+    (rw (width (goal.at.returns-then-shape-ne-ACCEPTED c).After-entries-e) at c.length_fault-shape.ensures) c.if-shape-ne-ACCEPTED.true
 
 pub bound_fault-bounds-requires : goal.bound_fault-bounds-requires
 bound_fault-bounds-requires c = let m = shaped (goal.at.bound_fault-bounds-requires c).Else-shape-ne-ACCEPTED in (m.some, m.ends_are)
 
 pub returns-then-bounds-ne-ACCEPTED : goal.returns-then-bounds-ne-ACCEPTED
 returns-then-bounds-ne-ACCEPTED c =
-    by_bounds _ _ (settings_passed (goal.at.returns-then-bounds-ne-ACCEPTED c).Else-settings-ne-ACCEPTED) (lengths_passed (goal.at.returns-then-bounds-ne-ACCEPTED c).Else-shape-ne-ACCEPTED) c.bound_fault-bounds.ensures c.if-bounds-ne-ACCEPTED.true
+    by_bounds _ _ (settings_passed (goal.at.returns-then-bounds-ne-ACCEPTED c).Else-settings-ne-ACCEPTED)
+    (lengths_passed (goal.at.returns-then-bounds-ne-ACCEPTED c).Else-shape-ne-ACCEPTED) c.bound_fault-bounds.ensures c.if-bounds-ne-ACCEPTED.true
 
 pub limit_fault-limits-requires : goal.limit_fault-limits-requires
 limit_fault-limits-requires c =
@@ -68,7 +74,8 @@ limit_fault-limits-requires c =
 
 pub returns-then-limits-ne-ACCEPTED : goal.returns-then-limits-ne-ACCEPTED
 returns-then-limits-ne-ACCEPTED c =
-    by_limits _ _ (settings_passed (goal.at.returns-then-limits-ne-ACCEPTED c).Else-settings-ne-ACCEPTED) (lengths_passed (goal.at.returns-then-limits-ne-ACCEPTED c).Else-shape-ne-ACCEPTED) (bounds_passed (goal.at.returns-then-limits-ne-ACCEPTED c).Else-bounds-ne-ACCEPTED)
+    by_limits _ _ (settings_passed (goal.at.returns-then-limits-ne-ACCEPTED c).Else-settings-ne-ACCEPTED)
+    (lengths_passed (goal.at.returns-then-limits-ne-ACCEPTED c).Else-shape-ne-ACCEPTED) (bounds_passed (goal.at.returns-then-limits-ne-ACCEPTED c).Else-bounds-ne-ACCEPTED)
     (rw (width (goal.at.returns-then-limits-ne-ACCEPTED c).After-entries-e) at c.limit_fault-limits.ensures) c.if-limits-ne-ACCEPTED.true
 
 pub room_fault-requires : goal.room_fault-requires
@@ -76,5 +83,6 @@ room_fault-requires c = ((known (goal.at.room_fault-requires c).Else-settings-ne
 
 pub returns : goal.returns
 returns c =
-    by_rooms _ _ (settings_passed (goal.at.returns c).Else-settings-ne-ACCEPTED) (lengths_passed (goal.at.returns c).Else-shape-ne-ACCEPTED) (bounds_passed (goal.at.returns c).Else-bounds-ne-ACCEPTED) (limits_passed (goal.at.returns c).Else-limits-ne-ACCEPTED)
+    by_rooms _ _ (settings_passed (goal.at.returns c).Else-settings-ne-ACCEPTED) (lengths_passed (goal.at.returns c).Else-shape-ne-ACCEPTED)
+    (bounds_passed (goal.at.returns c).Else-bounds-ne-ACCEPTED) (limits_passed (goal.at.returns c).Else-limits-ne-ACCEPTED)
     c.room_fault.ensures

@@ -27,19 +27,23 @@ returns-then-bad_size-2 c = passed _ _ _ _ (sized (goal.at.returns-then-bad_size
 
 pub returns-then-bad_row : goal.returns-then-bad_row
 returns-then-bad_row c =
-    passed _ _ _ _ (sized (goal.at.returns-then-bad_row c).Else-bad_size) (passed _ _ _ _ (part_sized (goal.at.returns-then-bad_row c).Else-bad_size-2) (given _ _ _ (sym c.bad_row.ensures ∙ c.if-bad_row.true)))
+    passed _ _ _ _ (sized (goal.at.returns-then-bad_row c).Else-bad_size) (passed _ _ _ _ (part_sized (goal.at.returns-then-bad_row c).Else-bad_size-2)
+    (given _ _ _ (sym c.bad_row.ensures ∙ c.if-bad_row.true)))
 
 pub returns-then-bad_row-2 : goal.returns-then-bad_row-2
 returns-then-bad_row-2 c =
-    passed _ _ _ _ (sized (goal.at.returns-then-bad_row-2 c).Else-bad_size) (passed _ _ _ _ (part_sized (goal.at.returns-then-bad_row-2 c).Else-bad_size-2) (passed _ _ _ _ (rowed (goal.at.returns-then-bad_row-2 c).Else-bad_row)
+    passed _ _ _ _ (sized (goal.at.returns-then-bad_row-2 c).Else-bad_size) (passed _ _ _ _ (part_sized (goal.at.returns-then-bad_row-2 c).Else-bad_size-2)
+    (passed _ _ _ _ (rowed (goal.at.returns-then-bad_row-2 c).Else-bad_row)
     (given _ _ _ (sym c.bad_row-2.ensures ∙ c.if-bad_row-2.true))))
 
 pub returns-then-empty_row : goal.returns-then-empty_row
 returns-then-empty_row c =
-    passed _ _ _ _ (sized (goal.at.returns-then-empty_row c).Else-bad_size) (passed _ _ _ _ (part_sized (goal.at.returns-then-empty_row c).Else-bad_size-2) (passed _ _ _ _ (rowed (goal.at.returns-then-empty_row c).Else-bad_row) (passed _ _ _ _ (part_rowed (goal.at.returns-then-empty_row c).Else-bad_row-2)
+    passed _ _ _ _ (sized (goal.at.returns-then-empty_row c).Else-bad_size) (passed _ _ _ _ (part_sized (goal.at.returns-then-empty_row c).Else-bad_size-2)
+    (passed _ _ _ _ (rowed (goal.at.returns-then-empty_row c).Else-bad_row) (passed _ _ _ _ (part_rowed (goal.at.returns-then-empty_row c).Else-bad_row-2)
     (given _ _ _ (sym c.empty_row.ensures ∙ c.if-empty_row.true)))))
 
 pub returns : goal.returns
 returns c =
-    passed _ _ _ _ (sized (goal.at.returns c).Else-bad_size) (passed _ _ _ _ (part_sized (goal.at.returns c).Else-bad_size-2) (passed _ _ _ _ (rowed (goal.at.returns c).Else-bad_row) (passed _ _ _ _ (part_rowed (goal.at.returns c).Else-bad_row-2)
+    passed _ _ _ _ (sized (goal.at.returns c).Else-bad_size) (passed _ _ _ _ (part_sized (goal.at.returns c).Else-bad_size-2)
+    (passed _ _ _ _ (rowed (goal.at.returns c).Else-bad_row) (passed _ _ _ _ (part_rowed (goal.at.returns c).Else-bad_row-2)
     (passed _ _ _ _ (sym c.empty_row.ensures ∙ c.if-empty_row.false) refl))))

@@ -10,7 +10,12 @@ pub returns-then-n-eq-REPEATED_NUMBER : goal.returns-then-n-eq-REPEATED_NUMBER
 returns-then-n-eq-REPEATED_NUMBER c = c.right_before-then-n-eq-REPEATED_NUMBER.ensures ∙ simp (ne_eqb _ _ c.if-n-eq-TOO_MANY_HAPLOTYPES.false, eq-eqb _ _ c.if-n-eq-REPEATED_NUMBER.true)
 
 pub returns-then-n-eq-EMPTY_ROW : goal.returns-then-n-eq-EMPTY_ROW
-returns-then-n-eq-EMPTY_ROW c = c.right_before-then-n-eq-EMPTY_ROW.ensures ∙ simp (ne_eqb _ _ c.if-n-eq-TOO_MANY_HAPLOTYPES.false, ne_eqb _ _ c.if-n-eq-REPEATED_NUMBER.false, eq-eqb _ _ c.if-n-eq-EMPTY_ROW.true)
+returns-then-n-eq-EMPTY_ROW c = c.right_before-then-n-eq-EMPTY_ROW.ensures ∙ simp (
+  ne_eqb _ _ c.if-n-eq-TOO_MANY_HAPLOTYPES.false,
+  ne_eqb _ _ c.if-n-eq-REPEATED_NUMBER.false,
+  eq-eqb _ _
+      c.if-n-eq-EMPTY_ROW.true,
+)
 
 pub returns : goal.returns
 returns c = simp (ne_eqb _ _ c.if-n-eq-TOO_MANY_HAPLOTYPES.false, ne_eqb _ _ c.if-n-eq-REPEATED_NUMBER.false, ne_eqb _ _ c.if-n-eq-EMPTY_ROW.false)

@@ -55,9 +55,11 @@ loop-at-smaller c = omega (arith, c.loop-at-test.true, on (goal.at.loop-at-small
 pub loop-at-preserved : goal.loop-at-preserved
 loop-at-preserved c =
     let s = c.args.s.now in let is = c.record_at-here.ensures in let below = c.loop-at.invariant.1.1.1.1 in (
-      put_more put_row variant_here s c.loop-at.at c.loop-at-test.true _ is ((rows c.loop-at.starts c.loop-at.ends c.loop-at.sizes c.loop-at.negatives c.loop-at.counts)) _ _ _ c.fill_variant-v.ensures.is c.fill_variant-v.ensures.next ∙ c.loop-at.invariant.0,
+      put_more put_row variant_here s c.loop-at.at c.loop-at-test.true _ is ((rows c.loop-at.starts c.loop-at.ends c.loop-at.sizes c.loop-at.negatives c.loop-at.counts)) _ _ _
+          c.fill_variant-v.ensures.is c.fill_variant-v.ensures.next ∙ c.loop-at.invariant.0,
       (
-        put_more put_part part_here s c.loop-at.at c.loop-at-test.true _ is ((part_rows c.loop-at.part_sizes c.loop-at.part_negatives c.loop-at.part_counts)) _ _ _ c.fill_part-p.ensures.is c.fill_part-p.ensures.next ∙ c.loop-at.invariant.1.0,
+        put_more put_part part_here s c.loop-at.at c.loop-at-test.true _ is ((part_rows c.loop-at.part_sizes c.loop-at.part_negatives c.loop-at.part_counts)) _ _ _
+            c.fill_part-p.ensures.is c.fill_part-p.ensures.next ∙ c.loop-at.invariant.1.0,
         (
           breaks_more s c.loop-at.at c.loop-at-test.true _ is c.loop-at.breaks _ _ _ c.loop-at.p _ c.fill_break-n.ensures.is c.fill_break-n.ensures.next c.fill_part-p.ensures.next
               ∙ c.loop-at.invariant.1.1.0,
@@ -68,7 +70,11 @@ loop-at-preserved c =
               omega (arith, c.fill_variant-v.ensures.one, below.0, on (goal.at.loop-at-preserved c).After-letters_owed-left),
               (
                 omega (arith, c.fill_part-p.ensures.one, below.1.0, on (goal.at.loop-at-preserved c).After-letters_owed-left),
-                (omega (arith, c.fill_break-n.ensures.one, below.1.1.0, on (goal.at.loop-at-preserved c).After-letters_owed-left), omega (arith, c.fill_letters-l.ensures.next.1, on (goal.at.loop-at-preserved c).After-letters_owed-left, below.1.1.1)),
+                (
+                  omega (arith, c.fill_break-n.ensures.one, below.1.1.0, on (goal.at.loop-at-preserved c).After-letters_owed-left),
+                  omega
+                      (arith, c.fill_letters-l.ensures.next.1, on (goal.at.loop-at-preserved c).After-letters_owed-left, below.1.1.1),
+                ),
               ),
             ),
           ),
@@ -108,19 +114,24 @@ pub shape_of-sizes : goal.shape_of-sizes
 shape_of-sizes c = stays put_row (λ (t : Rows). length t.sizes) (λ (t : Rows) (v : ℕ) (x : Variant). length-set t.sizes v x.size) _ _ _ (rows_done (goal.at.shape_of-sizes c).After-loop-at)
 
 pub shape_of-negatives : goal.shape_of-negatives
-shape_of-negatives c = stays put_row (λ (t : Rows). length t.negatives) (λ (t : Rows) (v : ℕ) (x : Variant). length-set t.negatives v x.negative) _ _ _ (rows_done (goal.at.shape_of-negatives c).After-loop-at)
+shape_of-negatives c = stays put_row (λ (t : Rows). length t.negatives) (λ (t : Rows) (v : ℕ) (x : Variant). length-set t.negatives v x.negative) _ _ _
+    (rows_done (goal.at.shape_of-negatives c).After-loop-at)
 
 pub shape_of-counts : goal.shape_of-counts
-shape_of-counts c = stays put_row (λ (t : Rows). length t.counts) (λ (t : Rows) (v : ℕ) (x : Variant). length-set t.counts v (length x.letters)) _ _ _ (rows_done (goal.at.shape_of-counts c).After-loop-at)
+shape_of-counts c = stays put_row (λ (t : Rows). length t.counts) (λ (t : Rows) (v : ℕ) (x : Variant). length-set t.counts v (length x.letters)) _ _ _
+    (rows_done (goal.at.shape_of-counts c).After-loop-at)
 
 pub shape_of-part_sizes : goal.shape_of-part_sizes
-shape_of-part_sizes c = stays put_part (λ (t : PartRows). length t.sizes) (λ (t : PartRows) (v : ℕ) (x : Part). length-set t.sizes v x.size) _ _ _ (parts_done (goal.at.shape_of-part_sizes c).After-loop-at)
+shape_of-part_sizes c = stays put_part (λ (t : PartRows). length t.sizes) (λ (t : PartRows) (v : ℕ) (x : Part). length-set t.sizes v x.size) _ _ _
+    (parts_done (goal.at.shape_of-part_sizes c).After-loop-at)
 
 pub shape_of-part_negatives : goal.shape_of-part_negatives
-shape_of-part_negatives c = stays put_part (λ (t : PartRows). length t.negatives) (λ (t : PartRows) (v : ℕ) (x : Part). length-set t.negatives v x.negative) _ _ _ (parts_done (goal.at.shape_of-part_negatives c).After-loop-at)
+shape_of-part_negatives c = stays put_part (λ (t : PartRows). length t.negatives) (λ (t : PartRows) (v : ℕ) (x : Part). length-set t.negatives v x.negative) _ _ _
+    (parts_done (goal.at.shape_of-part_negatives c).After-loop-at)
 
 pub shape_of-part_counts : goal.shape_of-part_counts
-shape_of-part_counts c = stays put_part (λ (t : PartRows). length t.counts) (λ (t : PartRows) (v : ℕ) (x : Part). length-set t.counts v (length x.letters)) _ _ _ (parts_done (goal.at.shape_of-part_counts c).After-loop-at)
+shape_of-part_counts c = stays put_part (λ (t : PartRows). length t.counts) (λ (t : PartRows) (v : ℕ) (x : Part). length-set t.counts v (length x.letters)) _ _ _
+    (parts_done (goal.at.shape_of-part_counts c).After-loop-at)
 
 pub shape_of-breaks : goal.shape_of-breaks
 shape_of-breaks c = stays set (λ (t : List ℕ). length t) (λ (t : List ℕ) (v x : ℕ). length-set t v x) _ _ _ (breaks_stored (goal.at.shape_of-breaks c).After-loop-at)

@@ -21,4 +21,5 @@ returns-then-b-lt-VARIANT2_BODY c = adds_none set _ _ (cut_number _ _ (numbered 
 pub returns : goal.returns
 returns c =
     let a = c.args in
-    adds_one set a.numbers.now a.v _ (one_number _ _ (numbered (goal.at.returns c).Else-not-has_number) c.if-b-lt-VARIANT2_BODY.false) (c.set_u32.ensures ∙ ap (λ (n : ℕ). set a.numbers.now a.v n) c.u32_at.ensures)
+    adds_one set a.numbers.now a.v _ (one_number _ _ (numbered (goal.at.returns c).Else-not-has_number) c.if-b-lt-VARIANT2_BODY.false)
+    (c.set_u32.ensures ∙ ap (λ (n : ℕ). set a.numbers.now a.v n) c.u32_at.ensures)
