@@ -1,6 +1,5 @@
 -- The flags passed are counted. Assumes nothing.
 use mathlib.Core.Path.{◌≡◌, refl}
-use Prim.Native.Nat.{◌-◌}
 use native.Mathlib.Omega.{arith}
 use Rattle.companions.specs.Questions.{how_many_below, later_of}
 use Rattle.companions.proofs.CountLaws.{count_on}

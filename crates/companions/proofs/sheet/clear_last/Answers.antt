@@ -1,6 +1,5 @@
 -- Row by row: the earlier rows passed have no flag with the last one. Assumes nothing.
 use mathlib.Core.Path.{sym}
-use Prim.Native.Nat.{◌-◌}
 use native.Mathlib.Omega.{arith}
 use Rattle.companions.proofs.SheetLaws.{passing_begin, passing_on, passing_end, other_columns, later_rows, not_there}
 use Rattle.companions.proofs.sheet.clear_last.Goals as goal

@@ -1,6 +1,5 @@
 -- Row by row: the sheet is that of the rows passed. Assumes nothing.
 use mathlib.Core.Path.{◌≡◌}
-use Prim.Native.Nat.{◌-◌}
 use native.Mathlib.Omega.{arith}
 use Rattle.companions.proofs.SheetLaws.{no_rows}
 use Rattle.companions.proofs.sheet.fresh.Goals as goal

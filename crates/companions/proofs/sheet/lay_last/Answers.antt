@@ -1,7 +1,7 @@
 -- Row by row: the earlier rows passed have their flag with the last one, and the sheet of one row less is that of the others. Assumes nothing.
 use mathlib.Core.Path.{ap, sym, ◌∙◌}
 use mathlib.Core.Bool.{not}
-use Prim.Native.Nat.{◌+◌, ◌-◌}
+use Prim.Native.Nat.{◌+◌}
 use native.Mathlib.Omega.{arith}
 use Rattle.companions.proofs.SheetLaws.{passing_begin, passing_on, passing_end, other_columns, later_rows, there}
 use Rattle.companions.proofs.sheet.lay_last.Goals as goal

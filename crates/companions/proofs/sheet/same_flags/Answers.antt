@@ -1,5 +1,4 @@
 -- The rest is the same exactly where the whole is. Assumes nothing.
-use Prim.Native.Nat.{◌-◌}
 use native.Mathlib.Omega.{arith}
 use mathlib.Core.Path.{refl, sym, ◌∙◌}
 use Rattle.companions.proofs.SheetLaws.{same_on, same_not, same_end}

@@ -1,5 +1,4 @@
 -- What is left to look at decides, since all before is zero.
-use Prim.Native.Nat.{◌-◌}
 use native.Mathlib.Omega.{arith}
 use mathlib.Core.Path.{refl, ◌∙◌}
 use Rattle.form.proofs.FormLaws.{zero_broken, zero_more, zero_done}

@@ -1,5 +1,4 @@
 -- What is left to look at decides, since all before are flags.
-use Prim.Native.Nat.{◌-◌}
 use native.Mathlib.Omega.{arith}
 use mathlib.Core.Path.{◌∙◌}
 use Rattle.form.proofs.FormLaws.{flags_start, flag_broken, flag_more, flags_done}

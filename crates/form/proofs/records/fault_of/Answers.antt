@@ -2,7 +2,6 @@
 use mathlib.Core.Path.{◌≡◌, ◌∙◌, sym}
 use mathlib.Core.Bool.{true, false}
 use Prim.Native.Nat.{◌≤◌}
-use borrow.Author.Tests.{not-true, not-false}
 use Rattle.form.specs.Form.{is_unknown, in_place, too_many, flags_ok, count_of, pad_ok}
 use Rattle.form.proofs.FormLaws.{fault_20, fault_21, fault_22, fault_27, fault_24, fault_13, fault_23, fault_25, fault_none_end, fault_none}
 use Rattle.form.proofs.records.fault_of.Goals.{Else-count_of-gt-MOST_LETTERS, Else-is_unknown, Else-not-flags_ok, Else-not-in_place, Else-not-pad_ok, Else-too_many}

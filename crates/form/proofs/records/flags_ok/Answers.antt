@@ -1,5 +1,4 @@
 -- The table says which bytes are flags, in two stretches: where one of the first is none, the second is not asked.
-use borrow.Author.Tests.{not-true, not-false}
 use mathlib.Core.Path.{sym, ◌∙◌}
 use Rattle.form.proofs.FormLaws.{flags_there, late_there, flags_broken, flags_late}
 use Rattle.form.proofs.records.flags_ok.Goals as goal

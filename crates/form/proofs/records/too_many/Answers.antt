@@ -1,5 +1,4 @@
 -- Only a record that begins a haplotype can begin one too many.
-use borrow.Author.Tests.{not-true, not-false}
 use mathlib.Core.Path.{sym, ◌∙◌}
 use Rattle.form.proofs.FormLaws.{not_next, next_late}
 use Rattle.form.proofs.records.too_many.Goals as goal

@@ -2,7 +2,6 @@
 use native.Mathlib.Omega.{arith}
 use mathlib.Core.Path.{◌≡◌, sym, ap, ◌∙◌}
 use mathlib.Core.Bool.{true}
-use borrow.Author.Tests.{not-true, not-false}
 use Rattle.params.specs.Numbers.{first_of, settings_rules}
 use Rattle.params.specs.declared.Settings.{Settings}
 use Rattle.form.specs.Form.{are_flags, letters_place}

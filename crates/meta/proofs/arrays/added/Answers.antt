@@ -1,5 +1,5 @@
 -- The first i entries are added, the others the left's. Assumes nothing.
-use Prim.Native.Nat.{◌+◌, ◌-◌}
+use Prim.Native.Nat.{◌+◌}
 use native.Mathlib.Omega.{arith}
 use mathlib.Core.Path.{◌≡◌, refl}
 use Rattle.meta.proofs.JoinLaws.{joined_none, joined_more, sum_fits}

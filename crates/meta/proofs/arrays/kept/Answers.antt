@@ -1,5 +1,4 @@
 -- The first i entries are kept or taken, the others the left's. Assumes nothing.
-use Prim.Native.Nat.{◌-◌}
 use native.Mathlib.Omega.{arith}
 use mathlib.Core.Path.{◌≡◌}
 use Rattle.meta.specs.Meta.{left_else_right}

@@ -1,8 +1,6 @@
 -- Of the entries passed no sum passes 64 bits. Assumes nothing.
-use Prim.Native.Nat.{◌-◌}
 use native.Mathlib.Omega.{arith}
 use mathlib.Core.Path.{sym, ◌∙◌}
-use mathlib.Core.Bool.{false}
 use borrow.Author.Rules.{rules}
 use Rattle.params.proofs.CheckLaws.{any_none, any_more, any_here, any_end}
 use Rattle.meta.specs.Meta.{sum_passes}
