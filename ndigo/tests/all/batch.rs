@@ -460,6 +460,8 @@ fn only_an_ordinary_file_is_written() {
     std::fs::write(&place.out, HEADING_LINE).unwrap();
     assert_eq!(out(link.to_str().unwrap()).status, 0);
     assert_eq!((place.table(), link.is_symlink()), (whole, true));
+    // the gate's last step wants no link in the checkout
+    std::fs::remove_file(link).unwrap();
 }
 
 /// Only where a search stopped early is there anything to look for; what is proved stands in its own columns either way.
