@@ -1,4 +1,5 @@
 -- Each refusal in its place. Assumes nothing.
+use native.Mathlib.Omega.{arith}
 use mathlib.Core.Path.{◌≡◌, sym, ◌∙◌}
 use mathlib.Core.Bool.{false}
 use Rattle.book.specs.Book.{broken}
@@ -16,7 +17,7 @@ pub returns-then-version-lt1 : goal.returns-then-version-lt1
 returns-then-version-lt1 c = read_zero _ _ (sound (goal.at.returns-then-version-lt1 c).Else-broken) c.if-version-lt1.true
 
 pub returns-then-version-versions : goal.returns-then-version-versions
-returns-then-version-versions c = read_past _ _ (sound (goal.at.returns-then-version-versions c).Else-broken) c.if-version-lt1.false _ c.versions.ensures.0 c.if-version-versions.true
+returns-then-version-versions c = read_past _ _ (sound (goal.at.returns-then-version-versions c).Else-broken) (omega arith) _ c.versions.ensures.0 c.if-version-versions.true
 
 pub returns : goal.returns
-returns c = read_there _ _ (sound (goal.at.returns c).Else-broken) c.if-version-lt1.false _ c.versions.ensures.0 c.if-version-versions.false
+returns c = read_there _ _ (sound (goal.at.returns c).Else-broken) (omega arith) _ c.versions.ensures.0 c.if-version-versions.false

@@ -20,7 +20,7 @@ pub loop-i-smaller : goal.loop-i-smaller
 loop-i-smaller c = omega arith
 
 pub loop-i-preserved : goal.loop-i-preserved
-loop-i-preserved c = zero_more _ _ c.loop-i-test.true c.if-book-i-ne0.false ∙ c.loop-i.invariant
+loop-i-preserved c = zero_more _ _ c.loop-i-test.true (omega arith) ∙ c.loop-i.invariant
 
 pub returns : goal.returns
 returns c = zero_done _ _ c.loop-i-test.false ∙ c.loop-i.invariant

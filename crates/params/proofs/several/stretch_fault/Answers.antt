@@ -12,7 +12,7 @@ use Rattle.params.proofs.several.stretch_fault.Goals.{Else-bad_stretches, Else-n
 use Rattle.params.proofs.several.stretch_fault.Goals as goal
 
 counted : (c : Else-n-gt16) → bad_count (length c.args.part_ends.now) ≡ false
-counted c = good_count _ c.if-n-lt1.false c.if-n-gt16.false
+counted c = good_count _ (omega arith) c.if-n-gt16.false
 
 lie_well : (c : Else-bad_stretches) → let a = c.args in stretches_disagree a.part_ends.now a.feature_ends.now a.m a.f ≡ false
 lie_well c = sym c.bad_stretches.ensures ∙ c.if-bad_stretches.false
