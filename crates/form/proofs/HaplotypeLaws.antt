@@ -60,10 +60,13 @@ some_haplotype [] n = omega arith
 some_haplotype (k ∷ b) (suc n) = some_haplotype b n
 some_haplotype (k ∷ b) zero = some_here (kind_of k) b (haplotypes_in b (body_len (kind_of k))) (some_haplotype b (body_len (kind_of k)))
 
-pub long_from : (n : ℕ) (hs : List (List Part)) → length (breaks_from n hs) ≡ length hs
+long_at : (hs : List (List Part)) (n : ℕ) → length (breaks_from n hs) ≡ length hs
 unfolding breaks_from
-long_from n [] = refl
-long_from n (h ∷ hs) = ap suc (long_from (n + length h) hs)
+long_at [] n = refl
+long_at (h ∷ hs) n = ap suc (long_at hs _)
+
+pub long_from : (n : ℕ) (hs : List (List Part)) → length (breaks_from n hs) ≡ length hs
+long_from n hs = long_at hs n
 
 -- each but the first begins with a break
 pub long_breaks : (hs : List (List Part)) → 1 ≤ length hs → suc (length (breaks_of hs)) ≡ length hs

@@ -19,7 +19,7 @@ pub returns-then-p-next : goal.returns-then-p-next
 returns-then-p-next c = falls c.loop-i.invariant.1 (omega arith) c.if-p-next.true
 
 pub returns-then-p-m : goal.returns-then-p-m
-returns-then-p-m c = past c.loop-i.invariant.1 (omega arith) c.if-p-next.false c.if-p-m.true
+returns-then-p-m c = past c.loop-i.invariant.1 (omega arith) (omega arith) c.if-p-m.true
 
 pub overflow_add-next : goal.overflow_add-next
 overflow_add-next c = record { fits = omega (arith, c.shared_slice_known-1.given c.loop-i.i) }
@@ -31,7 +31,7 @@ pub loop-i-smaller : goal.loop-i-smaller
 loop-i-smaller c = omega arith
 
 pub loop-i-preserved : goal.loop-i-preserved
-loop-i-preserved c = (omega arith, rises_on c.loop-i.invariant.1 (omega arith) c.if-p-next.false c.if-p-m.false)
+loop-i-preserved c = (omega arith, rises_on c.loop-i.invariant.1 (omega arith) (omega arith) c.if-p-m.false)
 
 pub returns : goal.returns
 returns c = rises_all c.loop-i.invariant.1 (omega arith)
