@@ -5,7 +5,7 @@ use Rattle.std.proofs.Common.{get_or-set_other, get_or-set_same, pow-add, ne_eqb
 use native.Mathlib.Nat.{pow-succ', mul-add-mod_self_right}
 use lib.Bits.{bit_and, and_mask}
 use borrow.Author.Tests.{eqb-false}
-use Rattle.metrics.specs.declared.kmer.Code.TheVariants.{Letter, NoCode}
+use Rattle.std.specs.Prelude.{Some, None}
 use Rattle.metrics.specs.Letters.{code_of, has_code, encoded, read_by}
 use Rattle.metrics.specs.Lanes.{entry_of}
 
@@ -60,7 +60,7 @@ pub entry_le : (b : ℕ) → entry_of (encoded b) ≤ 8192
 unfolding encoded
 entry_le b = go (has_code b)
   where
-    go : (t : Bool) → entry_of (cond t (Letter (code_of b)) NoCode) ≤ 8192
+    go : (t : Bool) → entry_of (cond t (Some (code_of b)) None) ≤ 8192
     go true = omega (arith, letter_le b)
     go false = omega arith
 
@@ -69,7 +69,7 @@ pub entry_read : (b n : ℕ) → cond (eqb (entry_of (encoded b)) 0) 0 (n + 1) �
 unfolding encoded
 entry_read b n = go (has_code b)
   where
-    go : (t : Bool) → cond (eqb (entry_of (cond t (Letter (code_of b)) NoCode)) 0) 0 (n + 1) ≡ cond t (n + 1) 0
+    go : (t : Bool) → cond (eqb (entry_of (cond t (Some (code_of b)) None)) 0) 0 (n + 1) ≡ cond t (n + 1) 0
     go true = rw (ne_eqb (code_of b + 4096) 0 (λ e. marked (code_of b) e))
       where
         marked : (c : ℕ) → c + 4096 ≡ 0 → ⊥
@@ -81,7 +81,7 @@ pub entry_code : (k v b : ℕ) → k ≤ 6 → (v * 4 + entry_of (encoded b)) % 
 unfolding encoded
 entry_code k v b h = go (has_code b) refl
   where
-    go : (t : Bool) → has_code b ≡ t → (v * 4 + entry_of (cond t (Letter (code_of b)) NoCode)) % 4 ^ k ≡ (v * 4 + code_of b) % 4 ^ k
+    go : (t : Bool) → has_code b ≡ t → (v * 4 + entry_of (cond t (Some (code_of b)) None)) % 4 ^ k ≡ (v * 4 + code_of b) % 4 ^ k
     go true e =
         let six : 6 - k + k ≡ 6 = omega arith in
         let mark : 4096 ≡ 4 ^ (6 - k) * 4 ^ k = ap (λ (n : ℕ). 4 ^ n) (sym six) ∙ pow-add 4 (6 - k) k in

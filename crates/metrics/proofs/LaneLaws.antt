@@ -1,101 +1,18 @@
--- Signed entries by their bits, one more pair of entries in the pass over two rows, and what the whole pass shows. Where the rows are within their
+-- One more pair of entries in the pass over two rows, and what the whole pass shows. Where the rows are within their
 -- limit no sum wraps, since what is added up and what is left are the whole. Assumes nothing.
-use Rattle.std.proofs.Common.{◌≡◌, ℕ, zero, suc, ◌+◌, ◌-◌, ◌*◌, ◌%◌, ◌<◌, ◌≤◌, Bool, true, false, cond, T, ltb, leb, List, [], ◌∷◌, length, get_or, drop, ℤ, pos, negsuc, ◌+ℤ◌}
-use Rattle.std.proofs.Common.{◌-ℤ◌, nat_abs, refl, ap, ◌∙◌, subst, zero-le, le_refl, add-mul, mul-le-mul, one-mul, arith, w64, SFits, to_z, of_z, ltb-false, ltb-true, le-ltb}
-use Rattle.std.proofs.Common.{lt-ltb, eq-eqb}
+use Rattle.std.proofs.Common.{◌≡◌, ℕ, zero, suc, ◌+◌, ◌*◌, ◌%◌, ◌<◌, ◌≤◌, Bool, true, false, cond, ltb, leb, List, [], ◌∷◌, length, get_or, drop, ℤ, pos}
+use Rattle.std.proofs.Common.{◌-ℤ◌, nat_abs, ap, zero-le, le_refl, add-mul, mul-le-mul, one-mul, arith, le-ltb}
+use Rattle.std.proofs.Common.{eq-eqb}
 use lib.Bits.{bit_or, or_add_and, and_le_l, and_le_r}
-use lib.Signed.{mag, lt_z}
 use lib.Ieee.{Float}
-use Rattle.metrics.specs.declared.Sim.TheVariants.{Value, Refused}
-use mir.ValLaws.{to_z-of_z}
+use Rattle.std.specs.Prelude.{Ok, Err}
+use Rattle.metrics.specs.declared.refusals.Refusal.TheVariants.{BadRow}
 use Rattle.metrics.specs.declared.lanes.Sums.{Sums}
 use Rattle.metrics.specs.declared.lanes.RowSum.{RowSum}
 use Rattle.metrics.specs.Similarity.{magnitude_sum, part_d, part_n, sum_d, sum_n, seqsim_value, seqsim_of}
-use Rattle.metrics.specs.Lanes.{bits_of, magnitude_of_bits, Added, Summed, RowSummed}
+use Rattle.metrics.specs.Lanes.{Added, Summed, RowSummed}
 use Rattle.metrics.proofs.Ints.{apart_le}
 use Rattle.metrics.proofs.Rows.{row_step, row_none, sum_step, sum_none, sum_le, d_le, n_le, left_out}
-
--- a negative number and 2 ^ 32 make its bits; another number is its bits
-pub raised : (x : ℤ) → mag x < 2147483648 → lt_z x (pos 0) ≡ true → x +ℤ pos 4294967296 ≡ pos (bits_of x)
-raised (pos n) h t = absurd (below n (ltb-true n 0 t))
-  where
-    below : (n : ℕ) → n < 0 → ⊥
-    below n h = omega arith
-raised (negsuc n) h t =
-    let e : 4294967296 - suc n ≡ 4294967295 - n = omega arith in
-    let k : suc n ≤ 4294967296 = omega arith in
-    rw (le-ltb 4294967296 (suc n) k, e)
-
-pub itself : (x : ℤ) → lt_z x (pos 0) ≡ false → x ≡ pos (bits_of x)
-itself (pos n) t = refl
-itself (negsuc n) t = absurd (subst (λ (b : Bool). T b) t tt)
-
-pub bits_lt : (x : ℤ) → mag x < 2147483648 → bits_of x < 4294967296
-bits_lt (pos n) h = omega arith
-bits_lt (negsuc n) h = omega arith
-
-bits_low : (u : ℕ) → u < 2147483648 → magnitude_of_bits u ≡ u
-bits_low u h = rw (lt-ltb u 2147483648 h)
-
-bits_high : (u : ℕ) → 2147483648 ≤ u → magnitude_of_bits u ≡ 4294967296 - u
-bits_high u h = rw (le-ltb u 2147483648 h)
-
-pub bits_magnitude : (x : ℤ) → mag x < 2147483648 → magnitude_of_bits (bits_of x) ≡ nat_abs x
-bits_magnitude (pos n) h = bits_low n h
-bits_magnitude (negsuc n) h =
-    let k : 2147483648 ≤ 4294967295 - n = omega arith in
-    let e : 4294967296 - (4294967295 - n) ≡ suc n = omega arith in
-    bits_high (4294967295 - n) k ∙ e
-
--- w is the difference of the bits, modulo 2 ^ 32
-apart_by : (t : Bool) (a b w : ℕ) → ltb a b ≡ t → a < 2147483648 → b < 2147483648 → w < 4294967296 → (w + b) % 4294967296 ≡ a
-    → magnitude_of_bits w ≡ nat_abs (cond t (negsuc (b - suc a)) (pos (a - b)))
-apart_by true a b w e ha hb hw h =
-    let l = ltb-true a b e in
-    let k : 2147483648 ≤ w = omega arith in
-    let v : 4294967296 - w ≡ suc (b - suc a) = omega arith in
-    bits_high w k ∙ v
-apart_by false a b w e ha hb hw h =
-    let l = ltb-false a b e in
-    let k : w < 2147483648 = omega arith in
-    let v : w ≡ a - b = omega arith in
-    bits_low w k ∙ v
-
-pub apart_bits : (x y : ℤ) (w : ℕ) → w < 4294967296 → (w + bits_of y) % 4294967296 ≡ bits_of x → nat_abs x + nat_abs y < 2147483648
-    → magnitude_of_bits w ≡ nat_abs (x -ℤ y)
-apart_bits (pos a) (pos zero) w hw e h =
-    let k : w < 2147483648 = omega arith in
-    let v : w ≡ a + 0 = omega arith in
-    bits_low w k ∙ v
-apart_bits (pos a) (pos (suc b)) w hw e h = apart_by (ltb a (suc b)) a (suc b) w refl (omega arith) (omega arith) hw e
-apart_bits (pos a) (negsuc b) w hw e h =
-    let k : w < 2147483648 = omega arith in
-    let v : w ≡ a + suc b = omega arith in
-    bits_low w k ∙ v
-apart_bits (negsuc a) (pos zero) w hw e h =
-    let g : (w + suc a) % 4294967296 ≡ 0 = omega arith in
-    apart_by (ltb 0 (suc a)) 0 (suc a) w refl (omega arith) (omega arith) hw g
-apart_bits (negsuc a) (pos (suc b)) w hw e h =
-    let k : 2147483648 ≤ w = omega arith in
-    let v : 4294967296 - w ≡ suc (suc (a + b)) = omega arith in
-    bits_high w k ∙ v
-apart_bits (negsuc a) (negsuc b) w hw e h =
-    let g : (w + suc a) % 4294967296 ≡ suc b = omega arith in
-    apart_by (ltb (suc b) (suc a)) (suc b) (suc a) w refl (omega arith) (omega arith) hw g
-
--- a number of 64 bits, as a cast or an operation asks it
-pub wide : (z : ℤ) → nat_abs z ≤ 8589934592 → SFits w64 z
-wide (pos n) h = record { sfits = omega arith }
-wide (negsuc n) h = record { sfits = omega arith }
-
-pub again : (z : ℤ) → nat_abs z ≤ 8589934592 → to_z w64 (of_z w64 z) ≡ z
-again z h = to_z-of_z w64 z (wide z h)
-
--- the lower half of the bits, read as a signed number
-pub lowered : (t : ℕ) → 2147483648 ≤ t → t < 4294967296 → pos t -ℤ pos 4294967296 ≡ negsuc (4294967295 - t)
-lowered t h k =
-    let e : 4294967296 - suc t ≡ 4294967295 - t = omega arith in
-    rw (lt-ltb t 4294967296 k, e)
 
 -- a sum that cannot wrap, of what is kept of v
 sum_kept : (b : Bool) (s k v r : ℕ) → k ≡ cond b v 0 → r ≡ (s + k) % 4294967296 → s + v < 4294967296 → r ≡ s + cond b v 0
@@ -244,17 +161,17 @@ module _ (m : ℕ) (a b : List ℤ) (s : Sums) where
   pub good_low : Good m a b s → (s.d ≤ 16777216) × (s.n ≤ 16777216)
   good_low g = omega (arith, sum_le (part_d m) (d_le m) a b, sum_le (part_n m) (n_le m) a b)
 
-  pub good_is : Good m a b s → m ≤ 16777216 → length a ≡ length b → (v : Float) → v ≡ seqsim_value s.d s.n → Value v ≡ seqsim_of a b m
+  pub good_is : Good m a b s → m ≤ 16777216 → length a ≡ length b → (v : Float) → v ≡ seqsim_value s.d s.n → Ok v ≡ seqsim_of a b m
   unfolding seqsim_of
   good_is g h e v ev =
       rw (le-ltb 16777216 m h, eq-eqb (length a) (length b) e, le-ltb 8388608 (magnitude_sum a) g.low_a, le-ltb 8388608 (magnitude_sum b) g.low_b, ← g.is_d, ← g.is_n)
-      (ap (λ (x : Float). Value x) ev)
+      (ap (λ (x : Float). Ok x) ev)
 
-  pub over_is : m ≤ 16777216 → length a ≡ length b → ltb 8388608 (magnitude_sum a) ≡ true → Refused 10 ≡ seqsim_of a b m
+  pub over_is : m ≤ 16777216 → length a ≡ length b → ltb 8388608 (magnitude_sum a) ≡ true → Err BadRow ≡ seqsim_of a b m
   unfolding seqsim_of
   over_is h e t = rw (le-ltb 16777216 m h, eq-eqb (length a) (length b) e, t)
 
-  pub over_is_2 : m ≤ 16777216 → length a ≡ length b → ltb 8388608 (magnitude_sum a) ≡ false → ltb 8388608 (magnitude_sum b) ≡ true → Refused 10 ≡ seqsim_of a b m
+  pub over_is_2 : m ≤ 16777216 → length a ≡ length b → ltb 8388608 (magnitude_sum a) ≡ false → ltb 8388608 (magnitude_sum b) ≡ true → Err BadRow ≡ seqsim_of a b m
   unfolding seqsim_of
   over_is_2 h e t u = rw (le-ltb 16777216 m h, eq-eqb (length a) (length b) e, t, u)
 

@@ -10,8 +10,10 @@ use lib.Ieee.{Float, fin, binary32, round, sub, div, of_int}
 use lib.Ieee.Exact.{HasValue}
 use lib.Ieee.Scale.{round_same, grid}
 use borrow.Author.Tests.{eqb-false}
-use Rattle.metrics.specs.declared.Sim.TheVariants.{Value, Refused}
-use Rattle.metrics.specs.Similarity.{whole, number, value, magnitude_sum, sum_by, part_d, sum_d, sum_n, seqsim_value, seqsim_of}
+use Rattle.std.specs.Prelude.{Ok, Err}
+use Rattle.metrics.specs.declared.refusals.Refusal.TheVariants.{BadNumber, BadLengths, BadRow}
+use Rattle.metrics.specs.Refusals.{told}
+use Rattle.metrics.specs.Similarity.{whole, value, magnitude_sum, sum_by, part_d, sum_d, sum_n, seqsim_value, seqsim_of}
 use Rattle.metrics.specs.SeqsimError.{Times, off, SeqsimError}
 use Rattle.metrics.proofs.Rows.{sum_le, d_le, n_le_d}
 use Rattle.metrics.proofs.ErrorLaws.{Near, near_times, near_cancel, round_near, round_most, round_value, round_multiple, rescaled, whole_value, div_whole, sub_at, sub_exact}
@@ -238,12 +240,12 @@ value_shown d n D h l = go (eqb d 0) (eqb n 0) refl refl
 
 -- ---- the rows that are accepted
 accepted : (wide uneven first second : Bool) (y x : Float)
-    → cond wide (Refused 3) (cond uneven (Refused 6) (cond first (Refused 10) (cond second (Refused 10) (Value y)))) ≡ Value x
+    → cond wide (Err BadNumber) (cond uneven (Err BadLengths) (cond first (Err BadRow) (cond second (Err BadRow) (Ok y)))) ≡ Ok x
     → (first ≡ false) × (second ≡ false) × (y ≡ x)
-accepted true u a b y x e = let z = ap number e in absurd (omega arith)
-accepted false true a b y x e = let z = ap number e in absurd (omega arith)
-accepted false false true b y x e = let z = ap number e in absurd (omega arith)
-accepted false false false true y x e = let z = ap number e in absurd (omega arith)
+accepted true u a b y x e = let z = ap told e in absurd (omega arith)
+accepted false true a b y x e = let z = ap told e in absurd (omega arith)
+accepted false false true b y x e = let z = ap told e in absurd (omega arith)
+accepted false false false true y x e = let z = ap told e in absurd (omega arith)
 accepted false false false false y x e = (refl, refl, ap value e)
 
 -- ---- |a − b| of two whole numbers
@@ -282,10 +284,10 @@ seqsim_error a b m x e some =
     (v.s, subst (λ (y : Float). Times y v.s) w.2 v.times, close_off v.s d n (n_le_d m a b) v.close)
 
 -- ---- two pairs of rows that come near three quarters of d (docs/PROOFS.md), computed: S is 8 × 1,143,901, and 4 × 2,306,867
-near_by_few : seqsim_of (pos 8 ∷ []) (pos 3 ∷ []) 1 ≡ Value (fin false 1143901 (negsuc 20))
+near_by_few : seqsim_of (pos 8 ∷ []) (pos 3 ∷ []) 1 ≡ Ok (fin false 1143901 (negsuc 20))
 unfolding seqsim_of sum_by magnitude_sum sub div of_int round
 near_by_few = refl
 
-nearest_of_all : seqsim_of (pos 4613733 ∷ pos 3774873 ∷ pos 0 ∷ []) (pos 4613733 ∷ pos 0 ∷ pos 3774872 ∷ []) 1 ≡ Value (fin false 2306867 (negsuc 21))
+nearest_of_all : seqsim_of (pos 4613733 ∷ pos 3774873 ∷ pos 0 ∷ []) (pos 4613733 ∷ pos 0 ∷ pos 3774872 ∷ []) 1 ≡ Ok (fin false 2306867 (negsuc 21))
 unfolding seqsim_of sum_by magnitude_sum sub div of_int round
 nearest_of_all = refl

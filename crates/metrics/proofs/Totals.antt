@@ -3,10 +3,11 @@
 use Rattle.std.proofs.Common.{◌≡◌, ℕ, zero, suc, ◌+◌, ◌-◌, ◌^◌, ◌<◌, ◌≤◌, Bool, true, false, cond, ◌&&◌, eqb, ltb, leb, List, [], ◌∷◌, ◌++◌, length, take, ℤ, pos, ◌+ℤ◌, refl, ap}
 use Rattle.std.proofs.Common.{◌∙◌, ⊎_elim, zero-le, eq-or-lt_of_le, arith, length-take-le, ltb-false, le-ltb, eq-eqb, ne_eqb, le-leb, leb-false, leb-true}
 use lib.IntN.{+ℤ_idl, +ℤ_idr}
-use Rattle.metrics.specs.declared.kmer.Counted.TheVariants.{Done}
+use Rattle.std.specs.Prelude.{Ok}
+use Rattle.metrics.specs.Refusals.{told}
 use Rattle.metrics.specs.Similarity.{magnitude_sum}
 use Rattle.metrics.specs.Letters.{number_of, every_byte, all_read, first_window, windows_reading, times_in, signed, table_from}
-use Rattle.metrics.specs.Letters.{read_by, counts_reading, counts_of, counts_by, counter_answer, counted_number, entries_of, EntriesSum, EntriesSumBy, ReadingZero, EntriesSumToLength, RowWithinLimit}
+use Rattle.metrics.specs.Letters.{read_by, counts_reading, counts_of, counts_by, counter_answer, entries_of, EntriesSum, EntriesSumBy, ReadingZero, EntriesSumToLength, RowWithinLimit}
 use Rattle.metrics.proofs.Windows.{signed_size, number_lt, all_every, windows_fewer}
 
 -- g i + g (i + 1) + .., n terms
@@ -148,7 +149,7 @@ reading_zero k negative s = refl
 
 -- which calls are accepted, and what is known of one that is
 pub counter_done : (k reading : ℕ) (s : List ℕ) (row : List ℤ) → 1 ≤ k → k ≤ 6 → reading ≤ 1 → length row ≡ 4 ^ k → length s ≤ 131072
-    → counter_answer k reading s row ≡ Done
+    → counter_answer k reading s row ≡ Ok tt
 unfolding counter_answer
 counter_done k reading s row h h' r e l =
     rw (le-leb 1 k h, le-leb k 6 h', le-ltb 1 reading r, eq-eqb (length row) (4 ^ k) e, le-ltb 131072 (length s) l)
@@ -156,29 +157,29 @@ counter_done k reading s row h h' r e l =
 -- a test that fails gives a number other than 0, in whichever order the tests are tried
 passed_tests : (k reading : ℕ) (s : List ℕ) (row : List ℤ) (low high other room long : Bool)
     → leb 1 k ≡ low → leb k 6 ≡ high → ltb 1 reading ≡ other → eqb (length row) (4 ^ k) ≡ room → ltb 131072 (length s) ≡ long
-    → counter_answer k reading s row ≡ Done → long ≡ false
+    → counter_answer k reading s row ≡ Ok tt → long ≡ false
 unfolding counter_answer
 passed_tests k reading s row low high other room false a b o c d e = refl
 passed_tests k reading s row false high other room true a b o c d e =
-    let z = ap counted_number (simp (a, d) at e) in
+    let z = ap told (simp (a, d) at e) in
     absurd (omega arith)
 passed_tests k reading s row true false other room true a b o c d e =
-    let z = ap counted_number (simp (a, b, d) at e) in
+    let z = ap told (simp (a, b, d) at e) in
     absurd (omega arith)
 passed_tests k reading s row true true true false true a b o c d e =
-    let z = ap counted_number (simp (a, b, o, c, d) at e) in
+    let z = ap told (simp (a, b, o, c, d) at e) in
     absurd (omega arith)
 passed_tests k reading s row true true true true true a b o c d e =
-    let z = ap counted_number (simp (a, b, o, c, d) at e) in
+    let z = ap told (simp (a, b, o, c, d) at e) in
     absurd (omega arith)
 passed_tests k reading s row true true false false true a b o c d e =
-    let z = ap counted_number (simp (a, b, o, c, d) at e) in
+    let z = ap told (simp (a, b, o, c, d) at e) in
     absurd (omega arith)
 passed_tests k reading s row true true false true true a b o c d e =
-    let z = ap counted_number (simp (a, b, o, c, d) at e) in
+    let z = ap told (simp (a, b, o, c, d) at e) in
     absurd (omega arith)
 
-accepted_letters : (k reading : ℕ) (s : List ℕ) (row : List ℤ) → counter_answer k reading s row ≡ Done → length s ≤ 131072
+accepted_letters : (k reading : ℕ) (s : List ℕ) (row : List ℤ) → counter_answer k reading s row ≡ Ok tt → length s ≤ 131072
 accepted_letters k reading s row e =
     ltb-false 131072 (length s)
     (passed_tests k reading s row (leb 1 k) (leb k 6) (ltb 1 reading) (eqb (length row) (4 ^ k)) (ltb 131072 (length s)) refl refl refl refl refl e)

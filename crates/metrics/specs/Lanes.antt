@@ -1,19 +1,10 @@
 -- What the parts of the fast pass over two rows promise. No public promise cites this file.
-use Rattle.std.specs.Prelude.{◌≡◌, ℕ, ◌+◌, ◌-◌, ◌*◌, ◌<◌, ◌≤◌, cond, List, length, ℤ, pos, negsuc, nat_le, nat_lt, slice_index}
+use Rattle.std.specs.Prelude.{◌≡◌, ℕ, ◌+◌, ◌*◌, ◌<◌, ◌≤◌, cond, List, length, ℤ, nat_le, slice_index}
 use Rattle.metrics.specs.declared.lanes.Sums.{Sums}
 use Rattle.metrics.specs.declared.lanes.RowSum.{RowSum}
-use Rattle.metrics.specs.declared.kmer.Code.{Code}
-use Rattle.metrics.specs.declared.kmer.Code.TheVariants.{Letter, NoCode}
+use Rattle.std.specs.Prelude.{Option, Some, None}
 use Rattle.metrics.specs.Letters.{encoded}
 use Rattle.metrics.specs.Similarity.{magnitude_sum, sum_d, sum_n}
-
--- the bits of a signed number of 32 bits, and the magnitude of the number that has these bits
-abbrev pub bits_of : ℤ → ℕ
-bits_of (pos n) = n
-bits_of (negsuc n) = 4294967295 - n
-
-abbrev pub magnitude_of_bits : ℕ → ℕ
-magnitude_of_bits u = cond (nat_lt u 2147483648) u (4294967296 - u)
 
 -- one more pair of entries, of magnitudes p and q and z apart: `most` bounds both, and where nothing wraps d and n take the pair's share
 pub record Added (m p q z : ℕ) (s r : Sums) : Type 0 where
@@ -36,9 +27,9 @@ pub record RowSummed (a : List ℤ) (r : RowSum) : Type 0 where
   pub exact : magnitude_sum a < 4294967296 → r.sum ≡ magnitude_sum a
 
 -- a letter's code with a mark that there is one, or 0 for none; a table that has this of each byte
-abbrev pub entry_of : Code → ℕ
-entry_of (Letter n) = n + 4096
-entry_of NoCode = 0
+abbrev pub entry_of : Option ℕ → ℕ
+entry_of (Some n) = n + 4096
+entry_of None = 0
 
 pub record Coded (t : List ℕ) : Type 0 where
   pub at : (b : ℕ) → b < 256 → slice_index t b ≡ entry_of (encoded b)

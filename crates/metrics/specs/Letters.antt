@@ -1,9 +1,8 @@
 -- Document 01, "From letters to similarity", Letters, and document 02, P6: the code of a letter, the two readings, the windows of a sequence, the counter.
 use Rattle.std.specs.Prelude.{◌≡◌, ℕ, zero, suc, ◌+◌, ◌-◌, ◌*◌, ◌^◌, ◌≤◌, Bool, true, false, cond, not, ◌&&◌, ◌||◌, List, [], ◌∷◌, ◌++◌, length, take, ℤ, pos, ◌+ℤ◌, neg_ℤ, ◌==◌, nat_le, nat_lt}
-use Rattle.metrics.specs.declared.kmer.Code.{Code}
-use Rattle.metrics.specs.declared.kmer.Code.TheVariants.{Letter, NoCode}
-use Rattle.metrics.specs.declared.kmer.Counted.{Counted}
-use Rattle.metrics.specs.declared.kmer.Counted.TheVariants.{Done, Refused}
+use Rattle.std.specs.Prelude.{Option, Some, None, Result, Ok, Err}
+use Rattle.metrics.specs.declared.refusals.Refusal.{Refusal}
+use Rattle.metrics.specs.declared.refusals.Refusal.TheVariants.{BadK, BadNumber, BadLengths, TooManyLetters}
 use Rattle.metrics.specs.Similarity.{magnitude_sum}
 
 -- A, G, C and T give 0, 1, 2, 3 in either case; any other byte gives 0
@@ -18,8 +17,8 @@ has_code b =
     (b == 65) || (b == 97 || (b == 71 || (b == 103 || (b == 67 || (b == 99 || (b == 84 || b == 116))))))
 
 -- encoding one letter: its code, or that there is none
-unfoldable pub encoded : ℕ → Code
-encoded b = cond (has_code b) (Letter (code_of b)) NoCode
+unfoldable pub encoded : ℕ → Option ℕ
+encoded b = cond (has_code b) (Some (code_of b)) None
 
 -- the setting `letters`: 0 is document 01's reading, in which every byte is read; 1 reads only what has a code
 unfoldable pub read_by : ℕ → ℕ → Bool
@@ -86,22 +85,18 @@ unfoldable pub counts_by : ℕ → ℕ → Bool → List ℕ → List ℤ
 counts_by reading = counts_reading (read_by reading)
 
 -- the counter refuses by 1, 3 (a reading other than 0 or 1), 6 (room not 4^k) and 13
-unfoldable pub counter_answer : ℕ → ℕ → List ℕ → List ℤ → Counted
+unfoldable pub counter_answer : ℕ → ℕ → List ℕ → List ℤ → Result Unit Refusal
 counter_answer k reading letters row =
-    cond (not (nat_le 1 k && nat_le k 6)) (Refused 1)
-    (cond (nat_lt 1 reading) (Refused 3)
-    (cond (not (length row == 4 ^ k)) (Refused 6)
-    (cond (nat_lt 131072 (length letters)) (Refused 13)
-    Done)))
+    cond (not (nat_le 1 k && nat_le k 6)) (Err BadK)
+    (cond (nat_lt 1 reading) (Err BadNumber)
+    (cond (not (length row == 4 ^ k)) (Err BadLengths)
+    (cond (nat_lt 131072 (length letters)) (Err TooManyLetters)
+    (Ok tt))))
 
--- the number that the paper gives each answer, and what the lent row holds after it
-abbrev pub counted_number : Counted → ℕ
-counted_number Done = 0
-counted_number (Refused n) = n
-
-abbrev pub row_after : Counted → List ℤ → List ℤ → List ℤ
-row_after Done counts row = counts
-row_after (Refused n) counts row = row
+-- what the lent row holds after an answer
+abbrev pub row_after : Result Unit Refusal → List ℤ → List ℤ → List ℤ
+row_after (Ok done) counts row = counts
+row_after (Err refusal) counts row = row
 
 -- the sum of a row's entries
 unfoldable pub entries_of : List ℤ → ℤ
@@ -132,5 +127,5 @@ EntriesSumToLength =
 -- the magnitudes of a counted row sum to at most the limit that the search asks of a feature row
 unfoldable pub RowWithinLimit : Type 0
 RowWithinLimit =
-    (reads : ℕ → Bool) (k reading : ℕ) (negative : Bool) (letters : List ℕ) (row : List ℤ) → counter_answer k reading letters row ≡ Done
+    (reads : ℕ → Bool) (k reading : ℕ) (negative : Bool) (letters : List ℕ) (row : List ℤ) → counter_answer k reading letters row ≡ Ok tt
     → magnitude_sum (counts_reading reads k negative letters) ≤ 131072

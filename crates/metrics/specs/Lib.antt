@@ -5,3 +5,4 @@ pub mod Letters
 pub mod Lanes
 pub mod Placed
 pub mod Promises
+pub mod Refusals

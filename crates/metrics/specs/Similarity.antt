@@ -1,22 +1,18 @@
 -- Document 01, "From letters to similarity": seqsim, sizesim and overlaps.
-use Rattle.std.specs.Prelude.{ℕ, ◌+◌, min, max, Bool, cond, not, ◌&&◌, ◌||◌, List, [], ◌∷◌, length, ℤ, pos, ◌-ℤ◌, ◌==◌, nat_le, nat_lt, unsigned_abs, Float}
+use Rattle.std.specs.Prelude.{ℕ, ◌+◌, min, max, Bool, cond, not, ◌&&◌, ◌||◌, List, [], ◌∷◌, length, ℤ, pos, ◌-ℤ◌, ◌==◌, nat_le, nat_lt, unsigned_abs, Float, Result, Ok, Err}
 use Rattle.std.specs.Float.{binary32}
 use Rattle.std.specs.Float.Ieee.{of_int, div, sub}
-use Rattle.metrics.specs.declared.Sim.{Sim}
-use Rattle.metrics.specs.declared.Sim.TheVariants.{Value, Refused}
+use Rattle.metrics.specs.declared.refusals.Refusal.{Refusal}
+use Rattle.metrics.specs.declared.refusals.Refusal.TheVariants.{BadNumber, BadLengths, BadSize, BadRow}
 
 -- a whole number cast to f32
 abbrev pub whole : ℕ → Float
 whole n = of_int binary32 (pos n)
 
--- a smaller call: the number, and zero where it refuses
-abbrev pub number : Sim → ℕ
-number (Value x) = 0
-number (Refused n) = n
-
-abbrev pub value : Sim → Float
-value (Value x) = x
-value (Refused n) = whole 0
+-- a smaller call: its value, and zero where it refuses
+abbrev pub value : Result Float Refusal → Float
+value (Ok x) = x
+value (Err refusal) = whole 0
 
 -- a row's magnitudes, summed
 unfoldable pub magnitude_sum : List ℤ → ℕ
@@ -50,13 +46,13 @@ seqsim_value d n =
     cond (d == 0) (whole 0) (cond (n == 0) (whole 1) (sub binary32 (whole 1) (div binary32 (whole n) (whole d))))
 
 -- called alone it refuses by 3, 6 (unequal lengths) and 10 (either row's magnitudes sum to over 8,388,608)
-unfoldable pub seqsim_of : List ℤ → List ℤ → ℕ → Sim
+unfoldable pub seqsim_of : List ℤ → List ℤ → ℕ → Result Float Refusal
 seqsim_of a b m =
-    cond (nat_lt 16777216 m) (Refused 3)
-    (cond (not (length a == length b)) (Refused 6)
-    (cond (nat_lt 8388608 (magnitude_sum a)) (Refused 10)
-    (cond (nat_lt 8388608 (magnitude_sum b)) (Refused 10)
-    (Value (seqsim_value (sum_d m a b) (sum_n m a b))))))
+    cond (nat_lt 16777216 m) (Err BadNumber)
+    (cond (not (length a == length b)) (Err BadLengths)
+    (cond (nat_lt 8388608 (magnitude_sum a)) (Err BadRow)
+    (cond (nat_lt 8388608 (magnitude_sum b)) (Err BadRow)
+    (Ok (seqsim_value (sum_d m a b) (sum_n m a b))))))
 
 -- equal magnitudes give 1.0; else smaller over larger, each first raised to at least 1, one division
 abbrev pub ratio_of : ℕ → ℕ → Float
@@ -66,8 +62,8 @@ abbrev pub sizesim_value : ℕ → ℕ → Float
 sizesim_value a b = cond (a == b) (whole 1) (ratio_of (min a b) (max a b))
 
 -- alone it refuses by 9 above 8,388,608
-unfoldable pub sizesim_of : ℕ → ℕ → Sim
-sizesim_of a b = cond (nat_lt 8388608 (max a b)) (Refused 9) (Value (sizesim_value a b))
+unfoldable pub sizesim_of : ℕ → ℕ → Result Float Refusal
+sizesim_of a b = cond (nat_lt 8388608 (max a b)) (Err BadSize) (Ok (sizesim_value a b))
 
 -- the first interval is zero-length, and the other's start is less than it and the other's end is greater (document 02, P5)
 abbrev pub lies_inside : ℕ → ℕ → ℕ → ℕ → Bool

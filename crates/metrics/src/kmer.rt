@@ -5,45 +5,29 @@ ghost use Rattle.metrics.specs.Letters.{encoded, counts_by};
 ghost use Rattle.metrics.specs.Lanes.{entry_of, Coded};
 ghost use Rattle.metrics.specs.Promises.{ClearRowPromise, EntriesPromise, SeqToKmerPromise};
 
-use crate::refusals::{BAD_K, BAD_LENGTHS, BAD_NUMBER, TOO_MANY_LETTERS};
-
-#[derive(Clone, Copy)]
-pub enum Counted {
-    Done,
-    Refused(u32),
-}
-
-// What encoding a letter gives.
-#[derive(Clone, Copy)]
-pub enum Code {
-    Letter(u8),
-    NoCode,
-}
+use crate::refusals::Refusal;
 
 // A, G, C and T give 0, 1, 2, 3 in either case; any other byte has no code.
-fn encode_nuc(b: u8) -> Code
+#[tactic(auto, unfolding(crate::specs::Letters::encoded, crate::specs::Letters::has_code, crate::specs::Letters::code_of))]
+fn encode_nuc(b: u8) -> Option<u8>
     ensures { result ≡ encoded b }
 {
     match b {
-        b'T' => Code::Letter(3),
-        b't' => Code::Letter(3),
-        b'C' => Code::Letter(2),
-        b'c' => Code::Letter(2),
-        b'G' => Code::Letter(1),
-        b'g' => Code::Letter(1),
-        b'A' => Code::Letter(0),
-        b'a' => Code::Letter(0),
-        _ => Code::NoCode,
+        b'T' | b't' => Some(3),
+        b'C' | b'c' => Some(2),
+        b'G' | b'g' => Some(1),
+        b'A' | b'a' => Some(0),
+        _ => None,
     }
 }
 
 // A code as the table has it: 4096 marks that there is one, and none is 0. The mark falls away under the mask of `next_window`, so that reading 0 pays nothing for it.
-fn as_entry(code: Code) -> u16
+fn as_entry(code: Option<u8>) -> u16
     ensures { result ≡ entry_of code }
 {
     match code {
-        Code::Letter(n) => n as u16 + 4096,
-        Code::NoCode => 0,
+        Some(n) => n as u16 + 4096,
+        None => 0,
     }
 }
 
@@ -53,10 +37,8 @@ fn code_table() -> [u16; 256]
     ensures { Coded result }
 {
     let mut table = [0u16; 256];
-    let mut i: usize = 65;
-    while i < 117 {
-        table[i] = as_entry(encode_nuc(i as u8));
-        i += 1;
+    for b in 65..117u8 {
+        table[b as usize] = as_entry(encode_nuc(b));
     }
     table
 }
@@ -86,6 +68,7 @@ fn next_run(run: usize, entry: usize) -> usize
 }
 
 // The entries of a feature row: 4^k. A k over 6 has none.
+#[tactic(auto, unfolding(crate::specs::Letters::entry_count))]
 pub fn entries(k: u8) -> usize
     ensures { EntriesPromise k result }
 {
@@ -124,11 +107,7 @@ fn counted_if(x: i32, negative: bool, kept: bool) -> i32
 pub fn clear_row(row: &mut [i32])
     ensures { ClearRowPromise row.old row.new }
 {
-    let mut i = 0;
-    while i < row.len() {
-        row[i] = 0;
-        i += 1;
-    }
+    row.fill(0);
 }
 
 // Counts each window of k letters that is kept, in a row of zeros. `window` is the number of the last k letters, `run` how many letters in a row have
@@ -141,13 +120,11 @@ fn count_windows(seq: &[u8], k: u8, size: usize, negative: bool, letters: u8, ou
     let table = code_table();
     let mut window: usize = 0;
     let mut run: usize = 0;
-    let mut read: usize = 0;
-    while read < seq.len() {
-        let entry = entry_by_table(&table, seq[read]);
+    for (i, b) in seq.iter().enumerate() {
+        let entry = entry_by_table(&table, *b);
         window = next_window(window, entry, k, size);
-        read += 1;
         if letters == 0 {
-            if width <= read {
+            if width <= i + 1 {
                 out[window] = counted_once_more(out[window], negative);
             }
         } else {
@@ -158,26 +135,30 @@ fn count_windows(seq: &[u8], k: u8, size: usize, negative: bool, letters: u8, ou
 }
 
 // The counts of a sequence's windows of k letters, in a lent row of 4^k entries: of every window by reading 0, by reading 1 of those in which each letter has a code.
-pub fn seq_to_kmer(seq: &[u8], k: u8, negative: bool, letters: u8, out: &mut [i32]) -> Counted
+#[tactic(auto, unfolding(crate::specs::Letters::counter_answer))]
+pub fn seq_to_kmer(
+    seq: &[u8],
+    k: u8,
+    negative: bool,
+    letters: u8,
+    out: &mut [i32],
+) -> Result<(), Refusal>
     ensures { SeqToKmerPromise seq.now k negative letters out.old out.new result }
 {
-    if k < 1 {
-        return Counted::Refused(BAD_K);
-    }
-    if 6 < k {
-        return Counted::Refused(BAD_K);
+    if k < 1 || 6 < k {
+        return Err(Refusal::BadK);
     }
     if letters > 1 {
-        return Counted::Refused(BAD_NUMBER);
+        return Err(Refusal::BadNumber);
     }
     let size = entries(k);
     if out.len() != size {
-        return Counted::Refused(BAD_LENGTHS);
+        return Err(Refusal::BadLengths);
     }
     if seq.len() > 131072 {
-        return Counted::Refused(TOO_MANY_LETTERS);
+        return Err(Refusal::TooManyLetters);
     }
     clear_row(out);
     count_windows(seq, k, size, negative, letters, out);
-    Counted::Done
+    Ok(())
 }

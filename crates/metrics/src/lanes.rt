@@ -1,43 +1,15 @@
 // The sums of a row and of two, in a form that the compiler turns into vector instructions: no early exit, no sum wider than its entries.
 // The sums wrap where a row is over its limit; such a row is refused anyway.
 ghost use Rattle.std.specs.Prelude.{◌≡◌, ◌+◌, ◌*◌, ◌<◌, ◌≤◌, true, length, pos, ◌-ℤ◌, if◌then◌else◌, nat_le, nat_lt, unsigned_abs};
-ghost use Rattle.metrics.specs.Lanes.{bits_of, magnitude_of_bits, Added, Summed, RowSummed};
+ghost use Rattle.metrics.specs.Lanes.{Added, Summed, RowSummed};
 ghost use Rattle.metrics.specs.Similarity.{magnitude_sum};
 ghost use Rattle.metrics.specs.Promises.{MagnitudePromise, RowOverPromise};
-
-// The bits of an entry, read as an unsigned number. No instruction is left of it.
-fn bits(x: i32) -> u32
-    ensures { result ≡ bits_of x }
-{
-    if x < 0 {
-        ((x as i64) + 4294967296) as u32
-    } else {
-        x as u32
-    }
-}
-
-fn magnitude_of_bits(u: u32) -> u32
-    ensures { result ≡ magnitude_of_bits u }
-{
-    if u < 2147483648 {
-        u
-    } else {
-        (4294967295 - u) + 1
-    }
-}
 
 // The magnitude of any signed number, the least one too.
 pub fn magnitude(x: i32) -> u32
     ensures { MagnitudePromise x result }
 {
-    magnitude_of_bits(bits(x))
-}
-
-// How far two entries are apart, where neither is large.
-fn apart(x: i32, y: i32) -> u32
-    ensures { unsigned_abs x + unsigned_abs y < 2147483648 → result ≡ unsigned_abs (x -ℤ y) }
-{
-    magnitude_of_bits(std::num::wrapping_sub_u32(bits(x), bits(y)))
+    x.unsigned_abs()
 }
 
 // The same bits, read as a signed number: vectors of signed numbers are compared with one instruction less.
@@ -76,9 +48,9 @@ fn add_pair(s: Sums, p: u32, q: u32, z: u32, minkfreq: u32) -> Sums
     requires { minkfreq ≤ 16777216 }
     ensures { Added minkfreq p q z s result }
 {
-    let both = std::num::wrapping_add_u32(p, q);
-    let d = std::num::wrapping_add_u32(s.d, kept(both, minkfreq, both));
-    let n = std::num::wrapping_add_u32(s.n, kept(both, minkfreq, z));
+    let both = p.wrapping_add(q);
+    let d = s.d.wrapping_add(kept(both, minkfreq, both));
+    let n = s.n.wrapping_add(kept(both, minkfreq, z));
     let most = s.most | p | q;
     Sums { d, n, most }
 }
@@ -93,12 +65,9 @@ pub(crate) fn sum_rows(a: &[i32], b: &[i32], minkfreq: u32) -> Sums
         n: 0,
         most: 0,
     };
-    let mut i = 0;
-    while i < a.len() {
-        let x = a[i];
+    for (i, x) in a.iter().enumerate() {
         let y = b[i];
-        s = add_pair(s, magnitude(x), magnitude(y), apart(x, y), minkfreq);
-        i += 1;
+        s = add_pair(s, magnitude(*x), magnitude(y), x.abs_diff(y), minkfreq);
     }
     s
 }
@@ -127,13 +96,11 @@ fn count_over(a: &[i32], limit: u32) -> bool
 {
     let most = limit as u64;
     let mut sum: u64 = 0;
-    let mut i = 0;
-    while i < a.len() {
-        sum += magnitude(a[i]) as u64;
+    for x in a {
+        sum += magnitude(*x) as u64;
         if sum > most {
             return true;
         }
-        i += 1;
     }
     false
 }
@@ -151,12 +118,10 @@ fn sum_row(a: &[i32]) -> RowSum
 {
     let mut sum: u32 = 0;
     let mut most: u32 = 0;
-    let mut i = 0;
-    while i < a.len() {
-        let p = magnitude(a[i]);
-        sum = std::num::wrapping_add_u32(sum, p);
-        most = most | p;
-        i += 1;
+    for x in a {
+        let p = magnitude(*x);
+        sum = sum.wrapping_add(p);
+        most |= p;
     }
     RowSum { sum, most }
 }

@@ -1,4 +1,4 @@
--- After the turn of byte i - 1 the entries below i are laid, and those from i on are 0; no byte below 65 or above 116 has a code.
+-- The turn of byte b lays its entry and no other; no byte below 65 or above 116 has a code.
 use Rattle.std.proofs.Common.{◌≡◌, ℕ, ◌+◌, ◌<◌, ◌≤◌, Bool, true, false, ltb, length, get_or, refl, ap, ◌∙◌, arith, length-set, get_or-set_other, ltb-false, ltb-true}
 use lib.ListN.{get_or-replicate}
 use Rattle.metrics.specs.Letters.{encoded}
@@ -15,28 +15,29 @@ high b x h l e = omega arith
 differs : (b i : ℕ) → i + 1 ≤ b → b ≡ i → ⊥
 differs b i h e = omega arith
 
-pub loop-i-init : goal.loop-i-init
-loop-i-init c =
-    (omega arith, omega arith, refl, λ b h. get_or-replicate 256 b 0 0 (omega arith) ∙ outside b (λ x l r. low b x h l), λ b h r. get_or-replicate 256 b 0 0 r)
+pub loop-b-init : goal.loop-b-init
+loop-b-init c = record {
+  whole = refl;
+  laid = λ b h. get_or-replicate 256 b 0 0 (omega arith) ∙ outside b (λ x l r. low b x h l);
+  empty = λ b h r. get_or-replicate 256 b 0 0 r;
+}
 
-pub loop-i-preserved : goal.loop-i-preserved
-loop-i-preserved c =
-    let l = c.loop-i in
-    let h : l.i < length l.table = omega arith in
+pub loop-b-preserved : goal.loop-b-preserved
+loop-b-preserved c =
+    let l = c.loop-b in
+    let h : l.b < length l.table = omega arith in
     let v = c.as_entry.result in
-    let e = c.as_entry.ensures ∙ ap entry_of c.encode_nuc.ensures in (
-      omega arith,
-      omega arith,
-      simp length-set l.invariant.2,
-      coded_more l.table l.i v h e l.invariant.3,
-      λ b from room. get_or-set_other l.table l.i b v 0 (differs b l.i from) ∙ l.invariant.4 b (omega arith) room,
-    )
+    record {
+      whole = simp length-set l.invariant.whole;
+      laid = coded_more l.table l.b v h (c.as_entry.ensures ∙ ap entry_of c.encode_nuc.ensures) l.invariant.laid;
+      empty = λ b from room. get_or-set_other l.table l.b b v 0 (differs b l.b from) ∙ l.invariant.empty b (omega arith) room;
+    }
 
 pub returns : goal.returns
-returns c = record { at = λ b h. go b h (ltb b c.loop-i.i) refl }
+returns c = record { at = λ b h. go b h (ltb b c.loop-b.b) refl }
   where
-    go : (b : ℕ) → b < 256 → (t : Bool) → ltb b c.loop-i.i ≡ t → get_or c.loop-i.table b 0 ≡ entry_of (encoded b)
-    go b h true e = c.loop-i.invariant.3 b (ltb-true b c.loop-i.i e)
+    go : (b : ℕ) → b < 256 → (t : Bool) → ltb b c.loop-b.b ≡ t → get_or c.loop-b.table b 0 ≡ entry_of (encoded b)
+    go b h true e = c.loop-b.invariant.laid b (ltb-true b c.loop-b.b e)
     go b h false e =
-        let from = ltb-false b c.loop-i.i e in
-        c.loop-i.invariant.4 b from h ∙ outside b (λ x lo hi. high b x (omega arith) hi)
+        let from = ltb-false b c.loop-b.b e in
+        c.loop-b.invariant.empty b from h ∙ outside b (λ x lo hi. high b x (omega arith) hi)

@@ -1,7 +1,6 @@
 -- Each return is one case of the definition, tried in the table's order; only the last has touched the row.
 use Rattle.metrics.specs.Letters.{counter_answer}
-use Rattle.std.proofs.Common.{◌≡◌, ℕ, ◌^◌, ◌<◌, replicate, pos, refl, ap, ◌∙◌, arith, le-ltb, lt-ltb, eq-eqb, ne_eqb, le-leb}
-use borrow.Author.Tests.{lt-leb}
+use Rattle.std.proofs.Common.{◌≡◌, ℕ, ◌^◌, replicate, pos, refl, ap, ◌∙◌, arith, le-ltb, lt-ltb, eq-eqb, ne_eqb, le-leb}
 use Rattle.metrics.proofs.Entries.{power}
 use Rattle.metrics.proofs.kmer.seq_to_kmer.Goals.{After-entries-size}
 use Rattle.metrics.proofs.kmer.seq_to_kmer.Goals as goal
@@ -9,20 +8,6 @@ use Rattle.metrics.proofs.kmer.seq_to_kmer.Goals as goal
 -- the row's entries are 4 to the k once k is known to be at most 6
 size_is : (c : After-entries-size) → c.entries-size.result ≡ 4 ^ c.args.k
 size_is c = c.entries-size.ensures ∙ power _ c.if-k-gt6.false
-
-pub returns-then-k-lt1 : goal.returns-then-k-lt1
-unfolding counter_answer
-returns-then-k-lt1 c = (rw (lt-leb _ _ c.if-k-lt1.true), refl)
-
-pub returns-then-k-gt6 : goal.returns-then-k-gt6
-unfolding counter_answer
-returns-then-k-gt6 c = (rw (le-leb _ _ c.if-k-lt1.false, lt-leb _ _ c.if-k-gt6.true), refl)
-
-pub returns-then-letters-gt1 : goal.returns-then-letters-gt1
-unfolding counter_answer
-returns-then-letters-gt1 c =
-    let other : 1 < c.args.letters = omega arith in
-    (rw (le-leb _ _ c.if-k-lt1.false, le-leb _ _ c.if-k-gt6.false, lt-ltb 1 _ other), refl)
 
 pub returns-then-out-size : goal.returns-then-out-size
 unfolding counter_answer

@@ -1,0 +1,52 @@
+-- The numbers of documents 01 and 02 for the refusals. 0 is an accepted call.
+use Rattle.std.specs.Prelude.{ℕ, Result, Ok, Err}
+use Rattle.metrics.specs.declared.refusals.Refusal.{Refusal}
+use Rattle.metrics.specs.declared.refusals.Refusal.TheVariants.{BadK, BadFloat, BadNumber, NoVariants, TooMany, BadLengths, StartAfterEnd, FallingStart, BadSize, BadRow, QueueRoom, AnswerRoom, TooManyLetters, RepeatedNumber, EmptyRow, UnknownKind, CutShort, OutOfPlace, BadPadding, BadFlag, BytesAfterEnd, TooLarge, TooManyHaplotypes, NumberNotRow, LettersOne, LittleRoom, BadLine, SecondName, TooManyLines, LittleTextRoom, MissingRow, MissingVersion, VersionsUsed, LittleBookRoom, BrokenBook, NotItsSheet, BadSamples, NoSuchSample, UnequalSamples, CoverageOverflow, LongProposal}
+
+abbrev pub refusal_number : Refusal → ℕ
+refusal_number BadK = 1
+refusal_number BadFloat = 2
+refusal_number BadNumber = 3
+refusal_number NoVariants = 4
+refusal_number TooMany = 5
+refusal_number BadLengths = 6
+refusal_number StartAfterEnd = 7
+refusal_number FallingStart = 8
+refusal_number BadSize = 9
+refusal_number BadRow = 10
+refusal_number QueueRoom = 11
+refusal_number AnswerRoom = 12
+refusal_number TooManyLetters = 13
+refusal_number RepeatedNumber = 14
+refusal_number EmptyRow = 16
+refusal_number UnknownKind = 20
+refusal_number CutShort = 21
+refusal_number OutOfPlace = 22
+refusal_number BadPadding = 23
+refusal_number BadFlag = 24
+refusal_number BytesAfterEnd = 25
+refusal_number TooLarge = 26
+refusal_number TooManyHaplotypes = 27
+refusal_number NumberNotRow = 28
+refusal_number LettersOne = 29
+refusal_number LittleRoom = 30
+refusal_number BadLine = 40
+refusal_number SecondName = 41
+refusal_number TooManyLines = 42
+refusal_number LittleTextRoom = 43
+refusal_number MissingRow = 44
+refusal_number MissingVersion = 45
+refusal_number VersionsUsed = 46
+refusal_number LittleBookRoom = 47
+refusal_number BrokenBook = 48
+refusal_number NotItsSheet = 49
+refusal_number BadSamples = 50
+refusal_number NoSuchSample = 51
+refusal_number UnequalSamples = 52
+refusal_number CoverageOverflow = 53
+refusal_number LongProposal = 54
+
+-- what a call came to, as one number
+abbrev pub told : {A : Type 0} → Result A Refusal → ℕ
+told (Ok a) = 0
+told (Err refusal) = refusal_number refusal
