@@ -57,12 +57,10 @@ fn start_after_end(starts: &[u64], ends: &[u64]) -> bool
     requires { length ends.now ≡ length starts.now }
     ensures { result ≡ start_after_end starts.now ends.now }
 {
-    let mut r: usize = 0;
-    while r < starts.len() {
-        if starts[r] > ends[r] {
+    for (r, start) in starts.iter().enumerate() {
+        if *start > ends[r] {
             return true;
         }
-        r += 1;
     }
     false
 }
@@ -71,13 +69,10 @@ fn falling_start(starts: &[u64]) -> bool
     requires { 1 ≤ length starts.now }
     ensures { result ≡ falling_start starts.now }
 {
-    let last = starts.len() - 1;
-    let mut r: usize = 0;
-    while r < last {
-        if starts[r + 1] < starts[r] {
+    for r in 1..starts.len() {
+        if starts[r] < starts[r - 1] {
             return true;
         }
-        r += 1;
     }
     false
 }
@@ -99,14 +94,7 @@ fn bound_fault(starts: &[u64], ends: &[u64]) -> u32
 fn bad_size(sizes: &[i32]) -> bool
     ensures { result ≡ bad_size sizes.now }
 {
-    let mut r: usize = 0;
-    while r < sizes.len() {
-        if magnitude(sizes[r]) > 131072 {
-            return true;
-        }
-        r += 1;
-    }
-    false
+    sizes.iter().any(|size| magnitude(*size) > 131072)
 }
 
 fn bad_row(features: &[i32], n: usize, e: usize) -> bool
@@ -129,14 +117,7 @@ fn bad_row(features: &[i32], n: usize, e: usize) -> bool
 fn all_zero(row: &[i32]) -> bool
     ensures { result ≡ all_zero row.now }
 {
-    let mut i: usize = 0;
-    while i < row.len() {
-        if magnitude(row[i]) != 0 {
-            return false;
-        }
-        i += 1;
-    }
-    true
+    row.iter().all(|entry| *entry == 0)
 }
 
 fn empty_row(features: &[i32], n: usize, e: usize) -> bool
@@ -188,14 +169,12 @@ fn limit_fault(
     ACCEPTED
 }
 
+#[tactic(auto, unfolding(crate::specs::Numbers::little_queue_room))]
 fn little_queue_room(s: Settings, v: usize, queue_room: usize) -> bool
     requires { (s.maxpaths ≤ 4095) × (v ≤ 64) }
     ensures { result ≡ little_queue_room s v queue_room }
 {
-    if !search_mode(s, v) {
-        return false;
-    }
-    queue_room < 1 + (s.maxpaths as usize + 1) * v
+    search_mode(s, v) && queue_room < 1 + (s.maxpaths as usize + 1) * v
 }
 
 // 11 and 12.
@@ -216,7 +195,7 @@ fn room_fault(s: Settings, v: usize, queue_room: usize, answer_room: usize) -> u
 pub fn queue_room(links: usize, keys: usize) -> usize
     ensures { QueueRoomPromise links keys result }
 {
-    if links < keys { links } else { keys }
+    links.min(keys)
 }
 
 // The number of the first refusal of a call, 0 where it is accepted.
