@@ -1,8 +1,8 @@
 // The refusals of a call, of the search and of the chain count, in the order of document 01's table ("Numbers a job may hold"), before any work is done.
-ghost use Rattle.std.specs.Prelude.{◌≡◌, ◌*◌, ◌≤◌, length};
+ghost use Rattle.std.specs.Prelude.{◌≡◌, ◌*◌, ◌≤◌, Bool, List, ℤ, length};
 ghost use Rattle.params.specs.Numbers.{table_of, parts_of, first_of, start_after_end, falling_start, bad_size, bad_row, all_zero, empty_row, little_queue_room};
-ghost use Rattle.params.specs.Numbers.{length_rules, bound_rules, limit_rules, room_rules};
-ghost use Rattle.params.specs.CheckSteps.{Shaped};
+ghost use Rattle.params.specs.Numbers.{any_below, row_at, length_rules, bound_rules, limit_rules, room_rules};
+ghost use Rattle.params.specs.CheckSteps.{Shaped, Tests};
 ghost use Rattle.params.specs.Promises.{QueueRoomPromise, CallFaultPromise, PartsFaultPromise, CountFaultPromise};
 
 use crate::Settings;
@@ -97,20 +97,27 @@ fn bad_size(sizes: &[i32]) -> bool
     sizes.iter().any(|size| magnitude(*size) > 131072)
 }
 
+// Whether the test passes one of n rows of e entries each.
+fn any_row<F: Fn(&[i32]) -> bool>(features: &[i32], n: usize, e: usize, test: F) -> bool
+    requires shaped { length features.now ≡ n * e }
+    requires callable { F.IsAlwaysCallable test }
+    ensures { (passes : List ℤ → Bool) → Tests F.Fn test passes
+        → result ≡ any_below n (λ r. passes (row_at e features.now r)) }
+{
+    for r in 0..n {
+        if test(&features[r * e..][..e]) {
+            return true;
+        }
+    }
+    false
+}
+
+#[tactic(auto, unfolding(crate::specs::Numbers::bad_row))]
 fn bad_row(features: &[i32], n: usize, e: usize) -> bool
     requires { length features.now ≡ n * e }
     ensures { result ≡ bad_row e n features.now }
 {
-    let mut r: usize = 0;
-    while r < n {
-        let from = r * e;
-        let to = from + e;
-        if row_over(&features[from..to], 131072) {
-            return true;
-        }
-        r += 1;
-    }
-    false
+    any_row(features, n, e, |row| row_over(row, 131072))
 }
 
 // Left at the first entry that is not 0, so that rows which hold one cost little.
@@ -120,20 +127,12 @@ fn all_zero(row: &[i32]) -> bool
     row.iter().all(|entry| *entry == 0)
 }
 
+#[tactic(auto, unfolding(crate::specs::Numbers::empty_row))]
 fn empty_row(features: &[i32], n: usize, e: usize) -> bool
     requires { length features.now ≡ n * e }
     ensures { result ≡ empty_row e n features.now }
 {
-    let mut r: usize = 0;
-    while r < n {
-        let from = r * e;
-        let to = from + e;
-        if all_zero(&features[from..to]) {
-            return true;
-        }
-        r += 1;
-    }
-    false
+    any_row(features, n, e, all_zero)
 }
 
 // 9, 10 and 16.
