@@ -1,7 +1,7 @@
 -- A loop that has found none so far and finds none here has found none up to the next; a row whose test holds gives its number, and
 -- one whose test fails hands on to the next; and what one group of rows found, the whole list finds. Assumes nothing.
 use mathlib.Core.Path.{◌≡◌, refl}
-use Prim.Native.Nat.{ℕ, zero, suc, ◌+◌, ◌*◌, ◌≤◌, ◌<◌}
+use Prim.Native.Nat.{ℕ, zero, suc, ◌+◌, ◌-◌, ◌*◌, ◌≤◌, ◌<◌}
 use native.Mathlib.Omega.{arith}
 use native.Mathlib.Numerals.{add-one}
 use native.Mathlib.Nat.{mul-le-mul, mul-le-mul_right, suc-mul}
@@ -9,8 +9,11 @@ use mathlib.Core.Bool.{Bool, true, false, not, cond, ◌&&◌, ◌||◌}
 use mathlib.Core.List.{List, [], ◌∷◌, ◌++◌}
 use borrow.Author.Tests.{ltb-true, ltb-false, lt-ltb, le-ltb, le-leb, lt-leb, eq-eqb, ne_eqb}
 use lib.Dec.{leb, ltb, eqb}
+use lib.IntN.{ℤ}
+use lib.ListN.{length, take, drop}
+use lib.Seq.{take-take}
 use Rattle.paths.proofs.BooleanLaws.{clash, and_both}
-use Rattle.params.specs.Numbers.{Rule, first_of, any_below}
+use Rattle.params.specs.Numbers.{Rule, first_of, any_below, row_at}
 
 or_true : (a : Bool) → (a || true) ≡ true
 or_true true = refl
@@ -109,6 +112,10 @@ few_in_all a b limit most h l = mul-le-mul h l
 
 pub row_inside : (r n e : ℕ) → r < n → r * e + e ≤ n * e
 row_inside r n e h = omega (arith, mul-le-mul_right e h, suc-mul r e)
+
+-- a row, cut from all that stands from its first entry on
+pub row_cut : (e n r : ℕ) (table : List ℤ) → length table ≡ n * e → r < n → take e (take (length table - r * e) (drop (r * e) table)) ≡ row_at e table r
+row_cut e n r table h l = let inside = row_inside r n e l in take-take e (length table - r * e) (drop (r * e) table) (omega arith)
 
 module _ (test : ℕ → Bool) where
   pub any_none : any_below 0 test ≡ false

@@ -8,3 +8,4 @@ pub mod TableOrderLaws
 pub mod EndLaws
 pub mod SeveralLaws
 pub mod AcceptedLaws
+pub mod AnyLaws

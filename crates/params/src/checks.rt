@@ -1,8 +1,8 @@
 // The refusals of a call, of the search and of the chain count, in the order of document 01's table ("Numbers a job may hold"), before any work is done.
-ghost use Rattle.std.specs.Prelude.{◌≡◌, ◌*◌, ◌≤◌, length};
+ghost use Rattle.std.specs.Prelude.{◌≡◌, ◌*◌, ◌≤◌, Bool, List, ℤ, length};
 ghost use Rattle.params.specs.Numbers.{table_of, parts_of, first_of, start_after_end, falling_start, bad_size, bad_row, all_zero, empty_row, little_queue_room};
-ghost use Rattle.params.specs.Numbers.{length_rules, bound_rules, limit_rules, room_rules};
-ghost use Rattle.params.specs.CheckSteps.{Shaped};
+ghost use Rattle.params.specs.Numbers.{any_below, row_at, length_rules, bound_rules, limit_rules, room_rules};
+ghost use Rattle.params.specs.CheckSteps.{Shaped, Tests};
 ghost use Rattle.params.specs.Promises.{QueueRoomPromise, CallFaultPromise, PartsFaultPromise, CountFaultPromise};
 
 use crate::Settings;
@@ -57,12 +57,10 @@ fn start_after_end(starts: &[u64], ends: &[u64]) -> bool
     requires { length ends.now ≡ length starts.now }
     ensures { result ≡ start_after_end starts.now ends.now }
 {
-    let mut r: usize = 0;
-    while r < starts.len() {
-        if starts[r] > ends[r] {
+    for (r, start) in starts.iter().enumerate() {
+        if *start > ends[r] {
             return true;
         }
-        r += 1;
     }
     false
 }
@@ -71,13 +69,10 @@ fn falling_start(starts: &[u64]) -> bool
     requires { 1 ≤ length starts.now }
     ensures { result ≡ falling_start starts.now }
 {
-    let last = starts.len() - 1;
-    let mut r: usize = 0;
-    while r < last {
-        if starts[r + 1] < starts[r] {
+    for r in 1..starts.len() {
+        if starts[r] < starts[r - 1] {
             return true;
         }
-        r += 1;
     }
     false
 }
@@ -99,60 +94,45 @@ fn bound_fault(starts: &[u64], ends: &[u64]) -> u32
 fn bad_size(sizes: &[i32]) -> bool
     ensures { result ≡ bad_size sizes.now }
 {
-    let mut r: usize = 0;
-    while r < sizes.len() {
-        if magnitude(sizes[r]) > 131072 {
+    sizes.iter().any(|size| magnitude(*size) > 131072)
+}
+
+// Whether the test passes one of n rows of e entries each.
+fn any_row<F: Fn(&[i32]) -> bool>(features: &[i32], n: usize, e: usize, test: F) -> bool
+    requires shaped { length features.now ≡ n * e }
+    requires callable { F.IsAlwaysCallable test }
+    ensures { (passes : List ℤ → Bool) → Tests F.Fn test passes
+        → result ≡ any_below n (λ r. passes (row_at e features.now r)) }
+{
+    for r in 0..n {
+        if test(&features[r * e..][..e]) {
             return true;
         }
-        r += 1;
     }
     false
 }
 
+#[tactic(auto, unfolding(crate::specs::Numbers::bad_row))]
 fn bad_row(features: &[i32], n: usize, e: usize) -> bool
     requires { length features.now ≡ n * e }
     ensures { result ≡ bad_row e n features.now }
 {
-    let mut r: usize = 0;
-    while r < n {
-        let from = r * e;
-        let to = from + e;
-        if row_over(&features[from..to], 131072) {
-            return true;
-        }
-        r += 1;
-    }
-    false
+    any_row(features, n, e, |row| row_over(row, 131072))
 }
 
 // Left at the first entry that is not 0, so that rows which hold one cost little.
 fn all_zero(row: &[i32]) -> bool
     ensures { result ≡ all_zero row.now }
 {
-    let mut i: usize = 0;
-    while i < row.len() {
-        if magnitude(row[i]) != 0 {
-            return false;
-        }
-        i += 1;
-    }
-    true
+    row.iter().all(|entry| *entry == 0)
 }
 
+#[tactic(auto, unfolding(crate::specs::Numbers::empty_row))]
 fn empty_row(features: &[i32], n: usize, e: usize) -> bool
     requires { length features.now ≡ n * e }
     ensures { result ≡ empty_row e n features.now }
 {
-    let mut r: usize = 0;
-    while r < n {
-        let from = r * e;
-        let to = from + e;
-        if all_zero(&features[from..to]) {
-            return true;
-        }
-        r += 1;
-    }
-    false
+    any_row(features, n, e, all_zero)
 }
 
 // 9, 10 and 16.
@@ -188,14 +168,12 @@ fn limit_fault(
     ACCEPTED
 }
 
+#[tactic(auto, unfolding(crate::specs::Numbers::little_queue_room))]
 fn little_queue_room(s: Settings, v: usize, queue_room: usize) -> bool
     requires { (s.maxpaths ≤ 4095) × (v ≤ 64) }
     ensures { result ≡ little_queue_room s v queue_room }
 {
-    if !search_mode(s, v) {
-        return false;
-    }
-    queue_room < 1 + (s.maxpaths as usize + 1) * v
+    search_mode(s, v) && queue_room < 1 + (s.maxpaths as usize + 1) * v
 }
 
 // 11 and 12.
@@ -216,7 +194,7 @@ fn room_fault(s: Settings, v: usize, queue_room: usize, answer_room: usize) -> u
 pub fn queue_room(links: usize, keys: usize) -> usize
     ensures { QueueRoomPromise links keys result }
 {
-    if links < keys { links } else { keys }
+    links.min(keys)
 }
 
 // The number of the first refusal of a call, 0 where it is accepted.

@@ -10,58 +10,37 @@ use metrics::refusals::{ACCEPTED, BAD_FLOAT, BAD_K, BAD_NUMBER};
 pub fn search_mode(s: Settings, v: usize) -> bool
     ensures { SearchModePromise s v result }
 {
-    if s.one_to_one {
-        return false;
-    }
-    v <= s.maxnodes as usize
+    !s.one_to_one && v <= s.maxnodes as usize
 }
 
 // Not in 0 to `most`; so too a NaN, which no comparison accepts.
+#[tactic(auto, using(metrics::proofs::Casts::zero_is))]
 fn out_of_range(x: f32, most: f32) -> bool
     ensures { result ≡ outside most x }
 {
-    if x >= 0.0 {
-        if x <= most {
-            return false;
-        }
-    }
-    true
+    !(x >= 0.0 && x <= most)
 }
 
+#[tactic(auto, using(metrics::proofs::Casts::one_is, metrics::proofs::Casts::thousand_is), unfolding(crate::specs::Numbers::bad_float))]
 fn bad_float(s: Settings) -> bool
     ensures { result ≡ bad_float s }
 {
-    if out_of_range(s.sizesim, 1.0) {
-        return true;
-    }
-    if out_of_range(s.seqsim, 1.0) {
-        return true;
-    }
-    if out_of_range(s.fpenalty, 1000.0) {
-        return true;
-    }
-    out_of_range(s.gpenalty, 1000.0)
+    out_of_range(s.sizesim, 1.0)
+        || out_of_range(s.seqsim, 1.0)
+        || out_of_range(s.fpenalty, 1000.0)
+        || out_of_range(s.gpenalty, 1000.0)
 }
 
+#[tactic(auto, unfolding(crate::specs::Numbers::bad_number))]
 fn bad_number(s: Settings) -> bool
     ensures { result ≡ bad_number s }
 {
-    if s.maxpaths > 4095 {
-        return true;
-    }
-    if s.maxnodes > 65535 {
-        return true;
-    }
-    if s.fnmax > 65535 {
-        return true;
-    }
-    if s.pileupmax > 12 {
-        return true;
-    }
-    if s.minkfreq > 16777216 {
-        return true;
-    }
-    s.letters > 1
+    s.maxpaths > 4095
+        || s.maxnodes > 65535
+        || s.fnmax > 65535
+        || s.pileupmax > 12
+        || s.minkfreq > 16777216
+        || s.letters > 1
 }
 
 // The number of the settings' first refusal, 0 where they are accepted.

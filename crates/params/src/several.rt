@@ -15,13 +15,11 @@ fn bad_ends(ends: &[u64], n: usize) -> bool
     ensures { result ≡ ends_disagree ends.now n }
 {
     let mut before: u64 = 0;
-    let mut i: usize = 0;
-    while i < ends.len() {
-        if ends[i] < before {
+    for end in ends {
+        if *end < before {
             return true;
         }
-        before = ends[i];
-        i += 1;
+        before = *end;
     }
     before != n as u64
 }
@@ -30,13 +28,7 @@ fn bad_ends(ends: &[u64], n: usize) -> bool
 fn bad_stretches(part_ends: &[u64], feature_ends: &[u64], m: usize, f: usize) -> bool
     ensures { result ≡ stretches_disagree part_ends.now feature_ends.now m f }
 {
-    if feature_ends.len() != part_ends.len() {
-        return true;
-    }
-    if bad_ends(part_ends, m) {
-        return true;
-    }
-    bad_ends(feature_ends, f)
+    feature_ends.len() != part_ends.len() || bad_ends(part_ends, m) || bad_ends(feature_ends, f)
 }
 
 // 27, and 6 and 12 of the haplotypes' stretches. More than 64 variants are left to the 5 that comes before.
