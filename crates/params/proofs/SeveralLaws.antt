@@ -5,12 +5,12 @@ use native.Mathlib.Omega.{arith}
 use mathlib.Core.Path.{◌≡◌, refl, sym, ap, ◌∙◌}
 use mathlib.Core.Bool.{Bool, true, false, cond}
 use mathlib.Core.List.{List, [], ◌∷◌, ◌++◌}
-use borrow.Author.Tests.{le-ltb, le-leb, lt-leb}
+use borrow.Author.Tests.{le-ltb, le-leb, lt-leb, eqb-true, eqb-false}
 use lib.Dec.{ltb, eqb}
 use lib.ListN.{length}
 use Rattle.params.specs.Numbers.{Parts, Rule, rule, first_of, no_variants, little_queue_room, little_answer_room, settings_rules, shape_rules, bound_rules, limit_rules, first_fault}
 use Rattle.params.specs.Several.{Several, haplotypes, bad_count, stretches_disagree, shared_parts, several_fault}
-use Rattle.params.specs.TableOrder.{earlier_of}
+use Rattle.params.specs.TableOrder.{first_in_table, earlier_of}
 use Rattle.params.specs.SeveralChecks.{stretch_fault, shared_call}
 use Rattle.params.proofs.TableOrderLaws.{stands}
 
@@ -120,9 +120,12 @@ module _ (c : Several) where
 
   -- ---- by what the two checks found
   module _ {found other : ℕ} (is : found ≡ own) (others : other ≡ first_fault (shared_call c)) where
-    pub fault_shared : found ≡ 0 → other ≡ several_fault c
-    fault_shared good = others ∙ sym (stretches_good (sym is ∙ good))
-
-    pub fault_earlier : (found ≡ 0 → ⊥) → {fault : ℕ} → fault ≡ earlier_of other found → fault ≡ several_fault c
-    fault_earlier h f =
-        f ∙ (ap (λ (m : ℕ). earlier_of m found) others ∙ (ap (λ (m : ℕ). earlier_of (first_fault (shared_call c)) m) is ∙ sym (stretches_refused (λ z. h (is ∙ z)))))
+    -- what both found, joined
+    pub fault_joined : {fault : ℕ} → fault ≡ first_in_table other found → fault ≡ several_fault c
+    fault_joined {fault} f = go (eqb found 0) refl f
+      where
+        go : (t : Bool) → eqb found 0 ≡ t → fault ≡ cond t other (earlier_of other found) → fault ≡ several_fault c
+        go true q e = e ∙ others ∙ sym (stretches_good (sym is ∙ eqb-true found 0 q))
+        go false q e =
+            let h = eqb-false found 0 q in
+            e ∙ (ap (λ (m : ℕ). earlier_of m found) others ∙ (ap (λ (m : ℕ). earlier_of (first_fault (shared_call c)) m) is ∙ sym (stretches_refused (λ z. h (is ∙ z)))))

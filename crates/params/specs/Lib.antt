@@ -1,5 +1,6 @@
 pub mod Checked
 pub mod Numbers
+pub mod Held
 pub mod CheckSteps
 pub mod Several
 pub mod TableOrder

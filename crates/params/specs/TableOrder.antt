@@ -11,3 +11,7 @@ place_of n = cond (eqb n 27) (right_before 5) (cond (eqb n 14) (right_before 9) 
 -- the first in the table of a refusal that was found last and another one, or 0 for none, that was found before; who asks has a refusal of its own
 unfoldable pub earlier_of : ℕ → ℕ → ℕ
 earlier_of other own = cond (eqb other 0) own (cond (ltb (place_of other) (place_of own)) other own)
+
+-- of what two checks found apart, each a number or 0, the first in the table
+abbrev pub first_in_table : ℕ → ℕ → ℕ
+first_in_table other own = cond (eqb own 0) other (earlier_of other own)

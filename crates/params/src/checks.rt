@@ -1,56 +1,38 @@
 // The refusals of a call, of the search and of the chain count, in the order of document 01's table ("Numbers a job may hold"), before any work is done.
 ghost use Rattle.std.specs.Prelude.{◌≡◌, ◌*◌, ◌≤◌, Bool, List, ℤ, length};
-ghost use Rattle.params.specs.Numbers.{table_of, parts_of, first_of, start_after_end, falling_start, bad_size, bad_row, all_zero, empty_row, little_queue_room};
+ghost use Rattle.metrics.specs.Refusals.{told};
+ghost use Rattle.params.specs.Held.{table_held, parts_held};
+ghost use Rattle.params.specs.Numbers.{first_of, start_after_end, falling_start, bad_size, bad_row, all_zero, empty_row, little_queue_room};
 ghost use Rattle.params.specs.Numbers.{any_below, row_at, length_rules, bound_rules, limit_rules, room_rules};
 ghost use Rattle.params.specs.CheckSteps.{Shaped, Tests};
 ghost use Rattle.params.specs.Promises.{QueueRoomPromise, CallFaultPromise, PartsFaultPromise, CountFaultPromise};
 
-use crate::Settings;
 use crate::graphparams::{search_mode, settings_fault};
+use crate::{Parts, Settings, Table};
 use metrics::kmer::entries;
 use metrics::lanes::{magnitude, row_over};
-use metrics::refusals::{
-    ACCEPTED, ANSWER_ROOM, BAD_LENGTHS, BAD_NUMBER, BAD_ROW, BAD_SIZE, EMPTY_ROW, FALLING_START,
-    NO_VARIANTS, QUEUE_ROOM, START_AFTER_END, TOO_MANY,
-};
+use metrics::refusals::Refusal;
 
 // 4 to 6. The features are asked last, when V and m are known to be at most 64.
-fn length_fault(
-    e: usize,
-    starts: &[u64],
-    ends: &[u64],
-    sizes: &[i32],
-    features: &[i32],
-    part_sizes: &[i32],
-    part_features: &[i32],
-) -> u32
+fn length_fault(e: usize, table: &Table, parts: &Parts) -> Result<(), Refusal>
     requires { e ≤ 4096 }
-    ensures { let t = table_of starts.now ends.now sizes.now features.now in
-        let p = parts_of part_sizes.now part_features.now in
-        result ≡ first_of (length_rules e t p) }
+    ensures { told result ≡ first_of (length_rules e (table_held table.now) (parts_held parts.now)) }
 {
-    if starts.len() == 0 {
-        return NO_VARIANTS;
+    let v = table.starts.len();
+    let m = parts.sizes.len();
+    if v == 0 {
+        return Err(Refusal::NoVariants);
     }
-    if starts.len() > 64 {
-        return TOO_MANY;
+    if v > 64 || m > 64 {
+        return Err(Refusal::TooMany);
     }
-    if part_sizes.len() > 64 {
-        return TOO_MANY;
+    if table.ends.len() != v || table.sizes.len() != v || table.features.len() != v * e {
+        return Err(Refusal::BadLengths);
     }
-    if ends.len() != starts.len() {
-        return BAD_LENGTHS;
+    if parts.features.len() != m * e {
+        return Err(Refusal::BadLengths);
     }
-    if sizes.len() != starts.len() {
-        return BAD_LENGTHS;
-    }
-    if features.len() != starts.len() * e {
-        return BAD_LENGTHS;
-    }
-    if part_features.len() != part_sizes.len() * e {
-        return BAD_LENGTHS;
-    }
-    ACCEPTED
+    Ok(())
 }
 
 fn start_after_end(starts: &[u64], ends: &[u64]) -> bool
@@ -78,17 +60,17 @@ fn falling_start(starts: &[u64]) -> bool
 }
 
 // 7 and 8.
-fn bound_fault(starts: &[u64], ends: &[u64]) -> u32
+fn bound_fault(starts: &[u64], ends: &[u64]) -> Result<(), Refusal>
     requires { (1 ≤ length starts.now) × (length ends.now ≡ length starts.now) }
-    ensures { result ≡ first_of (bound_rules starts.now ends.now) }
+    ensures { told result ≡ first_of (bound_rules starts.now ends.now) }
 {
     if start_after_end(starts, ends) {
-        return START_AFTER_END;
+        return Err(Refusal::StartAfterEnd);
     }
     if falling_start(starts) {
-        return FALLING_START;
+        return Err(Refusal::FallingStart);
     }
-    ACCEPTED
+    Ok(())
 }
 
 fn bad_size(sizes: &[i32]) -> bool
@@ -136,36 +118,21 @@ fn empty_row(features: &[i32], n: usize, e: usize) -> bool
 }
 
 // 9, 10 and 16.
-fn limit_fault(
-    e: usize,
-    starts: &[u64],
-    ends: &[u64],
-    sizes: &[i32],
-    features: &[i32],
-    part_sizes: &[i32],
-    part_features: &[i32],
-) -> u32
-    requires { Shaped e starts.now features.now part_sizes.now part_features.now }
-    ensures { let t = table_of starts.now ends.now sizes.now features.now in
-        let p = parts_of part_sizes.now part_features.now in
-        result ≡ first_of (limit_rules e t p) }
+fn limit_fault(e: usize, table: &Table, parts: &Parts) -> Result<(), Refusal>
+    requires { Shaped e (table_held table.now) (parts_held parts.now) }
+    ensures { told result ≡ first_of (limit_rules e (table_held table.now) (parts_held parts.now)) }
 {
-    if bad_size(sizes) {
-        return BAD_SIZE;
+    let v = table.starts.len();
+    if bad_size(table.sizes) || bad_size(parts.sizes) {
+        return Err(Refusal::BadSize);
     }
-    if bad_size(part_sizes) {
-        return BAD_SIZE;
+    if bad_row(table.features, v, e) || bad_row(parts.features, parts.sizes.len(), e) {
+        return Err(Refusal::BadRow);
     }
-    if bad_row(features, starts.len(), e) {
-        return BAD_ROW;
+    if empty_row(table.features, v, e) {
+        return Err(Refusal::EmptyRow);
     }
-    if bad_row(part_features, part_sizes.len(), e) {
-        return BAD_ROW;
-    }
-    if empty_row(features, starts.len(), e) {
-        return EMPTY_ROW;
-    }
-    ACCEPTED
+    Ok(())
 }
 
 #[tactic(auto, unfolding(crate::specs::Numbers::little_queue_room))]
@@ -177,17 +144,17 @@ fn little_queue_room(s: Settings, v: usize, queue_room: usize) -> bool
 }
 
 // 11 and 12.
-fn room_fault(s: Settings, v: usize, queue_room: usize, answer_room: usize) -> u32
+fn room_fault(s: Settings, v: usize, queue_room: usize, answer_room: usize) -> Result<(), Refusal>
     requires { (s.maxpaths ≤ 4095) × (v ≤ 64) }
-    ensures { result ≡ first_of (room_rules s v queue_room answer_room) }
+    ensures { told result ≡ first_of (room_rules s v queue_room answer_room) }
 {
     if little_queue_room(s, v, queue_room) {
-        return QUEUE_ROOM;
+        return Err(Refusal::QueueRoom);
     }
     if answer_room < v {
-        return ANSWER_ROOM;
+        return Err(Refusal::AnswerRoom);
     }
-    ACCEPTED
+    Ok(())
 }
 
 // The queue holds as many entries as both of its slices have.
@@ -197,77 +164,63 @@ pub fn queue_room(links: usize, keys: usize) -> usize
     links.min(keys)
 }
 
-// The number of the first refusal of a call, 0 where it is accepted.
+// The first refusal of a call.
+#[tactic(auto, unfolding(crate::specs::Numbers::first_fault), using(metrics::proofs::Entries::never_more))]
 pub fn call_fault(
     s: Settings,
-    starts: &[u64],
-    ends: &[u64],
-    sizes: &[i32],
-    features: &[i32],
-    part_sizes: &[i32],
-    part_features: &[i32],
+    table: &Table,
+    parts: &Parts,
     queue_room: usize,
     answer_room: usize,
-) -> u32
-    ensures { CallFaultPromise s starts.now ends.now sizes.now features.now part_sizes.now
-        part_features.now queue_room answer_room result }
+) -> Result<(), Refusal>
+    ensures { CallFaultPromise s table.now parts.now queue_room answer_room result }
 {
-    let settings = settings_fault(s);
-    if settings != ACCEPTED {
-        return settings;
-    }
+    settings_fault(s)?;
     let e = entries(s.k);
-    let shape = length_fault(e, starts, ends, sizes, features, part_sizes, part_features);
-    if shape != ACCEPTED {
-        return shape;
-    }
-    let bounds = bound_fault(starts, ends);
-    if bounds != ACCEPTED {
-        return bounds;
-    }
-    let limits = limit_fault(e, starts, ends, sizes, features, part_sizes, part_features);
-    if limits != ACCEPTED {
-        return limits;
-    }
-    room_fault(s, starts.len(), queue_room, answer_room)
+    length_fault(e, table, parts)?;
+    bound_fault(table.starts, table.ends)?;
+    limit_fault(e, table, parts)?;
+    room_fault(s, table.starts.len(), queue_room, answer_room)
 }
 
 // 5, 6, 9 and 10 of one haplotype's parts alone.
-pub fn parts_fault(k: u8, part_sizes: &[i32], part_features: &[i32]) -> u32
-    ensures { PartsFaultPromise k part_sizes.now part_features.now result }
+#[tactic(auto, using(metrics::proofs::Entries::never_more))]
+pub fn parts_fault(k: u8, parts: &Parts) -> Result<(), Refusal>
+    ensures { PartsFaultPromise k parts.now result }
 {
     let e = entries(k);
-    let m = part_sizes.len();
+    let m = parts.sizes.len();
     if m > 64 {
-        return TOO_MANY;
+        return Err(Refusal::TooMany);
     }
-    if part_features.len() != m * e {
-        return BAD_LENGTHS;
+    if parts.features.len() != m * e {
+        return Err(Refusal::BadLengths);
     }
-    if bad_size(part_sizes) {
-        return BAD_SIZE;
+    if bad_size(parts.sizes) {
+        return Err(Refusal::BadSize);
     }
-    if bad_row(part_features, m, e) {
-        return BAD_ROW;
+    if bad_row(parts.features, m, e) {
+        return Err(Refusal::BadRow);
     }
-    ACCEPTED
+    Ok(())
 }
 
-// The number of the first refusal of a chain count, 0 where it is accepted.
-pub fn count_fault(starts: &[u64], ends: &[u64], cap: u32) -> u32
+// The first refusal of a chain count.
+#[tactic(auto, unfolding(crate::specs::Numbers::chain_count_fault))]
+pub fn count_fault(starts: &[u64], ends: &[u64], cap: u32) -> Result<(), Refusal>
     ensures { CountFaultPromise starts.now ends.now cap result }
 {
     if cap > 4096 {
-        return BAD_NUMBER;
+        return Err(Refusal::BadNumber);
     }
-    if starts.len() == 0 {
-        return NO_VARIANTS;
+    if starts.is_empty() {
+        return Err(Refusal::NoVariants);
     }
     if starts.len() > 64 {
-        return TOO_MANY;
+        return Err(Refusal::TooMany);
     }
     if ends.len() != starts.len() {
-        return BAD_LENGTHS;
+        return Err(Refusal::BadLengths);
     }
     bound_fault(starts, ends)
 }

@@ -4,7 +4,7 @@ ghost use Rattle.params.specs.Numbers.{outside, bad_float, bad_number};
 ghost use Rattle.params.specs.Promises.{SearchModePromise, SettingsFaultPromise};
 
 use crate::Settings;
-use metrics::refusals::{ACCEPTED, BAD_FLOAT, BAD_K, BAD_NUMBER};
+use metrics::refusals::Refusal;
 
 // Whether a job is searched, and not matched one to one.
 pub fn search_mode(s: Settings, v: usize) -> bool
@@ -43,21 +43,19 @@ fn bad_number(s: Settings) -> bool
         || s.letters > 1
 }
 
-// The number of the settings' first refusal, 0 where they are accepted.
-pub fn settings_fault(s: Settings) -> u32
+// The settings' first refusal.
+#[tactic(auto, unfolding(crate::specs::Numbers::bad_k))]
+pub fn settings_fault(s: Settings) -> Result<(), Refusal>
     ensures { SettingsFaultPromise s result }
 {
-    if s.k < 1 {
-        return BAD_K;
-    }
-    if s.k > 6 {
-        return BAD_K;
+    if s.k < 1 || s.k > 6 {
+        return Err(Refusal::BadK);
     }
     if bad_float(s) {
-        return BAD_FLOAT;
+        return Err(Refusal::BadFloat);
     }
     if bad_number(s) {
-        return BAD_NUMBER;
+        return Err(Refusal::BadNumber);
     }
-    ACCEPTED
+    Ok(())
 }

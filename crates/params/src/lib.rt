@@ -24,3 +24,19 @@ pub struct Settings {
     pub fpenalty: f32,
     pub gpenalty: f32,
 }
+
+// What a caller lends of a table of variants, row by row: V is the number of starts.
+#[derive(Clone, Copy)]
+pub struct Table<'a> {
+    pub starts: &'a [u64],
+    pub ends: &'a [u64],
+    pub sizes: &'a [i32],
+    pub features: &'a [i32],
+}
+
+// What a caller lends of the parts of a haplotype, or of several one behind the other: m is the number of sizes.
+#[derive(Clone, Copy)]
+pub struct Parts<'a> {
+    pub sizes: &'a [i32],
+    pub features: &'a [i32],
+}

@@ -1,11 +1,9 @@
 // The order of the table of refusals, for two refusals that were found apart.
 ghost use Rattle.std.specs.Prelude.{◌≡◌};
 ghost use Rattle.params.specs.TableOrder.{right_before, place_of};
-ghost use Rattle.params.specs.Promises.{EarlierPromise};
+ghost use Rattle.params.specs.Promises.{EarlierPromise, FirstInTablePromise};
 
-use metrics::refusals::{
-    ACCEPTED, BAD_SIZE, EMPTY_ROW, QUEUE_ROOM, REPEATED_NUMBER, TOO_MANY, TOO_MANY_HAPLOTYPES,
-};
+use metrics::refusals::{ACCEPTED, Refusal};
 
 // Where a number stands in the table: each has a place, and right before it is one more, in which 27, 14 and 16 stand.
 fn right_before(n: u32) -> u64
@@ -17,19 +15,19 @@ fn right_before(n: u32) -> u64
 fn place_of(n: u32) -> u64
     ensures { result ≡ place_of n }
 {
-    if n == TOO_MANY_HAPLOTYPES {
-        return right_before(TOO_MANY);
+    if n == Refusal::TooManyHaplotypes as u32 {
+        return right_before(Refusal::TooMany as u32);
     }
-    if n == REPEATED_NUMBER {
-        return right_before(BAD_SIZE);
+    if n == Refusal::RepeatedNumber as u32 {
+        return right_before(Refusal::BadSize as u32);
     }
-    if n == EMPTY_ROW {
-        return right_before(QUEUE_ROOM);
+    if n == Refusal::EmptyRow as u32 {
+        return right_before(Refusal::QueueRoom as u32);
     }
     2 * (n as u64) + 1
 }
 
-// The first in the table of two refusals: another one, or 0 where there is none, and an own one, which who asks has.
+// The first in the table of two refusals, as numbers: another one, or 0 where there is none, and an own one, which who asks has.
 pub fn earlier(other: u32, own: u32) -> u32
     ensures { EarlierPromise other own result }
 {
@@ -40,4 +38,22 @@ pub fn earlier(other: u32, own: u32) -> u32
         return other;
     }
     own
+}
+
+// The first in the table of what two checks found apart.
+#[tactic(auto, unfolding(crate::specs::TableOrder::earlier_of))]
+pub fn first_in_table(other: Result<(), Refusal>, own: Result<(), Refusal>) -> Result<(), Refusal>
+    ensures { FirstInTablePromise other own result }
+{
+    let Err(refusal) = own else {
+        return other;
+    };
+    let Err(found) = other else {
+        return own;
+    };
+    if place_of(found.into()) < place_of(refusal.into()) {
+        other
+    } else {
+        own
+    }
 }

@@ -1,88 +1,73 @@
--- Each group of rows that gives 0 has no row whose test holds, which is what the next group asks and what places its answer in the whole list.
--- Assumes nothing.
-use mathlib.Core.Path.{◌≡◌, refl, sym, ◌∙◌}
-use Prim.Native.Nat.{◌^◌}
-use Rattle.metrics.proofs.Entries.{power, never_more}
-use Rattle.params.specs.Numbers.{table_of, parts_of, settings_rules, length_rules, bound_rules, limit_rules}
+-- Each group of rows finds the first refusal, or has no row whose test holds, which is what the next group asks and what places its answer in the whole list.
+use Rattle.std.proofs.Common.{◌≡◌, ◌^◌, refl, sym, ◌∙◌, rules}
+use Rattle.metrics.specs.Refusals.{refusal_number}
+use Rattle.metrics.proofs.Entries.{power}
+use Rattle.metrics.proofs.RefusalLaws.{never_zero}
+use Rattle.params.specs.Held.{table_held, parts_held}
+use Rattle.params.specs.Numbers.{Call, call_of, settings_rules, length_rules, bound_rules, limit_rules, first_fault}
 use Rattle.params.proofs.CheckLaws.{Passed, none_given}
 use Rattle.params.proofs.CheckedLaws.{Settled, settled, Measured, measured}
-use Rattle.params.proofs.CallLaws.{by_settings, by_lengths, by_bounds, by_limits, by_rooms}
-use Rattle.params.proofs.checks.call_fault.Goals.{After-entries-e, Else-bounds-ne-ACCEPTED, Else-limits-ne-ACCEPTED, Else-settings-ne-ACCEPTED, Else-shape-ne-ACCEPTED}
+use Rattle.params.proofs.CallLaws.{by_lengths, by_bounds, by_limits, by_rooms}
+use Rattle.params.proofs.checks.call_fault.Goals.{Start, After-entries-e, In_ok-length_fault, In_ok-bound_fault, In_ok-limit_fault}
 use Rattle.params.proofs.checks.call_fault.Goals as goal
 
-settings_passed : (c : Else-settings-ne-ACCEPTED) → Passed (settings_rules c.args.s)
-settings_passed c = none_given (settings_rules c.args.s) refl (sym c.settings_fault-settings.ensures ∙ c.if-settings-ne-ACCEPTED.false)
+abbrev call : Start → Call
+call c = let a = c.args in call_of a.s (table_held a.table.now) (parts_held a.parts.now) a.queue_room a.answer_room
 
-known : (c : Else-settings-ne-ACCEPTED) → Settled c.args.s
+settings_passed : (c : After-entries-e) → Passed (settings_rules c.args.s)
+settings_passed c = none_given (settings_rules c.args.s) refl (sym c.in_ok-settings_fault.ensures)
+
+known : (c : After-entries-e) → Settled c.args.s
 known c = settled c.args.s (settings_passed c)
 
 width : (c : After-entries-e) → c.entries-e.result ≡ 4 ^ c.args.s.k
-width c =
-    let settings_passed_here : Passed (settings_rules c.args.s) = none_given (settings_rules c.args.s) refl (sym c.settings_fault-settings.ensures ∙ c.if-settings-ne-ACCEPTED.false) in
-    let known_here : Settled c.args.s = settled c.args.s (settings_passed_here) in
-    c.entries-e.ensures ∙ power _ (known_here).k_high
+width c = c.entries-e.ensures ∙ power _ (known c).k_high
 
-lengths_passed : (c : Else-shape-ne-ACCEPTED) → Passed (length_rules (4 ^ c.args.s.k) ((table_of c.args.starts.now c.args.ends.now c.args.sizes.now c.args.features.now))
-    ((parts_of c.args.part_sizes.now c.args.part_features.now)))
-lengths_passed c =
-    let settings_passed_here : Passed (settings_rules c.args.s) = none_given (settings_rules c.args.s) refl (sym c.settings_fault-settings.ensures ∙ c.if-settings-ne-ACCEPTED.false) in
-    let known_here : Settled c.args.s = settled c.args.s (settings_passed_here) in
-    let width_here : c.entries-e.result ≡ 4 ^ c.args.s.k = c.entries-e.ensures ∙ power _ (known_here).k_high in
-    none_given (length_rules (4 ^ c.args.s.k) ((table_of c.args.starts.now c.args.ends.now c.args.sizes.now c.args.features.now))
-    ((parts_of c.args.part_sizes.now c.args.part_features.now))) refl (sym (rw (width_here) at c.length_fault-shape.ensures) ∙ c.if-shape-ne-ACCEPTED.false)
+lengths_passed : (c : In_ok-length_fault) → let a = c.args in Passed (length_rules c.entries-e.result (table_held a.table.now) (parts_held a.parts.now))
+lengths_passed c = none_given (length_rules c.entries-e.result (table_held c.args.table.now) (parts_held c.args.parts.now)) refl (sym c.in_ok-length_fault.ensures)
 
-shaped : (c : Else-shape-ne-ACCEPTED) → Measured (4 ^ c.args.s.k) ((table_of c.args.starts.now c.args.ends.now c.args.sizes.now c.args.features.now))
-    ((parts_of c.args.part_sizes.now c.args.part_features.now))
-shaped c = measured (4 ^ c.args.s.k) ((table_of c.args.starts.now c.args.ends.now c.args.sizes.now c.args.features.now)) ((parts_of c.args.part_sizes.now c.args.part_features.now)) (lengths_passed c)
+shaped : (c : In_ok-length_fault) → let a = c.args in Measured c.entries-e.result (table_held a.table.now) (parts_held a.parts.now)
+shaped c = measured _ _ _ (lengths_passed c)
 
-bounds_passed : (c : Else-bounds-ne-ACCEPTED) → Passed (bound_rules c.args.starts.now c.args.ends.now)
-bounds_passed c =
-    none_given (bound_rules c.args.starts.now c.args.ends.now) refl (sym c.bound_fault-bounds.ensures ∙ c.if-bounds-ne-ACCEPTED.false)
+bounds_passed : (c : In_ok-bound_fault) → let t = table_held c.args.table.now in Passed (bound_rules t.starts t.ends)
+bounds_passed c = let t = table_held c.args.table.now in none_given (bound_rules t.starts t.ends) refl (sym c.in_ok-bound_fault.ensures)
 
-limits_passed : (c : Else-limits-ne-ACCEPTED) → Passed (limit_rules (4 ^ c.args.s.k) ((table_of c.args.starts.now c.args.ends.now c.args.sizes.now c.args.features.now))
-    ((parts_of c.args.part_sizes.now c.args.part_features.now)))
-limits_passed c =
-    let settings_passed_here : Passed (settings_rules c.args.s) = none_given (settings_rules c.args.s) refl (sym c.settings_fault-settings.ensures ∙ c.if-settings-ne-ACCEPTED.false) in
-    let known_here : Settled c.args.s = settled c.args.s (settings_passed_here) in
-    let width_here : c.entries-e.result ≡ 4 ^ c.args.s.k = c.entries-e.ensures ∙ power _ (known_here).k_high in
-    none_given (limit_rules (4 ^ c.args.s.k) ((table_of c.args.starts.now c.args.ends.now c.args.sizes.now c.args.features.now)) ((parts_of c.args.part_sizes.now c.args.part_features.now))) refl
-    (sym (rw (width_here) at c.limit_fault-limits.ensures) ∙ c.if-limits-ne-ACCEPTED.false)
+limits_passed : (c : In_ok-limit_fault) → let a = c.args in Passed (limit_rules c.entries-e.result (table_held a.table.now) (parts_held a.parts.now))
+limits_passed c = none_given (limit_rules c.entries-e.result (table_held c.args.table.now) (parts_held c.args.parts.now)) refl (sym c.in_ok-limit_fault.ensures)
 
-pub returns-then-settings-ne-ACCEPTED : goal.returns-then-settings-ne-ACCEPTED
-returns-then-settings-ne-ACCEPTED c = by_settings _ _ c.settings_fault-settings.ensures c.if-settings-ne-ACCEPTED.true
+pub returns-in_err-length_fault : goal.returns-in_err-length_fault
+returns-in_err-length_fault c =
+    let at = goal.at.returns-in_err-length_fault c in
+    let e = at.After-entries-e in
+    let h : refusal_number c.in_err-length_fault.field-0.0 ≡ first_fault (call at.Start) =
+    by_lengths (call at.Start) _ (settings_passed e) (rw (width e) at c.in_err-length_fault.ensures) (never_zero _) in
+    search (rules, h)
 
-pub length_fault-shape-requires : goal.length_fault-shape-requires
-length_fault-shape-requires c = rw c.entries-e.ensures (never_more _)
+pub returns-in_err-bound_fault : goal.returns-in_err-bound_fault
+returns-in_err-bound_fault c =
+    let at = goal.at.returns-in_err-bound_fault c in
+    let e = at.After-entries-e in
+    let h : refusal_number c.in_err-bound_fault.field-0.0 ≡ first_fault (call at.Start) =
+    by_bounds (call at.Start) _ (settings_passed e) (rw (width e) at (lengths_passed at.In_ok-length_fault)) c.in_err-bound_fault.ensures (never_zero _) in
+    search (rules, h)
 
-pub returns-then-shape-ne-ACCEPTED : goal.returns-then-shape-ne-ACCEPTED
-returns-then-shape-ne-ACCEPTED c =
-    by_lengths _ _ (settings_passed (goal.at.returns-then-shape-ne-ACCEPTED c).Else-settings-ne-ACCEPTED)
-    (rw (width (goal.at.returns-then-shape-ne-ACCEPTED c).After-entries-e) at c.length_fault-shape.ensures) c.if-shape-ne-ACCEPTED.true
-
-pub bound_fault-bounds-requires : goal.bound_fault-bounds-requires
-bound_fault-bounds-requires c = let m = shaped (goal.at.bound_fault-bounds-requires c).Else-shape-ne-ACCEPTED in (m.some, m.ends_are)
-
-pub returns-then-bounds-ne-ACCEPTED : goal.returns-then-bounds-ne-ACCEPTED
-returns-then-bounds-ne-ACCEPTED c =
-    by_bounds _ _ (settings_passed (goal.at.returns-then-bounds-ne-ACCEPTED c).Else-settings-ne-ACCEPTED)
-    (lengths_passed (goal.at.returns-then-bounds-ne-ACCEPTED c).Else-shape-ne-ACCEPTED) c.bound_fault-bounds.ensures c.if-bounds-ne-ACCEPTED.true
-
-pub limit_fault-limits-requires : goal.limit_fault-limits-requires
-limit_fault-limits-requires c =
-    let m = shaped (goal.at.limit_fault-limits-requires c).Else-shape-ne-ACCEPTED in
-    rw (width (goal.at.limit_fault-limits-requires c).After-entries-e) (record { rows = m.rows; part_rows = m.part_rows })
-
-pub returns-then-limits-ne-ACCEPTED : goal.returns-then-limits-ne-ACCEPTED
-returns-then-limits-ne-ACCEPTED c =
-    by_limits _ _ (settings_passed (goal.at.returns-then-limits-ne-ACCEPTED c).Else-settings-ne-ACCEPTED)
-    (lengths_passed (goal.at.returns-then-limits-ne-ACCEPTED c).Else-shape-ne-ACCEPTED) (bounds_passed (goal.at.returns-then-limits-ne-ACCEPTED c).Else-bounds-ne-ACCEPTED)
-    (rw (width (goal.at.returns-then-limits-ne-ACCEPTED c).After-entries-e) at c.limit_fault-limits.ensures) c.if-limits-ne-ACCEPTED.true
+pub returns-in_err-limit_fault : goal.returns-in_err-limit_fault
+returns-in_err-limit_fault c =
+    let at = goal.at.returns-in_err-limit_fault c in
+    let e = at.After-entries-e in
+    let h : refusal_number c.in_err-limit_fault.field-0.0 ≡ first_fault (call at.Start) =
+    by_limits (call at.Start) _ (settings_passed e) (rw (width e) at (lengths_passed at.In_ok-length_fault)) (bounds_passed at.In_ok-bound_fault)
+    (rw (width e) at c.in_err-limit_fault.ensures) (never_zero _) in
+    search (rules, h)
 
 pub room_fault-requires : goal.room_fault-requires
-room_fault-requires c = ((known (goal.at.room_fault-requires c).Else-settings-ne-ACCEPTED).maxpaths, (shaped (goal.at.room_fault-requires c).Else-shape-ne-ACCEPTED).few)
+room_fault-requires c =
+    let at = goal.at.room_fault-requires c in
+    ((known at.After-entries-e).maxpaths, (shaped at.In_ok-length_fault).few)
 
 pub returns : goal.returns
 returns c =
-    by_rooms _ _ (settings_passed (goal.at.returns c).Else-settings-ne-ACCEPTED) (lengths_passed (goal.at.returns c).Else-shape-ne-ACCEPTED)
-    (bounds_passed (goal.at.returns c).Else-bounds-ne-ACCEPTED) (limits_passed (goal.at.returns c).Else-limits-ne-ACCEPTED)
-    c.room_fault.ensures
+    let at = goal.at.returns c in
+    let e = at.After-entries-e in
+    by_rooms (call at.Start) _ (settings_passed e) (rw (width e) at (lengths_passed at.In_ok-length_fault)) (bounds_passed at.In_ok-bound_fault)
+    (rw (width e) at (limits_passed at.In_ok-limit_fault)) c.room_fault.ensures
