@@ -198,6 +198,7 @@ pub fn queue_room(links: usize, keys: usize) -> usize
 }
 
 // The number of the first refusal of a call, 0 where it is accepted.
+#[tactic(auto, using(metrics::proofs::Entries::never_more), unfolding(crate::specs::Numbers::first_fault))]
 pub fn call_fault(
     s: Settings,
     starts: &[u64],
@@ -254,6 +255,7 @@ pub fn parts_fault(k: u8, part_sizes: &[i32], part_features: &[i32]) -> u32
 }
 
 // The number of the first refusal of a chain count, 0 where it is accepted.
+#[tactic(auto, unfolding(crate::specs::Numbers::chain_count_fault))]
 pub fn count_fault(starts: &[u64], ends: &[u64], cap: u32) -> u32
     ensures { CountFaultPromise starts.now ends.now cap result }
 {

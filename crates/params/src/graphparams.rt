@@ -44,6 +44,7 @@ fn bad_number(s: Settings) -> bool
 }
 
 // The number of the settings' first refusal, 0 where they are accepted.
+#[tactic(auto, unfolding(crate::specs::Numbers::bad_k))]
 pub fn settings_fault(s: Settings) -> u32
     ensures { SettingsFaultPromise s result }
 {

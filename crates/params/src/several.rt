@@ -32,6 +32,7 @@ fn bad_stretches(part_ends: &[u64], feature_ends: &[u64], m: usize, f: usize) ->
 }
 
 // 27, and 6 and 12 of the haplotypes' stretches. More than 64 variants are left to the 5 that comes before.
+#[tactic(auto, unfolding(crate::specs::SeveralChecks::stretch_fault))]
 fn stretch_fault(
     v: usize,
     part_ends: &[u64],
