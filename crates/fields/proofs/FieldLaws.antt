@@ -1,41 +1,30 @@
 -- Fields stored one behind the other, and read back: a number is put together from halves, so each law is about two of them. Assumes nothing.
 use Prim.Native.Nat.{ℕ, zero, suc, ◌+◌, ◌-◌, ◌*◌, ◌/◌, ◌%◌, ◌≤◌, ◌<◌}
 use native.Mathlib.Omega.{arith}
-use native.Mathlib.Numerals.{add-one}
 use native.Mathlib.Nat.{add-zero, add-suc, suc-add}
 use mathlib.Core.Path.{◌≡◌, refl, sym, ap, subst, ◌∙◌}
 use mathlib.Core.List.{List, [], ◌∷◌, ◌++◌}
-use mathlib.Core.Bool.{true, false}
-use lib.IntN.{ℤ, pos, negsuc, ◌-ℤ◌, nat_abs}
-use lib.ListN.{length, get_or, set}
+use lib.IntN.{ℤ, pos, negsuc}
+use lib.ListN.{length, get_or, set, drop, length-drop, drop_of_length-le}
+use lib.Seq.{take-length}
+use denote.Ref.{Bor}
+use mathlib.Core.Logic.{inl, inr}
+use Rattle.std.specs.Option.{unwrap_or}
+use Rattle.std.specs.Slice.{IsGetRangeResult}
+use Rattle.std.proofs.Common.{Option, Some, None}
 use lib.Seq.{sets, set_out}
 use borrow.Author.Tests.{lt-ltb, le-ltb}
-use mir.Val.{SFits, Fits, to_z, of_z}
-use mir.ValLaws.{to_z-of_z}
-use lib.Signed.{lt_z, non_neg}
-use lib.Dec.{T}
-use borrow.Author.Tests.{ltb-true}
-use native.Mathlib.Nat.{not-suc-le-zero}
-use mir.Syntax.{w32}
+use mir.Val.{SFits}
+use mir.Syntax.{w32, w64}
+use Rattle.std.specs.Int.{to_le_bytes, from_le_bytes}
+use Rattle.std.specs.Fn.{Called}
+use Rattle.std.specs.Array.{IsFromFnResultFrom}
+use denote.Param.Members.{Mut}
 use Rattle.fields.specs.Fields.{le2, le4, le8, signed_of, bytes2, bytes4, bytes8, word_of}
 
 pub sets_append : (l : List ℕ) (i : ℕ) (xs ys : List ℕ) → sets l i (xs ++ ys) ≡ sets (sets l i xs) (i + length xs) ys
 sets_append l i [] ys = rw (add-zero i)
 sets_append l i (x ∷ xs) ys = sets_append (set l i x) (suc i) xs ys ∙ ap (λ (n : ℕ). sets (sets (set l i x) (suc i) xs) n ys) (suc-add i (length xs) ∙ sym (add-suc i (length xs)))
-
-pub two_stores : (l m n : List ℕ) (i x : ℕ) → m ≡ set l i (x % 256) → n ≡ set m (i + 1) (x / 256 % 256) → n ≡ sets l i (bytes2 x)
-unfolding bytes2
-two_stores l m n i x p q = q ∙ rw (p, add-one i)
-
--- a number's two halves, one after the other
-module _ (l m n : List ℕ) (i : ℕ) where
-  pub four_stores : (x : ℕ) → m ≡ sets l i (bytes2 (x % 65536)) → n ≡ sets m (i + 2) (bytes2 (x / 65536)) → n ≡ sets l i (bytes4 x)
-  unfolding bytes4 bytes2
-  four_stores x p q = q ∙ rw p (sym (sets_append l i (bytes2 (x % 65536)) (bytes2 (x / 65536))))
-
-  pub eight_stores : (x : ℕ) → m ≡ sets l i (bytes4 (x % 4294967296)) → n ≡ sets m (i + 4) (bytes4 (x / 4294967296)) → n ≡ sets l i (bytes8 x)
-  unfolding bytes8 bytes4 bytes2
-  eight_stores x p q = q ∙ rw p (sym (sets_append l i (bytes4 (x % 4294967296)) (bytes4 (x / 4294967296))))
 
 -- ---- the round trip
 two_back : (x : ℕ) → x < 65536 → x % 256 + 256 * (x / 256 % 256) ≡ x
@@ -66,66 +55,6 @@ signed_back (negsuc n) f =
 pub eight_back : (x a c : ℕ) → x < 18446744073709551616 → a ≡ x % 4294967296 → c ≡ x / 4294967296 → a + 4294967296 * c ≡ x
 eight_back x a c h p q = omega arith
 
--- ---- a signed number's bits
-turn : (n : ℕ) → negsuc 0 -ℤ negsuc n ≡ pos n
-turn n = let h : suc n - 1 ≡ n = omega arith in simp (le-ltb (suc n) 1 (omega arith), h)
-
-below : ℤ → ℕ
-below (pos n) = 0
-below (negsuc n) = n
-
--- w stands for what the machine reads back from the bits of z
-module _ (z w : ℤ) (same : w ≡ z) (f : SFits w32 z) where
-  neg_is : (v : ℤ) → lt_z v (pos 0) ≡ true → v ≡ negsuc (below v)
-  unfolding below
-  neg_is (pos n) e = let h = ltb-true n 0 e in absurd (not-suc-le-zero h)
-  neg_is (negsuc n) e = refl
-
-  f' : SFits w32 w
-  f' = subst (λ (v : ℤ). SFits w32 v) (sym same) f
-
-  module _ (t : lt_z w (pos 0) ≡ true) where
-    w_is : w ≡ negsuc (below w)
-    w_is = neg_is w t
-
-    small : below w < 2147483648
-    small = (subst (λ (v : ℤ). SFits w32 v) w_is f').sfits
-
-    turned : negsuc 0 -ℤ w ≡ pos (below w)
-    turned = ap (λ (v : ℤ). negsuc 0 -ℤ v) w_is ∙ turn (below w)
-
-    pub neg_sub : SFits w32 (negsuc 0 -ℤ w)
-    neg_sub = subst (λ (v : ℤ). SFits w32 v) (sym turned) (record { sfits = small })
-
-    read : to_z w32 (of_z w32 (negsuc 0 -ℤ w)) ≡ pos (below w)
-    read = to_z-of_z w32 _ neg_sub ∙ turned
-
-    pub neg_cast : T (non_neg (to_z w32 (of_z w32 (negsuc 0 -ℤ w)))) × Fits w32 (nat_abs (to_z w32 (of_z w32 (negsuc 0 -ℤ w))))
-    neg_cast = subst (λ (v : ℤ). T (non_neg v) × Fits w32 (nat_abs v)) (sym read) (tt, record { fits = let h = small in omega arith })
-
-    pub neg_low : nat_abs (to_z w32 (of_z w32 (negsuc 0 -ℤ w))) ≤ 4294967295
-    neg_low = subst (λ (v : ℤ). nat_abs v ≤ 4294967295) (sym read) (let h = small in omega arith)
-
-    pub neg_bits : 4294967295 - nat_abs (to_z w32 (of_z w32 (negsuc 0 -ℤ w))) ≡ word_of z
-    unfolding word_of
-    neg_bits = ap (λ (v : ℤ). 4294967295 - nat_abs v) read ∙ ap word_of (sym w_is ∙ same)
-
-  module _ (t : lt_z w (pos 0) ≡ false) where
-    pub pos_cast : T (non_neg w) × Fits w32 (nat_abs w)
-    pos_cast = at w t f'
-      where
-        at : (v : ℤ) → lt_z v (pos 0) ≡ false → SFits w32 v → T (non_neg v) × Fits w32 (nat_abs v)
-        at (pos n) e g = (tt, record { fits = let h : n < 2147483648 = g.sfits in omega arith })
-        at (negsuc n) e g = let x : ◌≡◌ {A = ℕ} 0 1 = cc in omega arith
-
-    pub pos_bits : nat_abs w ≡ word_of z
-    unfolding word_of
-    pos_bits = at w t ∙ ap word_of same
-      where
-        at : (v : ℤ) → lt_z v (pos 0) ≡ false → nat_abs v ≡ word_of v
-        at (pos n) e = refl
-        at (negsuc n) e = let x : ◌≡◌ {A = ℕ} 0 1 = cc in omega arith
-
 pub long4 : (x : ℕ) → length (bytes4 x) ≡ 4
 unfolding bytes4 bytes2
 long4 x = refl
@@ -148,27 +77,78 @@ past [] i d h = refl
 past (x ∷ l) zero d h = let z : ⊥ = omega arith in absurd z
 past (x ∷ l) (suc i) d h = past l i d (omega arith)
 
-two_past : (s : List ℕ) (i : ℕ) → length s ≤ i → le2 s i ≡ 0
-unfolding le2
-two_past s i h =
-    let a : 0 ≡ get_or s i 0 = past s i 0 h in
-    let b : 0 ≡ get_or s (i + 1) 0 = past s (i + 1) 0 (omega arith) in
-    omega arith
-
-pub four_past : (s : List ℕ) (i : ℕ) → length s ≤ i → 0 ≡ le4 s i
-unfolding le4
-four_past s i h =
-    let a : le2 s i ≡ 0 = two_past s i h in
-    let b : le2 s (i + 2) ≡ 0 = two_past s (i + 2) (omega arith) in
-    omega arith
-
-pub eight_past : (s : List ℕ) (i : ℕ) → length s ≤ i → 0 ≡ le8 s i
-unfolding le8
-eight_past s i h =
-    let a : 0 ≡ le4 s i = four_past s i h in
-    let b : 0 ≡ le4 s (i + 4) = four_past s (i + 4) (omega arith) in
-    omega arith
-
 pub sets_past : (l : List ℕ) (i : ℕ) (xs : List ℕ) → length l ≤ i → l ≡ sets l i xs
 sets_past l i [] h = refl
 sets_past l i (x ∷ xs) h = rw (set_out l i x h) (sets_past l (suc i) xs (omega arith))
+
+-- ---- std's bytes of a number, lowest first
+pub four_bytes : (x : ℕ) → to_le_bytes w32 x ≡ bytes4 x
+unfolding bytes4 bytes2
+four_bytes x =
+    let a : x % 256 ≡ x % 65536 % 256 = omega arith in
+    let b : x / 256 % 256 ≡ x % 65536 / 256 % 256 = omega arith in
+    let d : x / 16777216 % 256 ≡ x / 65536 / 256 % 256 = omega arith in
+    rw (a, b, d)
+
+pub eight_bytes : (x : ℕ) → to_le_bytes w64 x ≡ bytes8 x
+unfolding bytes8 bytes4 bytes2
+eight_bytes x =
+    let a : x % 256 ≡ x % 4294967296 % 65536 % 256 = omega arith in
+    let b : x / 256 % 256 ≡ x % 4294967296 % 65536 / 256 % 256 = omega arith in
+    let c : x / 65536 % 256 ≡ x % 4294967296 / 65536 % 256 = omega arith in
+    let d : x / 16777216 % 256 ≡ x % 4294967296 / 65536 / 256 % 256 = omega arith in
+    let e : x / 4294967296 % 256 ≡ x / 4294967296 % 65536 % 256 = omega arith in
+    let f : x / 1099511627776 % 256 ≡ x / 4294967296 % 65536 / 256 % 256 = omega arith in
+    let g : x / 281474976710656 % 256 ≡ x / 4294967296 / 65536 % 256 = omega arith in
+    let h : x / 72057594037927936 % 256 ≡ x / 4294967296 / 65536 / 256 % 256 = omega arith in
+    rw (a, b, c, d, e, f, g, h)
+
+-- ---- a number of bytes that were read one by one
+module _ (s bytes : List ℕ) (at : ℕ) where
+  abbrev Read : ℕ → Type 0
+  Read n = (i : ℕ) → i < n → get_or bytes i 0 ≡ get_or s (at + i) 0
+
+  two_read : (i : ℕ) → get_or bytes i 0 ≡ get_or s (at + i) 0 → get_or bytes (i + 1) 0 ≡ get_or s (at + (i + 1)) 0 → get_or bytes i 0 + 256 * get_or bytes (i + 1) 0 ≡ le2 s (at + i)
+  unfolding le2
+  two_read i a b = let e : at + i + 1 ≡ at + (i + 1) = omega arith in rw (e, a, b)
+
+  pub four_read : Read 4 → from_le_bytes w32 bytes ≡ le4 s at
+  unfolding le4
+  four_read read =
+      let low = two_read 0 (read 0 (omega arith)) (read 1 (omega arith)) in
+      let high = two_read 2 (read 2 (omega arith)) (read 3 (omega arith)) in
+      let zero : at + 0 ≡ at = omega arith in
+      omega (arith, rw zero at low, high)
+
+  pub eight_read : Read 8 → from_le_bytes w64 bytes ≡ le8 s at
+  unfolding le8 le4
+  eight_read read =
+      let a = two_read 0 (read 0 (omega arith)) (read 1 (omega arith)) in
+      let b = two_read 2 (read 2 (omega arith)) (read 3 (omega arith)) in
+      let d = two_read 4 (read 4 (omega arith)) (read 5 (omega arith)) in
+      let e = two_read 6 (read 6 (omega arith)) (read 7 (omega arith)) in
+      let zero : at + 0 ≡ at = omega arith in
+      let six : at + 4 + 2 ≡ at + 6 = omega arith in
+      rw six (omega (arith, rw zero at a, b, d, e))
+
+-- ---- what calls that leave the closure as it was gave
+module _ {F B : Type 0} (g : Mut F (ℕ × Unit {0}) B) (f : F) (value : ℕ → B) (call : (i : ℕ) (y : B) (q : F) → Called g f (i, tt) y q → (q ≡ f) × (y ≡ value i)) where
+  pub each_given : (ys : List B) (none : B) (i n : ℕ) → IsFromFnResultFrom g f ys i n → (k : ℕ) → k < n → get_or ys (i + k) none ≡ value (i + k)
+  each_given ys none i zero made k h = absurd (omega arith)
+  each_given ys none i (suc n) made zero h =
+      let here : i + 0 ≡ i = omega arith in
+      rw here (made.2.1 none ∙ (call i made.1 made.0 made.3).1)
+  each_given ys none i (suc n) made (suc k) h =
+      let on : i + suc k ≡ i + 1 + k = omega arith in
+      let same = (call i made.1 made.0 made.3).0 in
+      rw on (each_given ys none (i + 1) n (subst (λ (q : F). IsFromFnResultFrom g q ys (i + 1) n) same made.4) k (omega arith))
+
+  pub all_given : (ys : List B) (none : B) (n : ℕ) → IsFromFnResultFrom g f ys 0 n → (k : ℕ) → k < n → get_or ys k none ≡ value k
+  all_given ys none n made k h = let from : 0 + k ≡ k = omega arith in rw from at (each_given ys none 0 n made k h)
+
+-- ---- what is left from a place on, none where the slice has ended
+pub left_is : (s : List ℕ) (at : ℕ) (found : Option (Bor (List ℕ))) (none : Bor (List ℕ)) → none.now ≡ [] → IsGetRangeResult s at (length s) found → (unwrap_or found none).now ≡ drop at s
+left_is s at None none e h = elim h.0 [ inl low ↦ e ∙ sym (drop_of_length-le s (omega arith)) | inr low ↦ absurd (omega arith) ]
+left_is s at (Some x) none e h =
+    let all : length s - at ≡ length (drop at s) = omega (arith, length-drop at s) in
+    h.0.2 ∙ rw all (take-length (drop at s))

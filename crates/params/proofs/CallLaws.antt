@@ -1,10 +1,14 @@
 -- Where each group of a call's rows stands in the whole list: the groups before it have passed, and it finds a fault or is the last. Assumes nothing.
-use mathlib.Core.Path.{◌≡◌}
+use mathlib.Core.Path.{◌≡◌, refl}
 use Prim.Native.Nat.{ℕ, ◌^◌}
 use mathlib.Core.List.{List, ◌++◌}
 use lib.ListN.{length}
 use Rattle.params.specs.Numbers.{Call, Rule, first_of, settings_rules, length_rules, bound_rules, limit_rules, room_rules, first_fault}
-use Rattle.params.proofs.CheckLaws.{Passed, stops, goes_on}
+use Rattle.metrics.specs.Letters.{entry_count}
+use Rattle.metrics.proofs.Entries.{power}
+use Rattle.params.specs.declared.Settings.{Settings}
+use Rattle.params.proofs.CheckLaws.{Passed, none_given, stops, goes_on}
+use Rattle.params.proofs.CheckedLaws.{settled}
 
 module _ (c : Call) where
   abbrev settings_rows : List Rule
@@ -54,3 +58,7 @@ module _ (c : Call) where
       (goes_on length_rows (bound_rows ++ (limit_rows ++ room_rows)) found b
       (goes_on bound_rows (limit_rows ++ room_rows) found d
       (goes_on limit_rows room_rows found l e)))
+
+-- where the settings pass, a row has 4 ^ k entries
+pub row_width : (s : Settings) → first_of (settings_rules s) ≡ 0 → entry_count s.k ≡ 4 ^ s.k
+row_width s e = power s.k (settled s (none_given (settings_rules s) refl e)).k_high

@@ -7,7 +7,7 @@ use native.Mathlib.Numerals.{add-one}
 use native.Mathlib.Nat.{mul-le-mul, mul-le-mul_right, suc-mul}
 use mathlib.Core.Bool.{Bool, true, false, not, cond, ◌&&◌, ◌||◌}
 use mathlib.Core.List.{List, [], ◌∷◌, ◌++◌}
-use borrow.Author.Tests.{ltb-true, ltb-false, lt-ltb, le-ltb, le-leb, lt-leb, eq-eqb, ne_eqb}
+use borrow.Author.Tests.{ltb-true, ltb-false, le-leb, lt-leb, eq-eqb, ne_eqb}
 use lib.Dec.{leb, ltb, eqb}
 use lib.IntN.{ℤ}
 use lib.ListN.{length, take, drop}
@@ -18,13 +18,6 @@ use Rattle.params.specs.Numbers.{Rule, first_of, any_below, row_at}
 or_true : (a : Bool) → (a || true) ≡ true
 or_true true = refl
 or_true false = refl
-
--- a limit asked of a number that was computed
-pub over : (limit asked n : ℕ) → asked ≡ n → limit < asked → ltb limit n ≡ true
-over limit asked n e h = lt-ltb limit n (omega arith)
-
-pub within : (limit asked n : ℕ) → asked ≡ n → asked ≤ limit → ltb limit n ≡ false
-within limit asked n e h = le-ltb limit n (omega arith)
 
 pub differ : (a b : ℕ) → (a ≡ b → ⊥) → not (eqb a b) ≡ true
 differ a b h = rw (ne_eqb a b h)
@@ -46,15 +39,9 @@ or_here t rest e = rw e
 pub or_later : (t rest found : Bool) → t ≡ false → rest ≡ found → (t || rest) ≡ found
 or_later t rest found e h = rw e h
 
--- the range of k
-pub k_low : (k : ℕ) → k < 1 → not (leb 1 k && leb k 6) ≡ true
-k_low k h = rw (lt-leb 1 k h)
-
+-- past the range of k
 pub k_high : (k : ℕ) → 6 < k → not (leb 1 k && leb k 6) ≡ true
 k_high k h = rw (le-leb 1 k (omega arith), lt-leb k 6 h)
-
-pub k_inside : (k : ℕ) → 1 ≤ k → k ≤ 6 → not (leb 1 k && leb k 6) ≡ false
-k_inside k l h = rw (le-leb 1 k l, le-leb k 6 h)
 
 -- every row has a number
 abbrev pub numbered : List Rule → Bool
@@ -95,22 +82,11 @@ none_given (r ∷ rows) n e =
     go true q e positive rest = absurd (omega arith)
     go false q e positive rest = (q, rest e)
 
--- V is at most maxnodes, or it is over it
-at_most : (v most : ℕ) → leb v most ≡ not (ltb most v)
-at_most v most = go (ltb most v) refl
-  where
-    go : (b : Bool) → ltb most v ≡ b → leb v most ≡ not b
-    go true e = lt-leb v most (ltb-true most v e)
-    go false e = le-leb v most (ltb-false most v e)
-
-pub searched : (asked : Bool) (v most : ℕ) → asked ≡ false → leb v most ≡ not (asked || ltb most v)
-searched asked v most e = rw e (at_most v most)
-
 -- few rows of few entries are few entries
 pub few_in_all : (a b limit most : ℕ) → a ≤ limit → b ≤ most → a * b ≤ limit * most
 few_in_all a b limit most h l = mul-le-mul h l
 
-pub row_inside : (r n e : ℕ) → r < n → r * e + e ≤ n * e
+row_inside : (r n e : ℕ) → r < n → r * e + e ≤ n * e
 row_inside r n e h = omega (arith, mul-le-mul_right e h, suc-mul r e)
 
 -- a row, cut from all that stands from its first entry on

@@ -28,6 +28,7 @@ fn place_of(n: u32) -> u64
 }
 
 // The first in the table of two refusals, as numbers: another one, or 0 where there is none, and an own one, which who asks has.
+#[tactic(auto, unfolding(crate::specs::TableOrder::earlier_of))]
 pub fn earlier(other: u32, own: u32) -> u32
     ensures { EarlierPromise other own result }
 {
