@@ -1,5 +1,5 @@
 -- The numbers of documents 01 and 02 for the refusals. 0 is an accepted call.
-use Rattle.std.specs.Prelude.{ℕ, Result, Ok, Err}
+use Rattle.std.specs.Prelude.{ℕ, cond, ◌==◌, Result, Ok, Err}
 use Rattle.metrics.specs.declared.refusals.Refusal.{Refusal}
 use Rattle.metrics.specs.declared.refusals.Refusal.TheVariants.{BadK, BadFloat, BadNumber, NoVariants, TooMany, BadLengths, StartAfterEnd, FallingStart, BadSize, BadRow, QueueRoom, AnswerRoom, TooManyLetters, RepeatedNumber, EmptyRow, UnknownKind, CutShort, OutOfPlace, BadPadding, BadFlag, BytesAfterEnd, TooLarge, TooManyHaplotypes, NumberNotRow, LettersOne, LittleRoom, BadLine, SecondName, TooManyLines, LittleTextRoom, MissingRow, MissingVersion, VersionsUsed, LittleBookRoom, BrokenBook, NotItsSheet, BadSamples, NoSuchSample, UnequalSamples, CoverageOverflow, LongProposal}
 
@@ -45,6 +45,18 @@ refusal_number NoSuchSample = 51
 refusal_number UnequalSamples = 52
 refusal_number CoverageOverflow = 53
 refusal_number LongProposal = 54
+
+-- the refusal that has this number; a number that none has is taken for the last
+abbrev pub refusal_of : ℕ → Refusal
+refusal_of n =
+    cond (n == 1) BadK (cond (n == 2) BadFloat (cond (n == 3) BadNumber (cond (n == 4) NoVariants (cond (n == 5) TooMany (cond (n == 6) BadLengths (
+    cond (n == 7) StartAfterEnd (cond (n == 8) FallingStart (cond (n == 9) BadSize (cond (n == 10) BadRow (cond (n == 11) QueueRoom (
+    cond (n == 12) AnswerRoom (cond (n == 13) TooManyLetters (cond (n == 14) RepeatedNumber (cond (n == 16) EmptyRow (cond (n == 20) UnknownKind (
+    cond (n == 21) CutShort (cond (n == 22) OutOfPlace (cond (n == 23) BadPadding (cond (n == 24) BadFlag (cond (n == 25) BytesAfterEnd (
+    cond (n == 26) TooLarge (cond (n == 27) TooManyHaplotypes (cond (n == 28) NumberNotRow (cond (n == 29) LettersOne (cond (n == 30) LittleRoom (
+    cond (n == 40) BadLine (cond (n == 41) SecondName (cond (n == 42) TooManyLines (cond (n == 43) LittleTextRoom (cond (n == 44) MissingRow (
+    cond (n == 45) MissingVersion (cond (n == 46) VersionsUsed (cond (n == 47) LittleBookRoom (cond (n == 48) BrokenBook (cond (n == 49) NotItsSheet (
+    cond (n == 50) BadSamples (cond (n == 51) NoSuchSample (cond (n == 52) UnequalSamples (cond (n == 53) CoverageOverflow (LongProposal))))))))))))))))))))))))))))))))))))))))
 
 -- what a call came to, as one number
 abbrev pub told : {A : Type 0} → Result A Refusal → ℕ
