@@ -88,9 +88,6 @@ pub record Passing (m : ℕ) (a b : List ℤ) (z : Sums) (i : ℕ) (s : Sums) : 
   pub some_d : s.d + sum_d m (drop i a) (drop i b) ≡ z.d + sum_d m a b
   pub some_n : s.n + sum_n m (drop i a) (drop i b) ≡ z.n + sum_n m a b
 
-pub none_passing : (m : ℕ) (a b : List ℤ) (z : Sums) → Passing m a b z 0 z
-none_passing m a b z = record { some_d = refl; some_n = refl }
-
 module _ {m : ℕ} {a b : List ℤ} {z s : Sums} {i : ℕ} (y : Passable z a b m) (h : i < length a) (w : Passing m a b z i s) where
   second_in : i < length b
   second_in = omega (arith, y.even)

@@ -386,22 +386,20 @@ pub(crate) fn score_chain(
         StandsFor floor (coded_score plan part_features.now codes.now list_sizes.now chain) result }
 {
     let mut best = none_tried();
-    let mut i: usize = 0;
-    while i < codes.len() {
+    for (i, code) in codes.iter().enumerate() {
         best = try_list(
             plan,
             features,
             chain,
             chain_size,
             part_features,
-            codes[i],
+            *code,
             list_sizes[i],
             chosen,
             scratch,
             floor,
             best,
         );
-        i += 1;
     }
     best.scored
 }

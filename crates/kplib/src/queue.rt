@@ -61,11 +61,8 @@ pub(crate) fn rows_size(sizes: &[i32], rows: &[u32]) -> i32
     ensures { result ≡ size_of sizes.now rows.now }
 {
     let mut size: i32 = 0;
-    let mut i: usize = 0;
-    while i < rows.len() {
-        let r = rows[i] as usize;
-        size += sizes[r];
-        i += 1;
+    for r in rows {
+        size += sizes[*r as usize];
     }
     size
 }
@@ -121,9 +118,7 @@ pub(crate) fn queue_extensions(
     let first = end.0 as usize;
     let parent = (entry as u32) * 64;
     let mut added: usize = 0;
-    let mut r = sizes.len();
-    while r > first {
-        r -= 1;
+    for r in (first..sizes.len()).rev() {
         if may[r] {
             let new = used + added;
             links[new] = parent + (r as u32);

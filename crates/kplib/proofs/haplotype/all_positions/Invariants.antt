@@ -8,7 +8,4 @@ use Rattle.kplib.proofs.haplotype.all_positions.Given as goal
 
 abbrev pub invariant-loop-i : goal.invariant-loop-i
 invariant-loop-i l =
-    (l.i ≤ l.m) × (length l.chosen ≡ length l.initial.chosen) × (take l.i l.chosen ++ positions_from l.i (l.m - l.i) ≡ whole_of l.m)
-
-abbrev pub decreases-loop-i : goal.decreases-loop-i
-decreases-loop-i l = l.m - l.i
+    take l.i l.chosen ++ positions_from l.i (l.m - l.i) ≡ whole_of l.m

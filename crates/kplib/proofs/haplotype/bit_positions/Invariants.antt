@@ -7,7 +7,4 @@ use Rattle.kplib.specs.Scoring.{positions_of_bits}
 use Rattle.kplib.proofs.haplotype.bit_positions.Given as goal
 
 abbrev pub invariant-loop-i : goal.invariant-loop-i
-invariant-loop-i l = (l.i ≤ l.m) × (l.d ≤ l.i) × (length l.chosen ≡ length l.initial.chosen) × (take l.d l.chosen ++ positions_of_bits l.i (l.m - l.i) l.v ≡ positions_of_bits 0 l.m l.bits)
-
-abbrev pub decreases-loop-i : goal.decreases-loop-i
-decreases-loop-i l = l.m - l.i
+invariant-loop-i l = (l.d ≤ l.i) × (take l.d l.chosen ++ positions_of_bits l.i (l.m - l.i) l.v ≡ positions_of_bits 0 l.m l.bits)
