@@ -5,4 +5,4 @@ pub returns-then-seq-s : goal.returns-then-seq-s
 returns-then-seq-s c = rw c.if-seq-s.true
 
 pub returns : goal.returns
-returns c = rw (c.if-seq-s.false, c.score_value-score.ensures)
+returns c = rw (c.if-seq-s.false, c.score_value.ensures)
