@@ -36,18 +36,6 @@ the_value r x v e f = cc
 pub no_refusal : (r : Sim) (n : ℕ) (x v : Float) → r ≡ Refused n → r ≡ Value v → x ≡ v
 no_refusal r n x v e f = let z : ◌≡◌ {A = ℕ} 0 1 = cc in absurd (omega arith)
 
-pub gap_squished : (t : Bool) → t ≡ true → (n len : ℕ) → gap_of t n len ≡ len - 1
-gap_squished true e n len = refl
-gap_squished false e n len = let z : ◌≡◌ {A = ℕ} 0 1 = cc in absurd (omega arith)
-
-pub gap_apart : (t : Bool) → t ≡ false → (n len : ℕ) → gap_of t n len ≡ (n - len) + (len - n)
-gap_apart false e n len = refl
-gap_apart true e n len = let z : ◌≡◌ {A = ℕ} 0 1 = cc in absurd (omega arith)
-
-pub partial_target : (n : ℕ) → (n ≡ 0 → ⊥) → Partial n ≡ target_of n
-partial_target zero h = absurd (h refl)
-partial_target (suc n) h = refl
-
 pub two_is : of_bits binary32 1073741824 ≡ whole 2
 unfolding of_bits of_int
 two_is = refl

@@ -11,6 +11,7 @@ use lib.IntN.{ℤ, nat_abs}
 use lib.Ieee.{Float, lt, le, binary32, of_bits}
 use mir.Syntax.{w32}
 use mir.Val.{to_z, of_z}
+use Rattle.std.specs.Int.{int_signum}
 use Rattle.metrics.specs.Similarity.{whole, sizesim_value, sum_d, sum_n}
 use Rattle.metrics.proofs.Casts.{one_is}
 use Rattle.metrics.proofs.FloatOrder.{le→Le}
@@ -21,7 +22,7 @@ use Rattle.kplib.specs.declared.pathscore.Scored.{Scored}
 use Rattle.kplib.specs.declared.pathscore.Target.{Target}
 use Rattle.kplib.specs.declared.pathscore.Terms.{Terms}
 use Rattle.kplib.specs.declared.pathscore.Scores.{Scores}
-use Rattle.kplib.proofs.WordLaws.{back}
+use Rattle.kplib.proofs.WordLaws.{back, same_sign, other_sign}
 use Rattle.kplib.proofs.RoundingLaws.{Safe, kept, score_grows, score_safe}
 use Rattle.kplib.proofs.StandLaws.{pass_floor, pass_best, tried}
 
@@ -36,12 +37,12 @@ module _ {c : ℤ} {chainLen : ℕ} {l : ℤ} {listLen partial : ℕ} (y : Testa
   pub as_read : Testable (to_z w32 (of_z w32 c)) chainLen (to_z w32 (of_z w32 l)) listLen partial
   as_read = rw (chain_as_read, list_as_read) y
 
-  module _ {a b : ℕ} (f : a ≡ sign (to_z w32 (of_z w32 c))) (g : b ≡ sign (to_z w32 (of_z w32 l))) where
-    same_sign : a ≡ b → eqb (sign c) (sign l) ≡ true
-    same_sign h = eq-eqb (sign c) (sign l) (ap sign (sym chain_as_read) ∙ sym f ∙ h ∙ g ∙ ap sign list_as_read)
+  module _ {a b : ℤ} (f : a ≡ int_signum (to_z w32 (of_z w32 c))) (g : b ≡ int_signum (to_z w32 (of_z w32 l))) where
+    alike : of_z w32 a ≡ of_z w32 b → eqb (sign c) (sign l) ≡ true
+    alike h = eq-eqb (sign c) (sign l) (same_sign c l (rw chain_as_read at f) (rw list_as_read at g) h)
 
-    other_sign : (a ≡ b → ⊥) → eqb (sign c) (sign l) ≡ false
-    other_sign h = ne_eqb (sign c) (sign l) (λ k. h (f ∙ ap sign chain_as_read ∙ k ∙ ap sign (sym list_as_read) ∙ sym g))
+    unlike : (of_z w32 a ≡ of_z w32 b → ⊥) → eqb (sign c) (sign l) ≡ false
+    unlike h = ne_eqb (sign c) (sign l) (other_sign c l (rw chain_as_read at f) (rw list_as_read at g) h)
 
   pub size_is : {z : Float} → z ≡ sizesim_value (nat_abs (to_z w32 (of_z w32 c))) (nat_abs (to_z w32 (of_z w32 l))) → z ≡ sizesim_value (nat_abs c) (nat_abs l)
   size_is e = e ∙ rw (chain_as_read, list_as_read)
@@ -57,26 +58,26 @@ module _ {s : Settings} {c : ℤ} {chainRow : List ℤ} {chainLen : ℕ} {l : �
   unfolding list_score
   by_squish h = rw (sym te ∙ h)
 
-  module _ (tf : t ≡ false) {a b : ℕ} (f : a ≡ sign (to_z w32 (of_z w32 c))) (g : b ≡ sign (to_z w32 (of_z w32 l))) where
-    pub by_sign : (a ≡ b → ⊥) → None ≡ list_score s (total c chainRow chainLen) (total l listRow listLen) partial
+  module _ (tf : t ≡ false) {a b : ℤ} (f : a ≡ int_signum (to_z w32 (of_z w32 c))) (g : b ≡ int_signum (to_z w32 (of_z w32 l))) where
+    pub by_sign : (of_z w32 a ≡ of_z w32 b → ⊥) → None ≡ list_score s (total c chainRow chainLen) (total l listRow listLen) partial
     unfolding list_score
-    by_sign h = rw (sym te ∙ tf, other_sign y.tests f g h)
+    by_sign h = rw (sym te ∙ tf, unlike y.tests f g h)
 
-    module _ (h : a ≡ b) {z : Float} (ze : z ≡ sizesim_value (nat_abs (to_z w32 (of_z w32 c))) (nat_abs (to_z w32 (of_z w32 l)))) where
+    module _ (h : of_z w32 a ≡ of_z w32 b) {z : Float} (ze : z ≡ sizesim_value (nat_abs (to_z w32 (of_z w32 c))) (nat_abs (to_z w32 (of_z w32 l)))) where
       pub by_size : lt z s.sizesim ≡ true → None ≡ list_score s (total c chainRow chainLen) (total l listRow listLen) partial
       unfolding list_score
-      by_size k = rw (sym te ∙ tf, same_sign y.tests f g h, rw (size_is y.tests ze) at k)
+      by_size k = rw (sym te ∙ tf, alike y.tests f g h, rw (size_is y.tests ze) at k)
 
       module _ (zf : lt z s.sizesim ≡ false) {q : Float} (qe : q ≡ seqsim_of_rows s.minkfreq chainRow listRow) where
         pub by_seq : lt q s.seqsim ≡ true → None ≡ list_score s (total c chainRow chainLen) (total l listRow listLen) partial
         unfolding list_score
-        by_seq k = rw (sym te ∙ tf, same_sign y.tests f g h, rw (size_is y.tests ze) at zf, rw qe at k)
+        by_seq k = rw (sym te ∙ tf, alike y.tests f g h, rw (size_is y.tests ze) at zf, rw qe at k)
 
         pub by_score : lt q s.seqsim ≡ false → {w : ℕ} → w ≡ gap_of s.squish listLen chainLen → {x : Float} → x ≡ score_value s q z partial w
             → Some (scores_of x z q) ≡ list_score s (total c chainRow chainLen) (total l listRow listLen) partial
         unfolding list_score
         by_score k we xe =
-            rw (xe, we, size_is y.tests ze, qe, sym te ∙ tf, same_sign y.tests f g h, rw (size_is y.tests ze) at zf, rw qe at k)
+            rw (xe, we, size_is y.tests ze, qe, sym te ∙ tf, alike y.tests f g h, rw (size_is y.tests ze) at zf, rw qe at k)
 
 -- ---- whether it may win
 module _ (s : Settings) (floor best : Float) {c : ℤ} {chainLen : ℕ} {l : ℤ} {listLen partial : ℕ} (y : Testable c chainLen l listLen partial)
@@ -85,23 +86,23 @@ module _ (s : Settings) (floor best : Float) {c : ℤ} {chainLen : ℕ} {l : ℤ
   unfolding may_win
   lost_by_squish h = rw (sym te ∙ h)
 
-  module _ (tf : t ≡ false) {a b : ℕ} (f : a ≡ sign (to_z w32 (of_z w32 c))) (g : b ≡ sign (to_z w32 (of_z w32 l))) where
-    pub lost_by_sign : (a ≡ b → ⊥) → false ≡ may_win s c chainLen l listLen partial floor best
+  module _ (tf : t ≡ false) {a b : ℤ} (f : a ≡ int_signum (to_z w32 (of_z w32 c))) (g : b ≡ int_signum (to_z w32 (of_z w32 l))) where
+    pub lost_by_sign : (of_z w32 a ≡ of_z w32 b → ⊥) → false ≡ may_win s c chainLen l listLen partial floor best
     unfolding may_win
-    lost_by_sign h = rw (sym te ∙ tf, other_sign y f g h)
+    lost_by_sign h = rw (sym te ∙ tf, unlike y f g h)
 
-    module _ (h : a ≡ b) {r : Terms} (re : r ≡ terms_of s (to_z w32 (of_z w32 c)) chainLen (to_z w32 (of_z w32 l)) listLen partial floor best) where
+    module _ (h : of_z w32 a ≡ of_z w32 b) {r : Terms} (re : r ≡ terms_of s (to_z w32 (of_z w32 c)) chainLen (to_z w32 (of_z w32 l)) listLen partial floor best) where
       pub lost_by_size : lt r.size s.sizesim ≡ true → false ≡ may_win s c chainLen l listLen partial floor best
       unfolding may_win
       lost_by_size k =
           let j : lt (sizesim_value (nat_abs c) (nat_abs l)) s.sizesim ≡ true = sym (ap (λ (x : Terms). lt x.size s.sizesim) (terms_read y s re)) ∙ k in
-          rw (sym te ∙ tf, same_sign y f g h, j)
+          rw (sym te ∙ tf, alike y f g h, j)
 
       pub by_bound : lt r.size s.sizesim ≡ false → {w : Bool} → w ≡ may_score s r (of_bits binary32 0x3f80_0000) → w ≡ may_win s c chainLen l listLen partial floor best
       unfolding may_win
       by_bound k {w} e =
           let j : lt (sizesim_value (nat_abs c) (nat_abs l)) s.sizesim ≡ false = sym (ap (λ (x : Terms). lt x.size s.sizesim) (terms_read y s re)) ∙ k in
-          rw (sym te ∙ tf, same_sign y f g h, j) (e ∙ rw (one_is, terms_read y s re))
+          rw (sym te ∙ tf, alike y f g h, j) (e ∙ rw (one_is, terms_read y s re))
 
 -- ---- a list that could not win, with its own seqsim or one that is no less
 module _ (s : Settings) (terms : Terms) (full best : Scored) (e : best.score ≡ terms.best) (x z q : Float) (partial : ℕ) (st : StandsFor terms.floor full best) where

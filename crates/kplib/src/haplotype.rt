@@ -12,8 +12,7 @@ fn lengths_of(m: usize, fnmax: u32) -> usize
     requires { m ≤ 64 }
     ensures { (result ≡ lengths_of m fnmax) × (result ≤ m) }
 {
-    let n = fnmax as usize;
-    if n < m { n + 1 } else { m }
+    m.min(fnmax as usize + 1)
 }
 
 // A list's size with position p's added.

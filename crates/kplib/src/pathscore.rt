@@ -66,16 +66,6 @@ pub(crate) fn nothing() -> Scored
     }
 }
 
-fn sign_of(x: i32) -> u32
-    requires { nat_abs x ≤ 8388608 }
-    ensures { result ≡ sign x }
-{
-    if x < 0 {
-        return 0;
-    }
-    if 0 < x { 2 } else { 1 }
-}
-
 // sizesim of two sizes that the lower crate does not refuse.
 fn size_alike(a: i32, b: i32) -> f32
     requires { (nat_abs a ≤ 8388608) × (nat_abs b ≤ 8388608) }
@@ -102,13 +92,7 @@ fn gap_of(squish: bool, n: usize, len: usize) -> usize
     requires { (n ≤ 64) × (len ≤ 64) }
     ensures { (result ≡ gap_of squish n len) × (result ≤ 64) }
 {
-    if squish {
-        if len == 0 {
-            return 0;
-        }
-        return len - 1;
-    }
-    if n < len { len - n } else { n - len }
+    if squish { len.saturating_sub(1) } else { n.abs_diff(len) }
 }
 
 fn score_value(s: Settings, seq: f32, size: f32, partial: usize, g: usize) -> f32
@@ -122,7 +106,7 @@ fn score_value(s: Settings, seq: f32, size: f32, partial: usize, g: usize) -> f3
 fn accepts_none(squish: bool, len: usize) -> bool
     ensures { result ≡ (squish && eqb len 0) }
 {
-    if squish { len == 0 } else { false }
+    squish && len == 0
 }
 
 // A list's score against a chain, both summed.
@@ -142,7 +126,7 @@ pub(crate) fn list_score(
     if accepts_none(s.squish, chain_len) {
         return None;
     }
-    if sign_of(chain_size) != sign_of(list_size) {
+    if chain_size.signum() != list_size.signum() {
         return None;
     }
     let size = size_alike(chain_size, list_size);
@@ -165,10 +149,10 @@ fn target_of(partial: usize) -> Target
     requires { partial ≤ 64 }
     ensures { result ≡ target_of partial }
 {
-    if partial == 0 {
-        return Target::Whole;
+    match partial {
+        0 => Target::Whole,
+        left_out => Target::Partial(left_out as u32),
     }
-    Target::Partial(partial as u32)
 }
 
 // The best, or the new one where it is greater.
@@ -254,7 +238,7 @@ fn may_win(
     if accepts_none(s.squish, chain_len) {
         return false;
     }
-    if sign_of(chain_size) != sign_of(list_size) {
+    if chain_size.signum() != list_size.signum() {
         return false;
     }
     let terms = terms_of(

@@ -38,21 +38,12 @@ pub(crate) fn read_chain(links: &[u32], entry: usize, chain: &mut [u32]) -> usiz
     at
 }
 
-// How far a is from b.
-fn apart(a: i32, b: i32) -> u64
-    requires { (nat_abs a ≤ 8388608) × (nat_abs b ≤ 8388608) }
-    ensures { result ≡ nat_abs (a -ℤ b) }
-{
-    let d = a - b;
-    if d < 0 { (0 - d) as u64 } else { d as u64 }
-}
-
 // The key of an entry whose chain has this size.
 pub(crate) fn key(size: i32, target: i32, entry: usize) -> u64
     requires { (nat_abs size ≤ 8388608) × (nat_abs target ≤ 8388608) × (entry < 1048576) }
     ensures { result ≡ key_of (nat_abs (size -ℤ target)) entry }
 {
-    apart(size, target) * 1048576 + (entry as u64)
+    u64::from(size.abs_diff(target)) * 1048576 + (entry as u64)
 }
 
 // The size of a chain.
