@@ -1,14 +1,11 @@
 -- What the distance of two sizes needs: small differences fit. Assumes nothing.
-use mathlib.Core.Path.{◌≡◌, ap, ◌∙◌}
+use mathlib.Core.Path.{◌≡◌}
 use Prim.Native.Nat.{◌≤◌}
 use native.Mathlib.Omega.{arith}
-use mathlib.Core.Bool.{true, false}
-use lib.Dec.{T}
-use lib.IntN.{ℤ, pos, nat_abs, ◌-ℤ◌}
-use lib.Signed.{lt_z, non_neg}
-use mir.Syntax.{w32, w64}
-use mir.Val.{to_z, of_z, Fits, SFits}
-use Rattle.metrics.proofs.Ints.{apart_le, abs_minus, minus_nonneg, nonneg}
+use lib.IntN.{ℤ, nat_abs, ◌-ℤ◌}
+use mir.Syntax.{w32}
+use mir.Val.{to_z, of_z, SFits}
+use Rattle.metrics.proofs.Ints.{apart_le}
 use Rattle.kplib.proofs.WordLaws.{fits, back}
 
 module _ (a b : ℤ) (p : nat_abs a ≤ 8388608) (q : nat_abs b ≤ 8388608) where

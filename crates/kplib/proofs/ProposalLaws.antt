@@ -1,19 +1,17 @@
 -- The refusals of a proposal are those of a call whose rooms suffice whatever is asked, then 54; and the cases of its answer. One list is scored against one chain
 -- as the search scores them: what is summed in front of a local array is the chain's row, and the list's. Assumes nothing.
-use Rattle.std.specs.Prelude.{Option, Some, None}
+use Rattle.std.specs.Prelude.{Option}
 use mathlib.Core.Path.{◌≡◌, refl, sym, ap, ◌∙◌}
 use Prim.Native.Nat.{ℕ, zero, suc, ◌+◌, ◌-◌, ◌*◌, ◌^◌, ◌≤◌, ◌<◌}
 use native.Mathlib.Omega.{arith}
 use native.Mathlib.Nat.{mul-le-mul_right}
 use mathlib.Core.Bool.{Bool, true, false, ◌&&◌}
 use mathlib.Core.List.{List, [], ◌∷◌, ◌++◌, reverse}
-use lib.Dec.{leb, ltb, eqb}
+use lib.Dec.{leb, ltb}
 use lib.IntN.{ℤ}
 use lib.ListN.{length, get_or, drop, drop_of_length-le}
 use lib.Seq.{drop-cons}
-use lib.Ieee.{Float, binary32, to_bits, lt}
 use borrow.Author.Tests.{le-leb, lt-leb, lt-ltb, le-ltb, ltb-false}
-use Rattle.metrics.specs.Similarity.{whole}
 use Rattle.paths.proofs.BooleanLaws.{and_both, and_false}
 use Rattle.params.specs.Checked.{Checked}
 use Rattle.params.specs.Numbers.{Table, Parts, Rule, first_of, call_of, search_mode, queue_needs, little_queue_room, settings_rules, length_rules, bound_rules, limit_rules, room_rules, first_fault}
@@ -22,7 +20,7 @@ use Rattle.params.proofs.CheckedLaws.{settled, measured, accepted}
 use Rattle.kplib.specs.Graph.{is_chain_in}
 use Rattle.kplib.specs.Parts.{part_lists}
 use Rattle.kplib.specs.Sums.{size_of, features_of}
-use Rattle.kplib.specs.Score.{list_score, scores_of}
+use Rattle.kplib.specs.Score.{list_score}
 use Rattle.kplib.specs.Scoring.{Summable, Comparable, unplaced, total}
 use Rattle.kplib.specs.Proposal.{one_of, gives, Proposal, pair_score, is_good, long_rules, proposal_rules, proposal_fault, check_case, rises_below, fewest_of, Pairable}
 use Rattle.params.specs.declared.Settings.{Settings}

@@ -1,7 +1,5 @@
 -- Sums of feature rows: a turn of each loop, and how long and how large a sum grows. Assumes nothing.
-use Rattle.std.specs.Prelude.{Some}
 use mathlib.Core.Path.{◌≡◌, refl, sym, ap, ◌∙◌, subst}
-use mathlib.Core.Bool.{Bool, true, false}
 use mathlib.Core.List.{List, [], ◌∷◌}
 use Prim.Native.Nat.{ℕ, zero, suc, ◌+◌, ◌-◌, ◌*◌, ◌≤◌, ◌<◌, zero-le}
 use native.Mathlib.Omega.{arith}
@@ -16,7 +14,7 @@ use Rattle.metrics.proofs.Ints.{add_le}
 use Rattle.params.specs.Checked.{Flat}
 use Rattle.params.specs.Numbers.{row_at}
 use Rattle.kplib.specs.Sums.{row_plus, features_from, features_of, zeros}
-use Rattle.kplib.specs.Scoring.{AllBelow, Inside, Summable, Ready}
+use Rattle.kplib.specs.Scoring.{AllBelow, Inside, Summable}
 use Rattle.kplib.proofs.WordLaws.{add_fits, add_back}
 
 -- a row with another added to its first i entries

@@ -1,8 +1,7 @@
 -- Within the limits neither similarity of the lower crate refuses, so its answer is the value; and the small parts of a score. Assumes nothing.
 use mathlib.Core.Path.{◌≡◌, refl, ◌∙◌}
-use mathlib.Core.Bool.{Bool, true, false}
 use mathlib.Core.List.{List}
-use Prim.Native.Nat.{ℕ, zero, suc, ◌+◌, ◌-◌, ◌≤◌, max}
+use Prim.Native.Nat.{ℕ, ◌≤◌, max}
 use native.Mathlib.Omega.{arith}
 use borrow.Author.Tests.{le-ltb, eq-eqb}
 use lib.IntN.{ℤ, nat_abs}
@@ -13,8 +12,7 @@ use mir.Val.{to_z, of_z}
 use Rattle.metrics.specs.Similarity.{whole, sizesim_of, sizesim_value, seqsim_of, magnitude_sum}
 use Rattle.metrics.specs.declared.Sim.{Sim}
 use Rattle.metrics.specs.declared.Sim.TheVariants.{Value, Refused}
-use Rattle.kplib.specs.Score.{seqsim_of_rows, gap_of, target_of}
-use Rattle.kplib.specs.declared.pathscore.Target.TheVariants.{Partial}
+use Rattle.kplib.specs.Score.{seqsim_of_rows}
 use Rattle.kplib.proofs.WordLaws.{back}
 
 size_given : (a b : ℕ) → a ≤ 8388608 → b ≤ 8388608 → sizesim_of a b ≡ Value (sizesim_value a b)

@@ -15,11 +15,10 @@ use Rattle.std.specs.Int.{int_signum}
 use Rattle.metrics.specs.Similarity.{whole, sizesim_value, sum_d, sum_n}
 use Rattle.metrics.proofs.Casts.{one_is}
 use Rattle.metrics.proofs.FloatOrder.{le→Le}
-use Rattle.kplib.specs.Score.{sign, gap_of, score_value, seqsim_of_rows, list_score, target_of, greater_of, scores_of}
+use Rattle.kplib.specs.Score.{sign, gap_of, score_value, seqsim_of_rows, list_score, greater_of, scores_of}
 use Rattle.kplib.specs.Scoring.{total, Testable, Comparable, StandsFor, terms_of, may_score, may_win, verdict_of, Judged, own, idle}
 use Rattle.params.specs.declared.Settings.{Settings}
 use Rattle.kplib.specs.declared.pathscore.Scored.{Scored}
-use Rattle.kplib.specs.declared.pathscore.Target.{Target}
 use Rattle.kplib.specs.declared.pathscore.Terms.{Terms}
 use Rattle.kplib.specs.declared.pathscore.Scores.{Scores}
 use Rattle.kplib.proofs.WordLaws.{back, same_sign, other_sign}

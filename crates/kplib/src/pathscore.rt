@@ -92,7 +92,11 @@ fn gap_of(squish: bool, n: usize, len: usize) -> usize
     requires { (n ≤ 64) × (len ≤ 64) }
     ensures { (result ≡ gap_of squish n len) × (result ≤ 64) }
 {
-    if squish { len.saturating_sub(1) } else { n.abs_diff(len) }
+    if squish {
+        len.saturating_sub(1)
+    } else {
+        n.abs_diff(len)
+    }
 }
 
 fn score_value(s: Settings, seq: f32, size: f32, partial: usize, g: usize) -> f32
@@ -290,6 +294,7 @@ fn judge(
     let width = chain_row.len();
     let mut sums = Sums { d: 0, n: 0 };
     let mut from: usize = 0;
+    // no index loop: it steps from block to block, the last of which is shorter
     while from < width {
         let to = block_end(from, width);
         sums = sum_block(sums, table, rows, chain_row, from, to, s.minkfreq);

@@ -1,7 +1,7 @@
 -- The positions written so far, and those that are left, are the whole list.
 use mathlib.Core.Path.{◌≡◌}
-use Prim.Native.Nat.{◌-◌, ◌≤◌}
-use lib.ListN.{length, take}
+use Prim.Native.Nat.{◌-◌}
+use lib.ListN.{take}
 use mathlib.Core.List.{◌++◌}
 use Rattle.kplib.specs.Parts.{positions_from, whole_of}
 use Rattle.kplib.proofs.haplotype.all_positions.Given as goal

@@ -1,7 +1,7 @@
 -- The positions chosen so far, and those of the bits that are left, are the whole list.
 use mathlib.Core.Path.{◌≡◌}
 use Prim.Native.Nat.{◌-◌, ◌≤◌}
-use lib.ListN.{length, take}
+use lib.ListN.{take}
 use mathlib.Core.List.{◌++◌}
 use Rattle.kplib.specs.Scoring.{positions_of_bits}
 use Rattle.kplib.proofs.haplotype.bit_positions.Given as goal

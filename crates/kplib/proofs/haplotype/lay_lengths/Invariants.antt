@@ -1,7 +1,4 @@
 -- The lists of the first i lengths are laid.
-use mathlib.Core.Path.{◌≡◌}
-use Prim.Native.Nat.{◌-◌, ◌≤◌}
-use lib.ListN.{length}
 use Rattle.kplib.proofs.LayLaws.{Laying}
 use Rattle.kplib.proofs.haplotype.lay_lengths.Given as goal
 

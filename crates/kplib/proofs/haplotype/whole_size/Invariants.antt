@@ -1,5 +1,4 @@
 -- The sum so far, with the sizes that are left, is the size of the whole.
-use Prim.Native.Nat.{◌-◌, ◌≤◌}
 use lib.ListN.{length}
 use Rattle.kplib.specs.Parts.{whole_of}
 use Rattle.kplib.proofs.SizeSumLaws.{Summing}

@@ -1,6 +1,4 @@
 -- The best so far, after the rows that are left, is the answer: source and sink change nothing. Assumes nothing.
-use Prim.Native.Nat.{◌-◌, ◌≤◌}
-use lib.ListN.{length}
 use Rattle.kplib.proofs.OneToOneLaws.{Matched}
 use Rattle.kplib.proofs.onetoone.match_rows.Given as goal
 

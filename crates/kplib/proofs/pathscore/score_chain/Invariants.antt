@@ -1,7 +1,4 @@
 -- The best so far, after the lists that are left, stands for the score. Assumes nothing.
-use mathlib.Core.Path.{◌≡◌}
-use Prim.Native.Nat.{◌-◌, ◌≤◌}
-use lib.ListN.{length}
 use Rattle.kplib.proofs.ChainScoreLaws.{Tried}
 use Rattle.kplib.proofs.pathscore.score_chain.Given as goal
 

@@ -3,7 +3,7 @@ use mathlib.Core.Path.{◌≡◌, ◌∙◌}
 use Prim.Native.Nat.{◌-◌}
 use native.Mathlib.Omega.{arith}
 use mathlib.Core.Bool.{true, false}
-use lib.ListN.{get_or, length-set}
+use lib.ListN.{get_or}
 use Rattle.paths.proofs.QueueLaws.{queueing_begin, queueing_skip, queueing_done}
 use Rattle.paths.specs.Chains.{extends}
 use Rattle.kplib.specs.SearchSteps.{chain_of, follows_by}

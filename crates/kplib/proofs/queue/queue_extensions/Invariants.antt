@@ -1,5 +1,4 @@
 -- Row by row, highest first: a row that extends the chain is put behind the entries, its key to the keys, and any other row is passed over.
-use mathlib.Core.Path.{◌≡◌}
 use Prim.Native.Nat.{◌≤◌}
 use lib.ListN.{length}
 use Rattle.paths.proofs.QueueLaws.{Queueing}

@@ -1,6 +1,4 @@
 -- The sum so far, with the rest of the rows added to it, is the whole sum.
-use Prim.Native.Nat.{◌-◌, ◌≤◌}
-use lib.ListN.{length}
 use Rattle.kplib.proofs.SizeSumLaws.{Summing}
 use Rattle.kplib.proofs.queue.rows_size.Given as goal
 

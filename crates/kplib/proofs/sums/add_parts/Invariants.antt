@@ -1,5 +1,4 @@
 -- What is summed, with the parts of the rows that are left, is the whole sum.
-use Prim.Native.Nat.{◌-◌}
 use lib.ListN.{length}
 use Rattle.kplib.proofs.PartSumLaws.{Adding}
 use Rattle.kplib.proofs.sums.add_parts.Given as goal

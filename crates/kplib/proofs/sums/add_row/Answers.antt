@@ -1,5 +1,5 @@
 -- After i turns the first i entries are added.
-use mathlib.Core.Path.{sym, ◌∙◌}
+use mathlib.Core.Path.{◌∙◌}
 use native.Mathlib.Omega.{arith}
 use borrow.Author.Rules.{rules}
 use Rattle.kplib.proofs.RowSumLaws.{mixed, mixed_all, added_fits, added}

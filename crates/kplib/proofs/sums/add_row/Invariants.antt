@@ -1,7 +1,5 @@
 -- After i turns the first i entries are added.
 use mathlib.Core.Path.{◌≡◌}
-use Prim.Native.Nat.{◌-◌, ◌≤◌}
-use lib.ListN.{length}
 use Rattle.kplib.proofs.RowSumLaws.{mixed}
 use Rattle.kplib.proofs.sums.add_row.Given as goal
 

@@ -1,6 +1,4 @@
 -- What is added up and what is left are the whole.
-use Prim.Native.Nat.{◌-◌, ◌≤◌}
-use lib.ListN.{length}
 use Rattle.kplib.proofs.BlockLaws.{Passing}
 use Rattle.kplib.proofs.sums.sum_on.Given as goal
 

@@ -1,7 +1,7 @@
 -- What is added up and what is left are the whole.
 use mathlib.Core.Path.{◌≡◌}
-use Prim.Native.Nat.{◌+◌, ◌-◌, ◌≤◌}
-use lib.ListN.{length, drop}
+use Prim.Native.Nat.{◌+◌}
+use lib.ListN.{drop}
 use Rattle.metrics.specs.Similarity.{magnitude_sum}
 use Rattle.kplib.proofs.sums.weight_of.Given as goal
 
