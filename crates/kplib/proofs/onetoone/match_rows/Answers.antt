@@ -1,16 +1,10 @@
 -- The best so far, after the rows that are left, is the answer: source and sink change nothing. Assumes nothing.
 use native.Mathlib.Omega.{arith}
-use Rattle.kplib.proofs.OneToOneLaws.{none_matched, row_matched, all_matched, row_room, row_comparable, row_scored}
+use Rattle.kplib.proofs.OneToOneLaws.{none_matched, row_matched, all_matched, row_scored}
 use Rattle.kplib.proofs.onetoone.match_rows.Goals as goal
 
 pub loop-r-init : goal.loop-r-init
 loop-r-init c = none_matched c.requires c.nothing-none.ensures
-
-pub slice_bounds-list_score-count : goal.slice_bounds-list_score-count
-slice_bounds-list_score-count c = omega (arith, row_room c.requires c.loop-r-test.true)
-
-pub list_score-verdict-requires : goal.list_score-verdict-requires
-list_score-verdict-requires c = row_comparable c.requires c.loop-r-test.true
 
 pub loop-r-preserved : goal.loop-r-preserved
 loop-r-preserved c =

@@ -1,5 +1,5 @@
 -- The tests of a list that are made before seqsim's, and what it could score.
-use Rattle.kplib.proofs.VerdictLaws.{as_read, lost_by_squish, lost_by_sign, lost_by_size, by_bound}
+use Rattle.kplib.proofs.VerdictLaws.{lost_by_squish, lost_by_sign, lost_by_size, by_bound}
 use Rattle.kplib.proofs.pathscore.may_win.Goals as goal
 
 pub returns-then-accepts_none : goal.returns-then-accepts_none
@@ -10,16 +10,10 @@ pub returns-then-signum : goal.returns-then-signum
 returns-then-signum c =
     lost_by_sign c.args.s c.args.floor c.args.best c.requires c.accepts_none.ensures c.if-accepts_none.false c.signum.ensures.value c.signum-2.ensures.value c.if-signum.true
 
-pub terms_of-terms-requires : goal.terms_of-terms-requires
-terms_of-terms-requires c = as_read c.requires
-
 pub returns-then-terms-s : goal.returns-then-terms-s
 returns-then-terms-s c =
     lost_by_size c.args.s c.args.floor c.args.best c.requires c.accepts_none.ensures c.if-accepts_none.false c.signum.ensures.value c.signum-2.ensures.value c.if-signum.false
     c.terms_of-terms.ensures.0 c.if-terms-s.true
-
-pub may_score-requires : goal.may_score-requires
-may_score-requires c = (c.terms_of-terms.ensures.1, c.terms_of-terms.ensures.2)
 
 pub returns : goal.returns
 returns c =

@@ -1,14 +1,10 @@
 -- The best so far, after the lists that are left, stands for the score. Assumes nothing.
 use native.Mathlib.Omega.{arith}
-use Rattle.kplib.proofs.ChainScoreLaws.{none_tried_lem, attempt, one_more, all_tried}
+use Rattle.kplib.proofs.ChainScoreLaws.{none_tried_lem, one_more, all_tried}
 use Rattle.kplib.proofs.pathscore.score_chain.Goals as goal
 
 pub loop-i-init : goal.loop-i-init
 loop-i-init c = none_tried_lem _ _ _ _ _ _ _ _ _ c.none_tried-best.ensures
-
-pub try_list-best-requires : goal.try_list-best-requires
-try_list-best-requires c =
-    attempt c.requires (omega arith) (omega arith) (omega arith) c.loop-i.invariant.ready
 
 pub loop-i-preserved : goal.loop-i-preserved
 loop-i-preserved c =
