@@ -1,14 +1,11 @@
 -- What the distance of two sizes needs: small differences fit. Assumes nothing.
-use mathlib.Core.Path.{◌≡◌, ap, ◌∙◌}
+use mathlib.Core.Path.{◌≡◌}
 use Prim.Native.Nat.{◌≤◌}
 use native.Mathlib.Omega.{arith}
-use mathlib.Core.Bool.{true, false}
-use lib.Dec.{T}
-use lib.IntN.{ℤ, pos, nat_abs, ◌-ℤ◌}
-use lib.Signed.{lt_z, non_neg}
-use mir.Syntax.{w32, w64}
-use mir.Val.{to_z, of_z, Fits, SFits}
-use Rattle.metrics.proofs.Ints.{apart_le, abs_minus, minus_nonneg, nonneg}
+use lib.IntN.{ℤ, nat_abs, ◌-ℤ◌}
+use mir.Syntax.{w32}
+use mir.Val.{to_z, of_z, SFits}
+use Rattle.metrics.proofs.Ints.{apart_le}
 use Rattle.kplib.proofs.WordLaws.{fits, back}
 
 module _ (a b : ℤ) (p : nat_abs a ≤ 8388608) (q : nat_abs b ≤ 8388608) where
@@ -20,21 +17,3 @@ module _ (a b : ℤ) (p : nat_abs a ≤ 8388608) (q : nat_abs b ≤ 8388608) whe
 
   pub difference : to_z w32 (of_z w32 (to_z w32 (of_z w32 a) -ℤ to_z w32 (of_z w32 b))) ≡ a -ℤ b
   difference = rw (back a (omega arith), back b (omega arith)) (back (a -ℤ b) small)
-
-  pub minus_fits : SFits w32 (pos 0 -ℤ to_z w32 (of_z w32 (to_z w32 (of_z w32 a) -ℤ to_z w32 (of_z w32 b))))
-  minus_fits = rw difference (fits (pos 0 -ℤ (a -ℤ b)) (omega (arith, abs_minus (a -ℤ b), small)))
-
-  minus_back : to_z w32 (of_z w32 (pos 0 -ℤ to_z w32 (of_z w32 (to_z w32 (of_z w32 a) -ℤ to_z w32 (of_z w32 b))))) ≡ pos 0 -ℤ (a -ℤ b)
-  minus_back = rw difference (back (pos 0 -ℤ (a -ℤ b)) (omega (arith, abs_minus (a -ℤ b), small)))
-
-  pub minus : nat_abs (to_z w32 (of_z w32 (pos 0 -ℤ to_z w32 (of_z w32 (to_z w32 (of_z w32 a) -ℤ to_z w32 (of_z w32 b)))))) ≡ nat_abs (a -ℤ b)
-  minus = ap nat_abs minus_back ∙ abs_minus (a -ℤ b)
-
-  pub minus_cast : lt_z (to_z w32 (of_z w32 (to_z w32 (of_z w32 a) -ℤ to_z w32 (of_z w32 b)))) (pos 0) ≡ true
-      → T (non_neg (to_z w32 (of_z w32 (pos 0 -ℤ to_z w32 (of_z w32 (to_z w32 (of_z w32 a) -ℤ to_z w32 (of_z w32 b)))))))
-      × Fits w64 (nat_abs (to_z w32 (of_z w32 (pos 0 -ℤ to_z w32 (of_z w32 (to_z w32 (of_z w32 a) -ℤ to_z w32 (of_z w32 b)))))))
-  minus_cast t = (rw minus_back (minus_nonneg (a -ℤ b) (rw difference at t)), record { fits = omega (arith, minus, small) })
-
-  pub same_cast : lt_z (to_z w32 (of_z w32 (to_z w32 (of_z w32 a) -ℤ to_z w32 (of_z w32 b)))) (pos 0) ≡ false
-      → T (non_neg (to_z w32 (of_z w32 (to_z w32 (of_z w32 a) -ℤ to_z w32 (of_z w32 b))))) × Fits w64 (nat_abs (to_z w32 (of_z w32 (to_z w32 (of_z w32 a) -ℤ to_z w32 (of_z w32 b)))))
-  same_cast t = (rw difference (nonneg (a -ℤ b) (rw difference at t)), record { fits = omega (arith, ap nat_abs difference, small) })

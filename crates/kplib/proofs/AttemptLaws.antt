@@ -1,5 +1,6 @@
 -- One laid list against a chain: what each call of `try_list` asks, and that what comes out stands for the definition's, whether the list is passed over,
 -- given up or scored. Assumes nothing.
+use Rattle.std.specs.Prelude.{Option, Some}
 use mathlib.Core.Path.{◌≡◌, refl, sym, ap, ◌∙◌}
 use mathlib.Core.Bool.{Bool, true, false}
 use mathlib.Core.List.{List}
@@ -15,15 +16,15 @@ use Rattle.kplib.specs.Sums.{features_of}
 use Rattle.kplib.specs.Score.{seqsim_of_rows, greater_of}
 use Rattle.kplib.specs.Scoring.{list_of_code, Summable, Ready, Testable, terms_of, may_win, Judgeable, Judged, after_code, Attempt, Attempted}
 use Rattle.kplib.specs.declared.pathscore.Scored.{Scored}
-use Rattle.kplib.specs.declared.pathscore.Verdict.{Verdict}
+use Rattle.kplib.specs.declared.pathscore.Scores.{Scores}
 use Rattle.kplib.specs.declared.pathscore.Best.{Best}
 use Rattle.kplib.specs.declared.pathscore.Terms.{Terms}
 use Rattle.kplib.specs.declared.plan.Plan.{Plan}
 use Rattle.kplib.proofs.RowSumLaws.{summable, features_length, features_sum}
 use Rattle.kplib.proofs.VerdictLaws.{chain_as_read, list_as_read, as_read, terms_read, judged_stands, lost, won}
 
-module _ {plan : Plan} {features : List ℤ} {chain : List ℕ} {chainSize : ℤ} {part_features : List ℤ} {code : ℕ} {size : ℤ} {chosen : List ℕ} {scratch : List ℤ} {summed : Bool}
-    {weight : ℕ} (y : Attempt plan features chain chainSize part_features code size chosen scratch summed weight) where
+module _ {plan : Plan} {features : List ℤ} {chain : List ℕ} {chainSize : ℤ} {part_features : List ℤ} {code : ℕ} {size : ℤ} {chosen : List ℕ} {scratch : List ℤ}
+    {weight : Option ℕ} (y : Attempt plan features chain chainSize part_features code size chosen scratch weight) where
   abbrev width : ℕ
   width = plan.width
 
@@ -50,7 +51,7 @@ module _ {plan : Plan} {features : List ℤ} {chain : List ℕ} {chainSize : ℤ
 
   pub attempt_lost : (floor : Float) (best : Best) {t : Bool}
       → t ≡ may_win plan.s (to_z w32 (of_z w32 chainSize)) (length chain) (to_z w32 (of_z w32 size)) (code / 65536) (plan.m - code / 65536) floor best.scored.score
-      → t ≡ false → Ready best.summed scratch best.weight (features_of plan.width features chain)
+      → t ≡ false → Ready best.weight scratch (features_of plan.width features chain)
       → Attempted plan features chain chainSize part_features code size floor best.scored best scratch
   unfolding after_code
   attempt_lost floor best f h r = record {
@@ -61,13 +62,13 @@ module _ {plan : Plan} {features : List ℤ} {chain : List ℕ} {chainSize : ℤ
   }
 
   -- ---- the chain's row, and the list's rows
-  pub ready_ok : (Summable (length scratch) features chain) × (Ready summed scratch weight (features_of (length scratch) features chain))
+  pub ready_ok : (Summable (length scratch) features chain) × (Ready weight scratch (features_of (length scratch) features chain))
   ready_ok = rw y.scratch_is (y.chained, y.ready)
 
   list_sum : Summable width part_features list
   list_sum = summable plan.m width part_features list y.part_rows y.listed.within list_few
 
-  module _ {floor : Float} (best : Scored) {chainRow : List ℤ} {w : ℕ} (r : Ready true chainRow w (features_of (length scratch) features chain))
+  module _ {floor : Float} (best : Scored) {chainRow : List ℤ} {w : ℕ} (r : Ready (Some w) chainRow (features_of (length scratch) features chain))
       {list' : List ℕ} (g : list' ≡ list_of_code plan.m code) {terms : Terms}
       (te : (terms ≡ terms_of plan.s (to_z w32 (of_z w32 chainSize)) (length chain) (to_z w32 (of_z w32 size)) (code / 65536) (plan.m - code / 65536) floor best.score)
       × (terms.partial ≤ 64) × (terms.gap ≤ 64)) where
@@ -94,9 +95,9 @@ module _ {plan : Plan} {features : List ℤ} {chain : List ℕ} {chainSize : ℤ
     }
 
     pub attempt_scored : {t : Bool} → t ≡ may_win plan.s (to_z w32 (of_z w32 chainSize)) (length chain) (to_z w32 (of_z w32 size)) (code / 65536) (plan.m - code / 65536) floor best.score
-        → t ≡ true → {scored : Scored} {v : Verdict}
+        → t ≡ true → {scored : Scored} {v : Option Scores}
         → Judged plan.s terms (seqsim_of_rows plan.s.minkfreq chainRow (features_of (length chainRow) part_features list')) v → scored ≡ greater_of best (plan.m - code / 65536) v
-        → Attempted plan features chain chainSize part_features code size floor best (record { scored = scored; summed = true; weight = w }) chainRow
+        → Attempted plan features chain chainSize part_features code size floor best (record { scored = scored; weight = Some w }) chainRow
     unfolding after_code
     attempt_scored f h {scored} {v} j u =
         let may : may_win plan.s chainSize (length chain) size (code / 65536) partial floor best.score ≡ true = sym (rw (chain_as_read tests, list_as_read tests) at f) ∙ h in

@@ -1,5 +1,6 @@
 -- The pass over a chain's row and a list's, block by block: what is added up and what is left are the whole, so after each block n bounds seqsim, and after
 -- the last one the sums are seqsim's own. Assumes nothing.
+use Rattle.std.specs.Prelude.{Option, None}
 use mathlib.Core.Path.{◌≡◌, refl, sym, ap, ◌∙◌}
 use mathlib.Core.Bool.{Bool, true, false, cond}
 use mathlib.Core.List.{List, [], ◌∷◌, ◌++◌}
@@ -23,8 +24,7 @@ use Rattle.kplib.specs.Blocks.{parts_from, pair_on, sums_on, no_sums, Addable, P
 use Rattle.params.specs.declared.Settings.{Settings}
 use Rattle.kplib.specs.declared.sums.Sums.{Sums}
 use Rattle.kplib.specs.declared.pathscore.Terms.{Terms}
-use Rattle.kplib.specs.declared.pathscore.Verdict.{Verdict}
-use Rattle.kplib.specs.declared.pathscore.Verdict.TheVariants.{Skipped}
+use Rattle.kplib.specs.declared.pathscore.Scores.{Scores}
 use Rattle.kplib.proofs.RoundingLaws.{holds}
 use Rattle.kplib.proofs.RowSumLaws.{entry_le, zeros_length, zeros_sum, features_length, features_sum}
 use Rattle.kplib.proofs.WordLaws.{back}
@@ -87,9 +87,6 @@ pair_is m x y z e f g h i = rw (h, i, e, f, g)
 pub record Passing (m : ℕ) (a b : List ℤ) (z : Sums) (i : ℕ) (s : Sums) : Type 0 where
   pub some_d : s.d + sum_d m (drop i a) (drop i b) ≡ z.d + sum_d m a b
   pub some_n : s.n + sum_n m (drop i a) (drop i b) ≡ z.n + sum_n m a b
-
-pub none_passing : (m : ℕ) (a b : List ℤ) (z : Sums) → Passing m a b z 0 z
-none_passing m a b z = record { some_d = refl; some_n = refl }
 
 module _ {m : ℕ} {a b : List ℤ} {z s : Sums} {i : ℕ} (y : Passable z a b m) (h : i < length a) (w : Passing m a b z i s) where
   second_in : i < length b
@@ -162,18 +159,18 @@ module _ {s : Settings} {table : List ℤ} {rows : List ℕ} {chainRow : List �
         rw e (bounded (sum_d m chainRow list) (sum_n m chainRow list) weight z.n n (n_le_d m chainRow list) far d_low)
 
     -- given up: no seqsim up to the bound reaches the threshold, or none could win
-    pub too_low : lt most s.seqsim ≡ true → Judged s terms (seqsim_of_rows s.minkfreq chainRow (features_of (length chainRow) table rows)) Skipped
+    pub too_low : lt most s.seqsim ≡ true → Judged s terms (seqsim_of_rows s.minkfreq chainRow (features_of (length chainRow) table rows)) None
     too_low h =
         let q = seqsim_of_rows m chainRow list in
         let k : lt q s.seqsim ≡ true = is_true (lt q s.seqsim) (le_lt_trans q most s.seqsim most_is (holds (lt most s.seqsim) h)) in
-        own {r = Skipped} (rw k)
+        own {r = None} (rw k)
 
-    pub no_gain : {t : Bool} → t ≡ may_score s terms most → t ≡ false → Judged s terms (seqsim_of_rows s.minkfreq chainRow (features_of (length chainRow) table rows)) Skipped
-    no_gain f h = idle {r = Skipped} most refl most_is (sym f ∙ h)
+    pub no_gain : {t : Bool} → t ≡ may_score s terms most → t ≡ false → Judged s terms (seqsim_of_rows s.minkfreq chainRow (features_of (length chainRow) table rows)) None
+    no_gain f h = idle {r = None} most refl most_is (sym f ∙ h)
 
   -- at the end
   pub whole_verdict : {i : ℕ} {z : Sums} → Passed s.minkfreq chainRow (features_of (length chainRow) table rows) i z → length chainRow ≤ i → {q : Float}
-      → q ≡ seqsim_value (min z.d 16777216) (min z.n 16777216) → {v : Verdict} → v ≡ verdict_of s terms q
+      → q ≡ seqsim_value (min z.d 16777216) (min z.n 16777216) → {v : Option Scores} → v ≡ verdict_of s terms q
       → Judged s terms (seqsim_of_rows s.minkfreq chainRow (features_of (length chainRow) table rows)) v
   whole_verdict {i} {z} w h {q} e {v} k =
       let d : min z.d 16777216 ≡ sum_d m chainRow list = omega (arith, low_d w, w.some_d, sum_none (part_d m) chainRow list i h) in

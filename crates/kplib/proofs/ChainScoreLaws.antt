@@ -1,6 +1,6 @@
 -- The loop over the laid lists: the best so far, after the lists that are left, stands for the chain's score. Assumes nothing.
+use Rattle.std.specs.Prelude.{Option}
 use mathlib.Core.Path.{◌≡◌, refl, sym, ap, ◌∙◌, subst}
-use mathlib.Core.Bool.{Bool}
 use mathlib.Core.List.{List}
 use Prim.Native.Nat.{ℕ, ◌+◌, ◌≤◌, ◌<◌}
 use native.Mathlib.Omega.{arith}
@@ -35,7 +35,7 @@ module _ (after : Scored → ℕ → ℤ → Scored) (codes : List ℕ) (sizes :
 -- after i lists: `full` is the best with no list passed over
 pub record Tried (plan : Plan) (features : List ℤ) (chain : List ℕ) (chainSize : ℤ) (part_features : List ℤ) (codes : List ℕ) (sizes : List ℤ) (floor : Float) (best : Best)
     (scratch : List ℤ) (i : ℕ) : Type 0 where
-  pub ready : Ready best.summed scratch best.weight (features_of plan.width features chain)
+  pub ready : Ready best.weight scratch (features_of plan.width features chain)
   pub full : Scored
   pub stands : StandsFor floor full best.scored
   pub rest : after_codes (after_code plan part_features (chain_total plan.width features chain chainSize)) full (drop i codes) (drop i sizes)
@@ -45,7 +45,7 @@ pub none_tried_lem : (plan : Plan) (features : List ℤ) (chain : List ℕ) (cha
     {b : Best} → b ≡ none_tried → Tried plan features chain chainSize part_features codes sizes floor b scratch 0
 unfolding coded_score
 none_tried_lem plan features chain chainSize part_features codes sizes floor scratch e = record {
-  ready = subst (λ (x : Best). Ready x.summed scratch x.weight (features_of plan.width features chain)) (sym e) tt;
+  ready = subst (λ (x : Best). Ready x.weight scratch (features_of plan.width features chain)) (sym e) tt;
   full = start;
   stands = same (ap (λ (x : Best). x.scored) e);
   rest = refl;
@@ -60,9 +60,9 @@ module _ {plan : Plan} {features : List ℤ} {chain : List ℕ} {chainSize : ℤ
     s_back : to_z w32 (of_z w32 (get_or sizes i (pos 0))) ≡ get_or sizes i (pos 0)
     s_back = back (get_or sizes i (pos 0)) (omega (arith, (y.coded.each i h).size_small))
 
-    pub attempt : {chosen' : List ℕ} {scratch' : List ℤ} {t : Bool} {w : ℕ} → length chosen' ≡ length chosen → length scratch' ≡ length scratch
-        → Ready t scratch' w (features_of plan.width features chain)
-        → Attempt plan features chain (to_z w32 (of_z w32 chainSize)) part_features (get_or codes i 0) (to_z w32 (of_z w32 (get_or sizes i (pos 0)))) chosen' scratch' t w
+    pub attempt : {chosen' : List ℕ} {scratch' : List ℤ} {w : Option ℕ} → length chosen' ≡ length chosen → length scratch' ≡ length scratch
+        → Ready w scratch' (features_of plan.width features chain)
+        → Attempt plan features chain (to_z w32 (of_z w32 chainSize)) part_features (get_or codes i 0) (to_z w32 (of_z w32 (get_or sizes i (pos 0)))) chosen' scratch' w
     attempt lc ls r = rw (c_back, s_back) (record {
       planned = y.planned;
       chained = y.chained;

@@ -66,9 +66,6 @@ place_turn m d i v chosen all h k e =
 pub place_done : (m d i v : ℕ) (chosen all : List ℕ) → m ≤ i → take d chosen ++ positions_of_bits i (m - i) v ≡ all → take d chosen ≡ all
 place_done m d i v chosen all h e = sym (append-nil (take d chosen)) ∙ ap (λ (l : List ℕ). take d chosen ++ l) (sym (bits_none i (m - i) v (omega arith))) ∙ e
 
-pub place_start : (m bits : ℕ) (chosen : List ℕ) → take 0 chosen ++ positions_of_bits 0 (m - 0) bits ≡ positions_of_bits 0 m bits
-place_start m bits chosen = let z : m - 0 ≡ m = omega arith in rw z
-
 positions_step : (p n n' : ℕ) → n ≡ suc n' → positions_from p n ≡ p ∷ positions_from (p + 1) n'
 unfolding positions_from
 positions_step p n n' e = rw (add-one, e)
@@ -76,9 +73,6 @@ positions_step p n n' e = rw (add-one, e)
 positions_none : (p n : ℕ) → n ≡ 0 → positions_from p n ≡ []
 unfolding positions_from
 positions_none p n e = rw e
-
-pub all_start : (m : ℕ) (chosen : List ℕ) → take 0 chosen ++ positions_from 0 (m - 0) ≡ whole_of m
-all_start m chosen = let z : m - 0 ≡ m = omega arith in rw z
 
 pub all_turn : (m i : ℕ) (chosen all : List ℕ) → i < m → i < length chosen → take i chosen ++ positions_from i (m - i) ≡ all
     → take (i + 1) (set chosen i i) ++ positions_from (i + 1) (m - (i + 1)) ≡ all

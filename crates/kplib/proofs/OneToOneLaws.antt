@@ -1,5 +1,6 @@
 -- One-to-one: which way `latest_of` goes; that source and sink, which are no candidates, leave the best as it is, so that the walk over the rows alone is
 -- the walk over all nodes; the loop over the rows; and that the score against the summed whole haplotype is the definition's. Assumes nothing.
+use Rattle.std.specs.Prelude.{Option, Some, None}
 use mathlib.Core.Path.{◌≡◌, refl, sym, ap, ◌∙◌, subst}
 use mathlib.Core.Bool.{Bool, true, false, cond, not, ◌&&◌}
 use mathlib.Core.List.{List}
@@ -20,14 +21,13 @@ use Rattle.params.specs.Checked.{Checked}
 use Rattle.params.specs.Numbers.{Table, Parts, table_of}
 use Rattle.kplib.specs.Parts.{whole_of}
 use Rattle.kplib.specs.Sums.{zeros, size_of, features_of, Total}
-use Rattle.kplib.specs.Score.{sign, gap_of, score_value, seqsim_of_rows, list_score, greater_of, after_list, start}
+use Rattle.kplib.specs.Score.{sign, gap_of, score_value, seqsim_of_rows, list_score, greater_of, after_list, start, scores_of}
 use Rattle.kplib.specs.Graph.{node_of}
 use Rattle.kplib.specs.OneToOne.{anchor_total, row_total, node_total, alone_score, row_numbered, is_candidate, latest_of, over_nodes, no_lone, one_to_one}
 use Rattle.kplib.specs.Scoring.{Tables, Summable, Comparable, total, score_alone, best_alone, Matching, Matchable}
 use Rattle.params.specs.declared.Settings.{Settings}
 use Rattle.kplib.specs.declared.pathscore.Scored.{Scored}
-use Rattle.kplib.specs.declared.pathscore.Verdict.{Verdict}
-use Rattle.kplib.specs.declared.pathscore.Verdict.TheVariants.{Skipped, Scores}
+use Rattle.kplib.specs.declared.pathscore.Scores.{Scores}
 use Rattle.kplib.specs.declared.vargraph.Row.{Row}
 use Rattle.kplib.specs.declared.onetoone.Lone.{Lone}
 use Rattle.kplib.specs.declared.plan.Plan.{Plan}
@@ -58,7 +58,7 @@ zero_not = refl
 
 -- what the scoring gives by four tests and the comparison, with its tests as parameters
 seqsim_low : (b1 b2 b3 b4 b5 : Bool) (x z q : Float) (partial : ℕ) → lt (whole 0) q ≡ false → (r : Scored)
-    → r ≡ greater_of start partial (cond b1 Skipped (cond b2 Skipped (cond b3 Skipped (cond b4 Skipped (Scores x z q))))) → lt start.score x ≡ b5
+    → r ≡ greater_of start partial (cond b1 None (cond b2 None (cond b3 None (cond b4 None (Some (scores_of x z q)))))) → lt start.score x ≡ b5
     → is_candidate r ≡ false
 unfolding greater_of
 seqsim_low true b2 b3 b4 b5 x z q partial h r e g = rw e zero_not
@@ -188,7 +188,7 @@ module _ {plan : Plan} {sizes features wholeRow : List ℤ} (y : Matching plan s
       };
     })
 
-    pub row_scored : {x none : Scored} {v : Verdict} → none ≡ start
+    pub row_scored : {x none : Scored} {v : Option Scores} → none ≡ start
         → v ≡ list_score plan.s (total (to_z w32 (of_z w32 (get_or sizes r (pos 0)))) (take (r * plan.width + plan.width - r * plan.width) (drop (r * plan.width) features)) 1)
         (total (to_z w32 (of_z w32 plan.target)) wholeRow plan.m) 0
         → x ≡ greater_of none 0 v → x ≡ score_alone plan wholeRow (row_total plan.width sizes features r)

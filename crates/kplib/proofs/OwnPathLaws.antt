@@ -1,5 +1,6 @@
 -- The list that won gives the chain's best, once that is above 0: a list replaces the best only where it is greater, and then it is the list that won and its score the best.
 -- An answer's rows are those of a chain scored, so an accepted call's answer above 0 is a good proposal. The rest reads off the definitions. Assumes nothing.
+use Rattle.std.specs.Prelude.{Option, Some, None}
 use mathlib.Core.Path.{◌≡◌, refl, sym, ap, ◌∙◌}
 use Prim.Native.Nat.{ℕ, zero, suc, ◌-◌, ◌^◌, ◌≤◌}
 use native.Mathlib.Omega.{arith}
@@ -25,15 +26,14 @@ use Rattle.params.proofs.CheckedLaws.{accepted}
 use Rattle.kplib.specs.Graph.{is_chain_in}
 use Rattle.kplib.specs.Parts.{part_lists}
 use Rattle.kplib.specs.Sums.{total_of}
-use Rattle.kplib.specs.Score.{start, target_of, list_score, greater_of, after_list, after_lists, total_score, chain_score}
+use Rattle.kplib.specs.Score.{start, target_of, list_score, greater_of, after_list, after_lists, total_score, chain_score, scores_of}
 use Rattle.kplib.specs.Search.{Result, rows_for, follows_in, result_of, best_in}
 use Rattle.kplib.specs.Answer.{searched, in_search_mode, found_after, answer_of, rows_of, searches}
 use Rattle.kplib.specs.Proposal.{Proposal, proposal_of, one_of, gives, pair_score, is_good, long_rules, proposal_fault, check_case, check_word, check_of, rises_below, fewest_of}
 use Rattle.kplib.specs.OwnPaths.{won_by, winning_list, Good, SameScoring, PathChecks}
 use Rattle.params.specs.declared.Settings.{Settings}
 use Rattle.kplib.specs.declared.pathscore.Scored.{Scored}
-use Rattle.kplib.specs.declared.pathscore.Verdict.{Verdict}
-use Rattle.kplib.specs.declared.pathscore.Verdict.TheVariants.{Skipped, Scores}
+use Rattle.kplib.specs.declared.pathscore.Scores.{Scores}
 use Rattle.kplib.specs.declared.checkpath.PathCheck.TheVariants.{Yes, No, Refused}
 use Rattle.kplib.proofs.RoundingLaws.{no}
 use Rattle.kplib.proofs.MemberLaws.{member, rising_length}
@@ -87,15 +87,15 @@ module _ (s : Settings) (t : Table) (p : Parts) (rows : List ℕ) where
       left : ℕ
       left = length p.sizes - length list
 
-      greater : (x size seq : Float) (u : Bool) → lt b.score x ≡ u → pair_score s t p rows list ≡ Scores x size seq
+      greater : (x size seq : Float) (u : Bool) → lt b.score x ≡ u → pair_score s t p rows list ≡ Some (scores_of x size seq)
           → let new : Scored = record { target = target_of left; score = x; sizesim = size; seqsim = seq } in
           Winning (cond u new b) (cond (lt b.score (cond u new b).score) list won)
       greater x size seq true g e = rw g (λ h. record { listed = m; given = rw (e, h, eq-eqb (to_bits binary32 x) (to_bits binary32 x) refl); kept = rows_for_lem left rows })
       greater x size seq false g e = same_best b won list w
 
-      by_verdict : (v : Verdict) → pair_score s t p rows list ≡ v → Winning (greater_of b left v) (cond (lt b.score (greater_of b left v).score) list won)
-      by_verdict Skipped e = same_best b won list w
-      by_verdict (Scores x size seq) e = greater x size seq (lt b.score x) refl e
+      by_verdict : (v : Option Scores) → pair_score s t p rows list ≡ v → Winning (greater_of b left v) (cond (lt b.score (greater_of b left v).score) list won)
+      by_verdict None e = same_best b won list w
+      by_verdict (Some x) e = greater x.score x.sizesim x.seqsim (lt b.score x.score) refl e
 
   all_tried : (b : Scored) (won : List ℕ) (lists : List (List ℕ)) → All (λ l. one_of l all ≡ true) lists → Winning b won → Winning (after_lists after b lists) (won_by after b won lists)
   unfolding after_lists won_by
@@ -159,12 +159,12 @@ module _ (s : Settings) (t : Table) (p : Parts) (o : Proposal) where
   good_yes : Good s t p o → check_of s t p o ≡ Yes
   good_yes g = check_is g.accepted (good_given g.chain g.listed (rw (g.scored, g.above) (eq-eqb _ _ g.bits)))
 
-  good_parts : (v : Verdict) → pair_score s t p o.rows o.positions ≡ v → gives o.score v ≡ true → proposal_fault s t p o ≡ 0
+  good_parts : (v : Option Scores) → pair_score s t p o.rows o.positions ≡ v → gives o.score v ≡ true → proposal_fault s t p o ≡ 0
       → is_chain_in t.starts t.ends s.full (reverse o.rows) ≡ true → one_of o.positions (part_lists (length p.sizes) s.fnmax s.pileupmax) ≡ true → Good s t p o
-  good_parts Skipped e h a c l = absurd (clash false refl h)
-  good_parts (Scores x size seq) e h a c l =
-      let b = and_both (lt (whole 0) o.score) (eqb (to_bits binary32 x) (to_bits binary32 o.score)) h in
-      record { accepted = a; chain = c; listed = l; score = x; sizesim = size; seqsim = seq; scored = e; bits = eqb-true _ _ b.1; above = b.0 }
+  good_parts None e h a c l = absurd (clash false refl h)
+  good_parts (Some x) e h a c l =
+      let b = and_both (lt (whole 0) o.score) (eqb (to_bits binary32 x.score) (to_bits binary32 o.score)) h in
+      record { accepted = a; chain = c; listed = l; score = x.score; sizesim = x.sizesim; seqsim = x.seqsim; scored = e; bits = eqb-true _ _ b.1; above = b.0 }
 
   yes_only : check_of s t p o ≡ Yes → Good s t p o
   unfolding is_good
@@ -180,15 +180,15 @@ module _ (s : Settings) (t : Table) (p : Parts) (o : Proposal) where
   no_score h =
       rw (h, and_false (one_of o.positions (part_lists (length p.sizes) s.fnmax s.pileupmax))) (and_false (is_chain_in t.starts t.ends s.full (reverse o.rows)))
 
-  low_score : lt (whole 0) o.score ≡ false → (v : Verdict) → gives o.score v ≡ false
-  low_score h Skipped = refl
-  low_score h (Scores x size seq) = rw h
+  low_score : lt (whole 0) o.score ≡ false → (v : Option Scores) → gives o.score v ≡ false
+  low_score h None = refl
+  low_score h (Some x) = rw h
 
   not_good : is_good s t p o ≡ false → check_of s t p o ≡ check_case (proposal_fault s t p o) false
   not_good h = check_is refl h
 
 -- under squish the empty chain accepts no list
-no_list : (s : Settings) (t : Table) (p : Parts) (positions : List ℕ) → s.squish ≡ true → pair_score s t p [] positions ≡ Skipped
+no_list : (s : Settings) (t : Table) (p : Parts) (positions : List ℕ) → s.squish ≡ true → pair_score s t p [] positions ≡ None
 unfolding pair_score list_score
 no_list s t p positions e = rw e refl
 

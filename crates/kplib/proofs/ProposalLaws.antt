@@ -1,18 +1,17 @@
 -- The refusals of a proposal are those of a call whose rooms suffice whatever is asked, then 54; and the cases of its answer. One list is scored against one chain
 -- as the search scores them: what is summed in front of a local array is the chain's row, and the list's. Assumes nothing.
+use Rattle.std.specs.Prelude.{Option}
 use mathlib.Core.Path.{◌≡◌, refl, sym, ap, ◌∙◌}
 use Prim.Native.Nat.{ℕ, zero, suc, ◌+◌, ◌-◌, ◌*◌, ◌^◌, ◌≤◌, ◌<◌}
 use native.Mathlib.Omega.{arith}
 use native.Mathlib.Nat.{mul-le-mul_right}
 use mathlib.Core.Bool.{Bool, true, false, ◌&&◌}
 use mathlib.Core.List.{List, [], ◌∷◌, ◌++◌, reverse}
-use lib.Dec.{leb, ltb, eqb}
+use lib.Dec.{leb, ltb}
 use lib.IntN.{ℤ}
 use lib.ListN.{length, get_or, drop, drop_of_length-le}
 use lib.Seq.{drop-cons}
-use lib.Ieee.{Float, binary32, to_bits, lt}
 use borrow.Author.Tests.{le-leb, lt-leb, lt-ltb, le-ltb, ltb-false}
-use Rattle.metrics.specs.Similarity.{whole}
 use Rattle.paths.proofs.BooleanLaws.{and_both, and_false}
 use Rattle.params.specs.Checked.{Checked}
 use Rattle.params.specs.Numbers.{Table, Parts, Rule, first_of, call_of, search_mode, queue_needs, little_queue_room, settings_rules, length_rules, bound_rules, limit_rules, room_rules, first_fault}
@@ -25,8 +24,7 @@ use Rattle.kplib.specs.Score.{list_score}
 use Rattle.kplib.specs.Scoring.{Summable, Comparable, unplaced, total}
 use Rattle.kplib.specs.Proposal.{one_of, gives, Proposal, pair_score, is_good, long_rules, proposal_rules, proposal_fault, check_case, rises_below, fewest_of, Pairable}
 use Rattle.params.specs.declared.Settings.{Settings}
-use Rattle.kplib.specs.declared.pathscore.Verdict.{Verdict}
-use Rattle.kplib.specs.declared.pathscore.Verdict.TheVariants.{Skipped, Scores}
+use Rattle.kplib.specs.declared.pathscore.Scores.{Scores}
 use Rattle.kplib.specs.declared.checkpath.PathCheck.TheVariants.{Yes, No, Refused}
 use Rattle.kplib.proofs.MemberLaws.{member, rising_below, rising_length}
 use Rattle.kplib.proofs.OneToOneLaws.{tables_of}
@@ -199,7 +197,7 @@ module _ {s : Settings} {t : Table} {p : Parts} {rows positions : List ℕ} (y :
         };
       })
 
-      pub pair_is : {r : Verdict} → r ≡ list_score s (total size row (length rows)) (total size' row' (length positions)) (length p.sizes - length positions) → r ≡ pair_score s t p rows positions
+      pub pair_is : {r : Option Scores} → r ≡ list_score s (total size row (length rows)) (total size' row' (length positions)) (length p.sizes - length positions) → r ≡ pair_score s t p rows positions
       unfolding pair_score
       pair_is h = rw (chain_row_is, list_row_is, z, z') at h
 
@@ -209,16 +207,6 @@ unfolding pair_score
 unplaced_same s t p rows positions = refl
 
 -- ---- the answer
-pub scored_so : (score x size seq : Float) (v : Verdict) → v ≡ Scores x size seq → lt (whole 0) score ≡ true → {a b : ℕ} → a ≡ to_bits binary32 x → b ≡ to_bits binary32 score
-    → {r : Bool} → r ≡ eqb a b → r ≡ gives score v
-scored_so score x size seq v e h f g k = rw (e, h, ← f, ← g) k
-
-pub scored_low : (score x size seq : Float) (v : Verdict) → v ≡ Scores x size seq → lt (whole 0) score ≡ false → false ≡ gives score v
-scored_low score x size seq v e h = rw (e, h)
-
-pub skipped_no : (score : Float) (v : Verdict) → v ≡ Skipped → false ≡ gives score v
-skipped_no score v e = rw e
-
 pub refused_check : (found fault : ℕ) (good : Bool) → found ≡ fault → (found ≡ 0 → ⊥) → Refused found ≡ check_case fault good
 refused_check found zero good e h = absurd (h e)
 refused_check found (suc f) good e h = rw e
@@ -263,7 +251,7 @@ module _ (s : Settings) (t : Table) (p : Parts) (o : Proposal) {found : ℕ} (e 
   no_list f h = is_no (rw (sym f ∙ h) (and_false chain))
 
   module _ {a b : Bool} (f : a ≡ chain) (g : a ≡ true) (k : b ≡ listed) (l : b ≡ true)
-      {v : Verdict} (i : v ≡ pair_score s (unplaced t.sizes t.features) p o.rows o.positions) {r : Bool} (j : r ≡ gives o.score v) where
+      {v : Option Scores} (i : v ≡ pair_score s (unplaced t.sizes t.features) p o.rows o.positions) {r : Bool} (j : r ≡ gives o.score v) where
     good_is : is_good s t p o ≡ r
     unfolding is_good
     good_is = let whole : v ≡ pair_score s t p o.rows o.positions = i ∙ unplaced_same s t p o.rows o.positions in rw (sym f ∙ g, sym k ∙ l, ← whole) (sym j)

@@ -1,6 +1,5 @@
 -- Sums of feature rows: a turn of each loop, and how long and how large a sum grows. Assumes nothing.
 use mathlib.Core.Path.{◌≡◌, refl, sym, ap, ◌∙◌, subst}
-use mathlib.Core.Bool.{Bool, true, false}
 use mathlib.Core.List.{List, [], ◌∷◌}
 use Prim.Native.Nat.{ℕ, zero, suc, ◌+◌, ◌-◌, ◌*◌, ◌≤◌, ◌<◌, zero-le}
 use native.Mathlib.Omega.{arith}
@@ -15,7 +14,7 @@ use Rattle.metrics.proofs.Ints.{add_le}
 use Rattle.params.specs.Checked.{Flat}
 use Rattle.params.specs.Numbers.{row_at}
 use Rattle.kplib.specs.Sums.{row_plus, features_from, features_of, zeros}
-use Rattle.kplib.specs.Scoring.{AllBelow, Inside, Summable, Ready}
+use Rattle.kplib.specs.Scoring.{AllBelow, Inside, Summable}
 use Rattle.kplib.proofs.WordLaws.{add_fits, add_back}
 
 -- a row with another added to its first i entries
@@ -151,10 +150,3 @@ row_place {e} {table} {rows} s {i} h = (inside_at (length table) e rows i s.insi
 
 pub cleared_sum : (e : ℕ) (x : List ℤ) → x ≡ zeros e → magnitude_sum x ≡ 0
 cleared_sum e x g = ap magnitude_sum g ∙ zeros_sum e
-
-pub ready_true : (t : Bool) {a : List ℤ} {w : ℕ} {b : List ℤ} → t ≡ true → Ready t a w b → Ready true a w b
-ready_true true e r = r
-ready_true false e r = let z : ◌≡◌ {A = ℕ} 0 1 = cc in absurd (omega arith)
-
-pub just_ready : {a : List ℤ} {w : ℕ} {b : List ℤ} → a ≡ b → w ≡ magnitude_sum a → Ready true a w b
-just_ready e f = (e, f ∙ ap magnitude_sum e)

@@ -1,4 +1,5 @@
 -- What a reader may rely on of the scoring's results: a chain's score is a number, at least 0.0, and 0.0 only at the scoring's start. Assumes nothing.
+use Rattle.std.specs.Prelude.{Option, Some, None}
 use mathlib.Core.Path.{◌≡◌, refl, sym, subst}
 use mathlib.Core.Bool.{Bool, true, false, cond, not}
 use mathlib.Core.List.{List, [], ◌∷◌}
@@ -15,8 +16,7 @@ use Rattle.kplib.specs.Sums.{total_of}
 use Rattle.kplib.specs.Score.{start, target_of, list_score, greater_of, after_list, after_lists, total_score, chain_score}
 use Rattle.params.specs.declared.Settings.{Settings}
 use Rattle.kplib.specs.declared.pathscore.Scored.{Scored}
-use Rattle.kplib.specs.declared.pathscore.Verdict.{Verdict}
-use Rattle.kplib.specs.declared.pathscore.Verdict.TheVariants.{Skipped, Scores}
+use Rattle.kplib.specs.declared.pathscore.Scores.{Scores}
 use Rattle.kplib.proofs.RoundingLaws.{holds}
 
 pub is_true : (t : Bool) → T t → t ≡ true
@@ -37,10 +37,10 @@ replaced : (best : Scored) (partial : ℕ) (x size seq : Float) → StartOrAbove
 replaced best partial x size seq b true t = inr (above best x t b)
 replaced best partial x size seq b false t = b
 
-greater_kept : (best : Scored) (partial : ℕ) (v : Verdict) → StartOrAbove best → StartOrAbove (greater_of best partial v)
+greater_kept : (best : Scored) (partial : ℕ) (v : Option Scores) → StartOrAbove best → StartOrAbove (greater_of best partial v)
 unfolding greater_of
-greater_kept best partial Skipped b = b
-greater_kept best partial (Scores x size seq) b = replaced best partial x size seq b (lt best.score x) refl
+greater_kept best partial None b = b
+greater_kept best partial (Some x) b = replaced best partial x.score x.sizesim x.seqsim b (lt best.score x.score) refl
 
 lists_kept : (f : Scored → List ℕ → Scored) → ((best : Scored) (l : List ℕ) → StartOrAbove best → StartOrAbove (f best l))
     → (best : Scored) (lists : List (List ℕ)) → StartOrAbove best → StartOrAbove (after_lists f best lists)

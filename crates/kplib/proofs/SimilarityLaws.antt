@@ -1,8 +1,7 @@
 -- Within the limits neither similarity of the lower crate refuses, so its answer is the value; and the small parts of a score. Assumes nothing.
 use mathlib.Core.Path.{◌≡◌, refl, ◌∙◌}
-use mathlib.Core.Bool.{Bool, true, false}
 use mathlib.Core.List.{List}
-use Prim.Native.Nat.{ℕ, zero, suc, ◌+◌, ◌-◌, ◌≤◌, max}
+use Prim.Native.Nat.{ℕ, ◌≤◌, max}
 use native.Mathlib.Omega.{arith}
 use borrow.Author.Tests.{le-ltb, eq-eqb}
 use lib.IntN.{ℤ, nat_abs}
@@ -13,8 +12,7 @@ use mir.Val.{to_z, of_z}
 use Rattle.metrics.specs.Similarity.{whole, sizesim_of, sizesim_value, seqsim_of, magnitude_sum}
 use Rattle.metrics.specs.declared.Sim.{Sim}
 use Rattle.metrics.specs.declared.Sim.TheVariants.{Value, Refused}
-use Rattle.kplib.specs.Score.{seqsim_of_rows, gap_of, target_of}
-use Rattle.kplib.specs.declared.pathscore.Target.TheVariants.{Partial}
+use Rattle.kplib.specs.Score.{seqsim_of_rows}
 use Rattle.kplib.proofs.WordLaws.{back}
 
 size_given : (a b : ℕ) → a ≤ 8388608 → b ≤ 8388608 → sizesim_of a b ≡ Value (sizesim_value a b)
@@ -35,18 +33,6 @@ the_value r x v e f = cc
 
 pub no_refusal : (r : Sim) (n : ℕ) (x v : Float) → r ≡ Refused n → r ≡ Value v → x ≡ v
 no_refusal r n x v e f = let z : ◌≡◌ {A = ℕ} 0 1 = cc in absurd (omega arith)
-
-pub gap_squished : (t : Bool) → t ≡ true → (n len : ℕ) → gap_of t n len ≡ len - 1
-gap_squished true e n len = refl
-gap_squished false e n len = let z : ◌≡◌ {A = ℕ} 0 1 = cc in absurd (omega arith)
-
-pub gap_apart : (t : Bool) → t ≡ false → (n len : ℕ) → gap_of t n len ≡ (n - len) + (len - n)
-gap_apart false e n len = refl
-gap_apart true e n len = let z : ◌≡◌ {A = ℕ} 0 1 = cc in absurd (omega arith)
-
-pub partial_target : (n : ℕ) → (n ≡ 0 → ⊥) → Partial n ≡ target_of n
-partial_target zero h = absurd (h refl)
-partial_target (suc n) h = refl
 
 pub two_is : of_bits binary32 1073741824 ≡ whole 2
 unfolding of_bits of_int

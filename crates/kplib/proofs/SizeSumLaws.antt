@@ -8,14 +8,14 @@ use lib.IntN.{ℤ, pos, nat_abs, ◌+ℤ◌}
 use lib.ListN.{length, get_or, drop, drop_of_length-le}
 use lib.Seq.{drop-cons}
 use mir.Syntax.{w32}
-use mir.Val.{to_z, of_z, SFits}
+use mir.Val.{to_z, of_z}
 use Rattle.metrics.proofs.Ints.{add_le}
 use Rattle.params.specs.Checked.{Sized}
 use Rattle.kplib.specs.Parts.{whole_of}
 use Rattle.kplib.specs.Sums.{size_from, size_of}
 use Rattle.kplib.specs.SearchSteps.{Rowed}
 use Rattle.kplib.proofs.CodeLaws.{whole_below, whole_length, whole_at}
-use Rattle.kplib.proofs.WordLaws.{fits, back}
+use Rattle.kplib.proofs.WordLaws.{back}
 
 size_from_le : (sizes : List ℤ) (z : ℤ) (rows : List ℕ) → ((r : ℕ) → nat_abs (get_or sizes r (pos 0)) ≤ 131072) → nat_abs (size_from sizes z rows) ≤ nat_abs z + length rows * 131072
 unfolding size_from
@@ -54,9 +54,6 @@ module _ {sizes : List ℤ} {rows : List ℕ} {size : ℤ} {i : ℕ} (h : Rowed 
   next_small : nat_abs (size +ℤ next) ≤ (i + 1) * 131072
   next_small = omega (arith, v.small, add_le size next, h.sized.sized (get_or rows i 0))
 
-  pub summing_fits : SFits w32 (size +ℤ to_z w32 (of_z w32 (get_or sizes (get_or rows i 0) (pos 0))))
-  summing_fits = rw next_back (fits (size +ℤ next) (omega (arith, next_small, h.most)))
-
   pub summing_on : Summing sizes rows (to_z w32 (of_z w32 (size +ℤ to_z w32 (of_z w32 (get_or sizes (get_or rows i 0) (pos 0)))))) (i + 1)
   unfolding size_from
   summing_on = rw (next_back, back (size +ℤ next) (omega (arith, next_small, h.most)))
@@ -76,9 +73,6 @@ module _ {sizes : List ℤ} {size : ℤ} {p : ℕ} (s : Sized sizes) (v : Summin
 
   inside : p < length (whole_of (length sizes))
   inside = omega (arith, whole_length (length sizes))
-
-  pub whole_fits : SFits w32 (size +ℤ to_z w32 (of_z w32 (get_or sizes p (pos 0))))
-  whole_fits = rw position at (summing_fits rowed v inside)
 
   pub whole_on : Summing sizes (whole_of (length sizes)) (to_z w32 (of_z w32 (size +ℤ to_z w32 (of_z w32 (get_or sizes p (pos 0)))))) (p + 1)
   whole_on = rw position at (summing_on rowed v inside)

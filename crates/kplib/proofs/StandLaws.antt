@@ -1,4 +1,5 @@
 -- A list passed over because it cannot beat its chain's best, or cannot reach the search's, changes nothing that the search sees. Assumes nothing.
+use Rattle.std.specs.Prelude.{Option, Some, None}
 use mathlib.Core.Path.{◌≡◌, refl, sym, ap, ◌∙◌, subst}
 use mathlib.Core.Bool.{Bool, true, false, cond, not}
 use Prim.Native.Nat.{ℕ}
@@ -7,11 +8,10 @@ use lib.Dec.{T}
 use lib.Ieee.{Float, nan, lt, le}
 use lib.Ieee.Bits.{is_true}
 use Rattle.metrics.proofs.FloatOrder.{Le→le, lt_le, lt_not_le, lt_number, not_lt_le, le_lt_trans}
-use Rattle.kplib.specs.Score.{target_of, greater_of}
+use Rattle.kplib.specs.Score.{target_of, greater_of, scores_of}
 use Rattle.kplib.specs.Scoring.{StandsFor, same, below}
 use Rattle.kplib.specs.declared.pathscore.Scored.{Scored}
-use Rattle.kplib.specs.declared.pathscore.Verdict.{Verdict}
-use Rattle.kplib.specs.declared.pathscore.Verdict.TheVariants.{Skipped, Scores}
+use Rattle.kplib.specs.declared.pathscore.Scores.{Scores}
 use Rattle.kplib.proofs.RoundingLaws.{Safe, lost, gone, kept, holds, no, nothing_beats, beaten}
 
 clash : (t : Bool) → t ≡ false → t ≡ true → ⊥
@@ -46,7 +46,7 @@ module _ (floor : Float) (x b : Scored) (partial : ℕ) (score size seq : Float)
   new = record { target = target_of partial; score = score; sizesim = size; seqsim = seq }
 
   -- passed over: its bound is below the floor
-  pub pass_floor : (y : Float) → Safe score y → lt y floor ≡ true → StandsFor floor x b → StandsFor floor (greater_of x partial (Scores score size seq)) b
+  pub pass_floor : (y : Float) → Safe score y → lt y floor ≡ true → StandsFor floor x b → StandsFor floor (greater_of x partial (Some (scores_of score size seq))) b
   unfolding greater_of
   pass_floor y safe h s = go (lt x.score score) refl s
     where
@@ -58,7 +58,7 @@ module _ (floor : Float) (x b : Scored) (partial : ℕ) (score size seq : Float)
       go true e (below p q) = below (low score y floor safe h x.score e) q
 
   -- passed over: its bound is at most the best
-  pub pass_best : (y : Float) → Safe score y → le y b.score ≡ true → StandsFor floor x b → StandsFor floor (greater_of x partial (Scores score size seq)) b
+  pub pass_best : (y : Float) → Safe score y → le y b.score ≡ true → StandsFor floor x b → StandsFor floor (greater_of x partial (Some (scores_of score size seq))) b
   unfolding greater_of
   pass_best y safe h s = go (lt x.score score) refl s
     where
@@ -67,7 +67,7 @@ module _ (floor : Float) (x b : Scored) (partial : ℕ) (score size seq : Float)
       go true e (same f) = absurd (clash (lt b.score score) (beaten score y b.score safe h) (ap (λ (z : Scored). lt z.score score) f ∙ e))
       go true e (below p q) = below (unbeaten b.score score floor q (beaten score y b.score safe h) x.score e) q
 
-  try_both : StandsFor floor x b → StandsFor floor (greater_of x partial (Scores score size seq)) (greater_of b partial (Scores score size seq))
+  try_both : StandsFor floor x b → StandsFor floor (greater_of x partial (Some (scores_of score size seq))) (greater_of b partial (Some (scores_of score size seq)))
   unfolding greater_of
   try_both (same f) = same (ap (λ (z : Scored). cond (lt z.score score) new z) f)
   try_both (below p q) = go (lt x.score score) refl (lt b.score score) refl
@@ -79,9 +79,9 @@ module _ (floor : Float) (x b : Scored) (partial : ℕ) (score size seq : Float)
       go false e false g = below p q
 
 -- tried against both
-pub tried : (floor : Float) (x b : Scored) (partial : ℕ) (v : Verdict) → StandsFor floor x b → StandsFor floor (greater_of x partial v) (greater_of b partial v)
-tried floor x b partial Skipped s = unfold greater_of in s
-tried floor x b partial (Scores score size seq) s = try_both floor x b partial score size seq s
+pub tried : (floor : Float) (x b : Scored) (partial : ℕ) (v : Option Scores) → StandsFor floor x b → StandsFor floor (greater_of x partial v) (greater_of b partial v)
+tried floor x b partial None s = unfold greater_of in s
+tried floor x b partial (Some y) s = try_both floor x b partial y.score y.sizesim y.seqsim s
 
 -- ---- what the search keeps is the same: below its best nothing replaces it
 pub later_same : {R : Type 0} (floor : Float) (x r : Scored) (f : Scored → R) (old : R) → StandsFor floor x r

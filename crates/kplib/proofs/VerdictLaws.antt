@@ -1,4 +1,5 @@
 -- One list against one chain: which way each test goes, and that a list which may not win changes nothing that the search sees. Assumes nothing.
+use Rattle.std.specs.Prelude.{Option, Some, None}
 use mathlib.Core.Path.{◌≡◌, refl, sym, ap, ◌∙◌}
 use mathlib.Core.Bool.{Bool, true, false, cond, not, ◌&&◌}
 use mathlib.Core.List.{List}
@@ -10,18 +11,17 @@ use lib.IntN.{ℤ, nat_abs}
 use lib.Ieee.{Float, lt, le, binary32, of_bits}
 use mir.Syntax.{w32}
 use mir.Val.{to_z, of_z}
+use Rattle.std.specs.Int.{int_signum}
 use Rattle.metrics.specs.Similarity.{whole, sizesim_value, sum_d, sum_n}
 use Rattle.metrics.proofs.Casts.{one_is}
 use Rattle.metrics.proofs.FloatOrder.{le→Le}
-use Rattle.kplib.specs.Score.{sign, gap_of, score_value, seqsim_of_rows, list_score, target_of, greater_of}
+use Rattle.kplib.specs.Score.{sign, gap_of, score_value, seqsim_of_rows, list_score, greater_of, scores_of}
 use Rattle.kplib.specs.Scoring.{total, Testable, Comparable, StandsFor, terms_of, may_score, may_win, verdict_of, Judged, own, idle}
 use Rattle.params.specs.declared.Settings.{Settings}
 use Rattle.kplib.specs.declared.pathscore.Scored.{Scored}
-use Rattle.kplib.specs.declared.pathscore.Target.{Target}
 use Rattle.kplib.specs.declared.pathscore.Terms.{Terms}
-use Rattle.kplib.specs.declared.pathscore.Verdict.{Verdict}
-use Rattle.kplib.specs.declared.pathscore.Verdict.TheVariants.{Skipped, Scores}
-use Rattle.kplib.proofs.WordLaws.{back}
+use Rattle.kplib.specs.declared.pathscore.Scores.{Scores}
+use Rattle.kplib.proofs.WordLaws.{back, same_sign, other_sign}
 use Rattle.kplib.proofs.RoundingLaws.{Safe, kept, score_grows, score_safe}
 use Rattle.kplib.proofs.StandLaws.{pass_floor, pass_best, tried}
 
@@ -36,12 +36,12 @@ module _ {c : ℤ} {chainLen : ℕ} {l : ℤ} {listLen partial : ℕ} (y : Testa
   pub as_read : Testable (to_z w32 (of_z w32 c)) chainLen (to_z w32 (of_z w32 l)) listLen partial
   as_read = rw (chain_as_read, list_as_read) y
 
-  module _ {a b : ℕ} (f : a ≡ sign (to_z w32 (of_z w32 c))) (g : b ≡ sign (to_z w32 (of_z w32 l))) where
-    same_sign : a ≡ b → eqb (sign c) (sign l) ≡ true
-    same_sign h = eq-eqb (sign c) (sign l) (ap sign (sym chain_as_read) ∙ sym f ∙ h ∙ g ∙ ap sign list_as_read)
+  module _ {a b : ℤ} (f : a ≡ int_signum (to_z w32 (of_z w32 c))) (g : b ≡ int_signum (to_z w32 (of_z w32 l))) where
+    alike : of_z w32 a ≡ of_z w32 b → eqb (sign c) (sign l) ≡ true
+    alike h = eq-eqb (sign c) (sign l) (same_sign c l (rw chain_as_read at f) (rw list_as_read at g) h)
 
-    other_sign : (a ≡ b → ⊥) → eqb (sign c) (sign l) ≡ false
-    other_sign h = ne_eqb (sign c) (sign l) (λ k. h (f ∙ ap sign chain_as_read ∙ k ∙ ap sign (sym list_as_read) ∙ sym g))
+    unlike : (of_z w32 a ≡ of_z w32 b → ⊥) → eqb (sign c) (sign l) ≡ false
+    unlike h = ne_eqb (sign c) (sign l) (other_sign c l (rw chain_as_read at f) (rw list_as_read at g) h)
 
   pub size_is : {z : Float} → z ≡ sizesim_value (nat_abs (to_z w32 (of_z w32 c))) (nat_abs (to_z w32 (of_z w32 l))) → z ≡ sizesim_value (nat_abs c) (nat_abs l)
   size_is e = e ∙ rw (chain_as_read, list_as_read)
@@ -53,30 +53,30 @@ module _ {c : ℤ} {chainLen : ℕ} {l : ℤ} {listLen partial : ℕ} (y : Testa
 -- ---- the score of a list
 module _ {s : Settings} {c : ℤ} {chainRow : List ℤ} {chainLen : ℕ} {l : ℤ} {listRow : List ℤ} {listLen partial : ℕ} (y : Comparable s c chainRow chainLen l listRow listLen partial)
     {t : Bool} (te : t ≡ (s.squish && eqb chainLen 0)) where
-  pub by_squish : t ≡ true → Skipped ≡ list_score s (total c chainRow chainLen) (total l listRow listLen) partial
+  pub by_squish : t ≡ true → None ≡ list_score s (total c chainRow chainLen) (total l listRow listLen) partial
   unfolding list_score
   by_squish h = rw (sym te ∙ h)
 
-  module _ (tf : t ≡ false) {a b : ℕ} (f : a ≡ sign (to_z w32 (of_z w32 c))) (g : b ≡ sign (to_z w32 (of_z w32 l))) where
-    pub by_sign : (a ≡ b → ⊥) → Skipped ≡ list_score s (total c chainRow chainLen) (total l listRow listLen) partial
+  module _ (tf : t ≡ false) {a b : ℤ} (f : a ≡ int_signum (to_z w32 (of_z w32 c))) (g : b ≡ int_signum (to_z w32 (of_z w32 l))) where
+    pub by_sign : (of_z w32 a ≡ of_z w32 b → ⊥) → None ≡ list_score s (total c chainRow chainLen) (total l listRow listLen) partial
     unfolding list_score
-    by_sign h = rw (sym te ∙ tf, other_sign y.tests f g h)
+    by_sign h = rw (sym te ∙ tf, unlike y.tests f g h)
 
-    module _ (h : a ≡ b) {z : Float} (ze : z ≡ sizesim_value (nat_abs (to_z w32 (of_z w32 c))) (nat_abs (to_z w32 (of_z w32 l)))) where
-      pub by_size : lt z s.sizesim ≡ true → Skipped ≡ list_score s (total c chainRow chainLen) (total l listRow listLen) partial
+    module _ (h : of_z w32 a ≡ of_z w32 b) {z : Float} (ze : z ≡ sizesim_value (nat_abs (to_z w32 (of_z w32 c))) (nat_abs (to_z w32 (of_z w32 l)))) where
+      pub by_size : lt z s.sizesim ≡ true → None ≡ list_score s (total c chainRow chainLen) (total l listRow listLen) partial
       unfolding list_score
-      by_size k = rw (sym te ∙ tf, same_sign y.tests f g h, rw (size_is y.tests ze) at k)
+      by_size k = rw (sym te ∙ tf, alike y.tests f g h, rw (size_is y.tests ze) at k)
 
       module _ (zf : lt z s.sizesim ≡ false) {q : Float} (qe : q ≡ seqsim_of_rows s.minkfreq chainRow listRow) where
-        pub by_seq : lt q s.seqsim ≡ true → Skipped ≡ list_score s (total c chainRow chainLen) (total l listRow listLen) partial
+        pub by_seq : lt q s.seqsim ≡ true → None ≡ list_score s (total c chainRow chainLen) (total l listRow listLen) partial
         unfolding list_score
-        by_seq k = rw (sym te ∙ tf, same_sign y.tests f g h, rw (size_is y.tests ze) at zf, rw qe at k)
+        by_seq k = rw (sym te ∙ tf, alike y.tests f g h, rw (size_is y.tests ze) at zf, rw qe at k)
 
         pub by_score : lt q s.seqsim ≡ false → {w : ℕ} → w ≡ gap_of s.squish listLen chainLen → {x : Float} → x ≡ score_value s q z partial w
-            → Scores x z q ≡ list_score s (total c chainRow chainLen) (total l listRow listLen) partial
+            → Some (scores_of x z q) ≡ list_score s (total c chainRow chainLen) (total l listRow listLen) partial
         unfolding list_score
         by_score k we xe =
-            rw (xe, we, size_is y.tests ze, qe, sym te ∙ tf, same_sign y.tests f g h, rw (size_is y.tests ze) at zf, rw qe at k)
+            rw (xe, we, size_is y.tests ze, qe, sym te ∙ tf, alike y.tests f g h, rw (size_is y.tests ze) at zf, rw qe at k)
 
 -- ---- whether it may win
 module _ (s : Settings) (floor best : Float) {c : ℤ} {chainLen : ℕ} {l : ℤ} {listLen partial : ℕ} (y : Testable c chainLen l listLen partial)
@@ -85,43 +85,29 @@ module _ (s : Settings) (floor best : Float) {c : ℤ} {chainLen : ℕ} {l : ℤ
   unfolding may_win
   lost_by_squish h = rw (sym te ∙ h)
 
-  module _ (tf : t ≡ false) {a b : ℕ} (f : a ≡ sign (to_z w32 (of_z w32 c))) (g : b ≡ sign (to_z w32 (of_z w32 l))) where
-    pub lost_by_sign : (a ≡ b → ⊥) → false ≡ may_win s c chainLen l listLen partial floor best
+  module _ (tf : t ≡ false) {a b : ℤ} (f : a ≡ int_signum (to_z w32 (of_z w32 c))) (g : b ≡ int_signum (to_z w32 (of_z w32 l))) where
+    pub lost_by_sign : (of_z w32 a ≡ of_z w32 b → ⊥) → false ≡ may_win s c chainLen l listLen partial floor best
     unfolding may_win
-    lost_by_sign h = rw (sym te ∙ tf, other_sign y f g h)
+    lost_by_sign h = rw (sym te ∙ tf, unlike y f g h)
 
-    module _ (h : a ≡ b) {r : Terms} (re : r ≡ terms_of s (to_z w32 (of_z w32 c)) chainLen (to_z w32 (of_z w32 l)) listLen partial floor best) where
+    module _ (h : of_z w32 a ≡ of_z w32 b) {r : Terms} (re : r ≡ terms_of s (to_z w32 (of_z w32 c)) chainLen (to_z w32 (of_z w32 l)) listLen partial floor best) where
       pub lost_by_size : lt r.size s.sizesim ≡ true → false ≡ may_win s c chainLen l listLen partial floor best
       unfolding may_win
       lost_by_size k =
           let j : lt (sizesim_value (nat_abs c) (nat_abs l)) s.sizesim ≡ true = sym (ap (λ (x : Terms). lt x.size s.sizesim) (terms_read y s re)) ∙ k in
-          rw (sym te ∙ tf, same_sign y f g h, j)
+          rw (sym te ∙ tf, alike y f g h, j)
 
       pub by_bound : lt r.size s.sizesim ≡ false → {w : Bool} → w ≡ may_score s r (of_bits binary32 0x3f80_0000) → w ≡ may_win s c chainLen l listLen partial floor best
       unfolding may_win
       by_bound k {w} e =
           let j : lt (sizesim_value (nat_abs c) (nat_abs l)) s.sizesim ≡ false = sym (ap (λ (x : Terms). lt x.size s.sizesim) (terms_read y s re)) ∙ k in
-          rw (sym te ∙ tf, same_sign y f g h, j) (e ∙ rw (one_is, terms_read y s re))
-
--- ---- the better of the two
-pub greater_new : (best : Scored) (partial : ℕ) (v : Verdict) (target : Target) (x size seq : Float) → v ≡ Scores x size seq → target ≡ target_of partial → lt best.score x ≡ true
-    → ◌≡◌ {A = Scored} (record { target = target; score = x; sizesim = size; seqsim = seq }) (greater_of best partial v)
-unfolding greater_of
-greater_new best partial v target x size seq e f t = rw (e, f, t)
-
-pub greater_old : (best : Scored) (partial : ℕ) (v : Verdict) (x size seq : Float) → v ≡ Scores x size seq → lt best.score x ≡ false → best ≡ greater_of best partial v
-unfolding greater_of
-greater_old best partial v x size seq e t = rw (e, t)
-
-pub greater_skipped : (best : Scored) (partial : ℕ) (v : Verdict) → v ≡ Skipped → best ≡ greater_of best partial v
-unfolding greater_of
-greater_skipped best partial v e = rw e
+          rw (sym te ∙ tf, alike y f g h, j) (e ∙ rw (one_is, terms_read y s re))
 
 -- ---- a list that could not win, with its own seqsim or one that is no less
 module _ (s : Settings) (terms : Terms) (full best : Scored) (e : best.score ≡ terms.best) (x z q : Float) (partial : ℕ) (st : StandsFor terms.floor full best) where
   by_tests : (most : Float) → Safe x (score_value s most terms.size terms.partial terms.gap) → (low bound : Bool)
       → lt (score_value s most terms.size terms.partial terms.gap) terms.floor ≡ low → le (score_value s most terms.size terms.partial terms.gap) terms.best ≡ bound
-      → (not low && not bound) ≡ false → StandsFor terms.floor (greater_of full partial (Scores x z q)) best
+      → (not low && not bound) ≡ false → StandsFor terms.floor (greater_of full partial (Some (scores_of x z q))) best
   by_tests most safe true bound f g h = pass_floor terms.floor full best partial x z q (score_value s most terms.size terms.partial terms.gap) safe f st
   by_tests most safe false true f g h =
       let y = score_value s most terms.size terms.partial terms.gap in
@@ -129,15 +115,15 @@ module _ (s : Settings) (terms : Terms) (full best : Scored) (e : best.score ≡
   by_tests most safe false false f g h = let z : ◌≡◌ {A = ℕ} 0 1 = cc in absurd (omega arith)
 
   pub by_most : (most : Float) → Safe x (score_value s most terms.size terms.partial terms.gap) → may_score s terms most ≡ false
-      → StandsFor terms.floor (greater_of full partial (Scores x z q)) best
+      → StandsFor terms.floor (greater_of full partial (Some (scores_of x z q))) best
   unfolding may_score
   by_most most safe h = by_tests most safe _ _ refl refl h
 
 -- what a list is given up for: below the threshold it is skipped anyway
 idle_stands : (s : Settings) (terms : Terms) (seq most : Float) (full best : Scored) → best.score ≡ terms.best → T (le seq most) → may_score s terms most ≡ false
     → StandsFor terms.floor full best → (t : Bool)
-    → StandsFor terms.floor (greater_of full terms.partial (cond t Skipped (Scores (score_value s seq terms.size terms.partial terms.gap) terms.size seq)))
-    (greater_of best terms.partial Skipped)
+    → StandsFor terms.floor (greater_of full terms.partial (cond t None (Some (scores_of (score_value s seq terms.size terms.partial terms.gap) terms.size seq))))
+    (greater_of best terms.partial None)
 unfolding greater_of
 idle_stands s terms seq most full best e h f st true = st
 idle_stands s terms seq most full best e h f st false =
@@ -145,7 +131,7 @@ idle_stands s terms seq most full best e h f st false =
     (score_grows s seq most terms.size terms.partial terms.gap (kept (le→Le seq most h))) f
 
 -- the verdict on a list, its own or none since it could not win, is what the definition's stands for
-pub judged_stands : {s : Settings} {terms : Terms} {seq : Float} {v : Verdict} → Judged s terms seq v → (full best : Scored) → best.score ≡ terms.best
+pub judged_stands : {s : Settings} {terms : Terms} {seq : Float} {v : Option Scores} → Judged s terms seq v → (full best : Scored) → best.score ≡ terms.best
     → StandsFor terms.floor full best → StandsFor terms.floor (greater_of full terms.partial (verdict_of s terms seq)) (greater_of best terms.partial v)
 judged_stands {s} {terms} {seq} {v} (own k) full best e st = rw k (tried terms.floor full best terms.partial (verdict_of s terms seq) st)
 judged_stands {s} {terms} {seq} {v} (idle most k h f) full best e st = rw k (idle_stands s terms seq most full best e h f st (lt seq s.seqsim))
@@ -159,9 +145,9 @@ module _ (s : Settings) (floor : Float) (full best : Scored) (c : ℤ) (chainRow
   seq = seqsim_of_rows s.minkfreq chainRow listRow
 
   lost_with : (empty sign size win below : Bool) → StandsFor floor full best → (not empty && (sign && (not size && win))) ≡ false
-      → (win ≡ false → (x z q : Float) → Safe x (score_value s (whole 1) terms.size terms.partial terms.gap) → StandsFor floor (greater_of full partial (Scores x z q)) best)
-      → StandsFor floor (greater_of full partial (cond empty Skipped (cond (not sign) Skipped (cond size Skipped
-      (cond below Skipped (Scores (score_value s seq terms.size partial terms.gap) terms.size seq)))))) best
+      → (win ≡ false → (x z q : Float) → Safe x (score_value s (whole 1) terms.size terms.partial terms.gap) → StandsFor floor (greater_of full partial (Some (scores_of x z q))) best)
+      → StandsFor floor (greater_of full partial (cond empty None (cond (not sign) None (cond size None
+      (cond below None (Some (scores_of (score_value s seq terms.size partial terms.gap) terms.size seq))))))) best
   unfolding greater_of
   lost_with true sign size win below st h k = st
   lost_with false false size win below st h k = st
@@ -180,8 +166,8 @@ module _ (s : Settings) (floor : Float) (full best : Scored) (c : ℤ) (chainRow
       lost_with (s.squish && eqb chainLen 0) (eqb (sign c) (sign l)) (lt terms.size s.sizesim) (may_score s terms (whole 1)) (lt seq s.seqsim) st h
       (λ f x z q safe. by_most s terms full best refl x z q partial st (whole 1) safe f)
 
-  won_with : (empty sign size win : Bool) → (not empty && (sign && (not size && win))) ≡ true → (v : Verdict)
-      → cond empty Skipped (cond (not sign) Skipped (cond size Skipped v)) ≡ v
+  won_with : (empty sign size win : Bool) → (not empty && (sign && (not size && win))) ≡ true → (v : Option Scores)
+      → cond empty None (cond (not sign) None (cond size None v)) ≡ v
   won_with false true false win h v = refl
   won_with true sign size win h v = let z : ◌≡◌ {A = ℕ} 0 1 = cc in absurd (omega arith)
   won_with false false size win h v = let z : ◌≡◌ {A = ℕ} 0 1 = cc in absurd (omega arith)

@@ -1,5 +1,5 @@
 -- Document 02, P13: what holds of every check of a proposal. The answers of our own search are among those that get a yes.
-use Rattle.std.specs.Prelude.{ℕ, ◌^◌, ◌≡◌, true, false, cond, ◌&&◌, List, [], ◌∷◌, reverse, leb, length, Float}
+use Rattle.std.specs.Prelude.{ℕ, ◌^◌, ◌≡◌, true, false, cond, ◌&&◌, List, [], ◌∷◌, reverse, leb, length, Float, Some}
 use Rattle.std.specs.Float.{binary32}
 use Rattle.std.specs.Float.Ieee.{to_bits, lt}
 use Rattle.metrics.specs.Similarity.{whole}
@@ -7,12 +7,11 @@ use Rattle.params.specs.Numbers.{Table, Parts, Call, first_of, settings_rules}
 use Rattle.kplib.specs.Graph.{is_chain_in}
 use Rattle.kplib.specs.Parts.{part_lists}
 use Rattle.kplib.specs.Sums.{size_of, features_of, total_of}
-use Rattle.kplib.specs.Score.{start, after_list}
+use Rattle.kplib.specs.Score.{start, after_list, scores_of}
 use Rattle.kplib.specs.Answer.{answer_of, rows_of, searches}
 use Rattle.kplib.specs.Proposal.{Proposal, proposal_of, one_of, pair_score, proposal_fault, check_case, check_of, rises_below, fewest_of}
 use Rattle.params.specs.declared.Settings.{Settings}
 use Rattle.kplib.specs.declared.pathscore.Scored.{Scored}
-use Rattle.kplib.specs.declared.pathscore.Verdict.TheVariants.{Scores}
 use Rattle.kplib.specs.declared.checkpath.PathCheck.TheVariants.{Yes}
 
 -- the list by which the best was last replaced, `won` where none of these replaces it
@@ -33,7 +32,7 @@ pub record Good (s : Settings) (t : Table) (p : Parts) (o : Proposal) : Type 0 w
   pub score : Float
   pub sizesim : Float
   pub seqsim : Float
-  pub scored : pair_score s t p o.rows o.positions ≡ Scores score sizesim seqsim
+  pub scored : pair_score s t p o.rows o.positions ≡ Some (scores_of score sizesim seqsim)
   pub bits : to_bits binary32 score ≡ to_bits binary32 o.score
   pub above : lt (whole 0) o.score ≡ true
 

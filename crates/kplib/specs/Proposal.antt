@@ -1,5 +1,5 @@
 -- Document 02, P13: a path that someone else proposes, that is rows, positions among the parts, and a score. Chain, part list and list score are the search's own.
-use Rattle.std.specs.Prelude.{ℕ, zero, suc, ◌-◌, ◌^◌, ◌≤◌, max, Bool, true, false, cond, ◌&&◌, ◌||◌, List, [], ◌∷◌, ◌++◌, reverse, leb, ltb, eqb, Float}
+use Rattle.std.specs.Prelude.{ℕ, zero, suc, ◌-◌, ◌^◌, ◌≤◌, max, Bool, true, false, cond, ◌&&◌, ◌||◌, List, [], ◌∷◌, ◌++◌, reverse, leb, ltb, eqb, Float, Option, Some, None}
 use Rattle.std.proofs.Math.ListN.{length}
 use Rattle.std.specs.Float.{binary32}
 use Rattle.std.specs.Float.Ieee.{to_bits, lt}
@@ -12,8 +12,7 @@ use Rattle.kplib.specs.Sums.{size_of, features_of, total_of}
 use Rattle.kplib.specs.Score.{list_score}
 use Rattle.kplib.specs.Scoring.{Tables, AllBelow}
 use Rattle.params.specs.declared.Settings.{Settings}
-use Rattle.kplib.specs.declared.pathscore.Verdict.{Verdict}
-use Rattle.kplib.specs.declared.pathscore.Verdict.TheVariants.{Skipped, Scores}
+use Rattle.kplib.specs.declared.pathscore.Scores.{Scores}
 use Rattle.kplib.specs.declared.checkpath.PathCheck.{PathCheck}
 use Rattle.kplib.specs.declared.checkpath.PathCheck.TheVariants.{Yes, No, Refused}
 
@@ -23,9 +22,9 @@ one_of list [] = false
 one_of list (l ∷ lists) = same_rows list l || one_of list lists
 
 -- every skip test is passed, and what is scored is this score, greater than 0, bit for bit
-abbrev pub gives : Float → Verdict → Bool
-gives score Skipped = false
-gives score (Scores x size seq) = lt (whole 0) score && eqb (to_bits binary32 x) (to_bits binary32 score)
+abbrev pub gives : Float → Option Scores → Bool
+gives score None = false
+gives score (Some scores) = lt (whole 0) score && eqb (to_bits binary32 scores.score) (to_bits binary32 score)
 
 -- a proposal: the rows as they are sent, ascending in a good one, the positions and the score
 pub record Proposal : Type 0 where
@@ -38,7 +37,7 @@ proposal_of rows positions score = record { rows = rows; positions = positions; 
 
 module _ (s : Settings) (t : Table) (p : Parts) where
   -- that list scored against that chain
-  unfoldable pub pair_score : List ℕ → List ℕ → Verdict
+  unfoldable pub pair_score : List ℕ → List ℕ → Option Scores
   unfolding list_score size_of features_of
   pair_score rows positions =
       list_score s (total_of (4 ^ s.k) t.sizes t.features rows) (total_of (4 ^ s.k) p.sizes p.features positions) (length p.sizes - length positions)

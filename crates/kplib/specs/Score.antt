@@ -1,5 +1,5 @@
 -- Document 01, "Score of a chain".
-use Rattle.std.specs.Prelude.{ℕ, zero, suc, ◌+◌, ◌-◌, ◌^◌, Bool, true, false, cond, not, ◌&&◌, List, [], ◌∷◌, eqb, ℤ, pos, negsuc, nat_abs, length, Float}
+use Rattle.std.specs.Prelude.{ℕ, zero, suc, ◌+◌, ◌-◌, ◌^◌, Bool, true, false, cond, not, ◌&&◌, List, [], ◌∷◌, eqb, ℤ, pos, negsuc, nat_abs, length, Float, Option, Some, None}
 use Rattle.std.specs.Float.{binary32}
 use Rattle.std.specs.Float.Ieee.{add, sub, mul, div, lt}
 use Rattle.metrics.specs.Similarity.{whole, sizesim_value, seqsim_value, sum_d, sum_n}
@@ -10,8 +10,7 @@ use Rattle.params.specs.declared.Settings.{Settings}
 use Rattle.kplib.specs.declared.pathscore.Scored.{Scored}
 use Rattle.kplib.specs.declared.pathscore.Target.{Target}
 use Rattle.kplib.specs.declared.pathscore.Target.TheVariants.{Nothing, Whole, Partial}
-use Rattle.kplib.specs.declared.pathscore.Verdict.{Verdict}
-use Rattle.kplib.specs.declared.pathscore.Verdict.TheVariants.{Skipped, Scores}
+use Rattle.kplib.specs.declared.pathscore.Scores.{Scores}
 
 -- the sign of a size: -, 0, +
 abbrev pub sign : ℤ → ℕ
@@ -38,18 +37,22 @@ seqsim_of_rows minkfreq a b = seqsim_value (sum_d minkfreq a b) (sum_n minkfreq 
 abbrev pub seqsim_of_totals : Settings → Total → Total → Float
 seqsim_of_totals s chain list = seqsim_of_rows s.minkfreq chain.features list.features
 
+-- what a list scored
+abbrev pub scores_of : Float → Float → Float → Scores
+scores_of score sizesim seqsim = record { score = score; sizesim = sizesim; seqsim = seqsim }
+
 -- one list, with `partial` parts left out, against one chain: skipped, or score, sizesim and seqsim. Under squish an empty chain accepts no list;
 -- else skip if the signs differ, or if sizesim or seqsim is below its threshold
-unfoldable pub list_score : Settings → Total → Total → ℕ → Verdict
+unfoldable pub list_score : Settings → Total → Total → ℕ → Option Scores
 list_score s chain list partial =
-    cond (s.squish && eqb chain.count 0) Skipped
-    (cond (not (eqb (sign chain.size) (sign list.size))) Skipped
-    (cond (lt (sizesim_of_totals chain list) s.sizesim) Skipped
-    (cond (lt (seqsim_of_totals s chain list) s.seqsim) Skipped
-    (Scores
+    cond (s.squish && eqb chain.count 0) None
+    (cond (not (eqb (sign chain.size) (sign list.size))) None
+    (cond (lt (sizesim_of_totals chain list) s.sizesim) None
+    (cond (lt (seqsim_of_totals s chain list) s.seqsim) None
+    (Some (scores_of
     (score_value s (seqsim_of_totals s chain list) (sizesim_of_totals chain list) partial (gap_of s.squish list.count chain.count))
     (sizesim_of_totals chain list)
-    (seqsim_of_totals s chain list)))))
+    (seqsim_of_totals s chain list))))))
 
 -- the scoring's start: 0.0 with no part list and both similarities 0.0
 abbrev pub start : Scored
@@ -61,10 +64,10 @@ target_of zero = Whole
 target_of (suc n) = Partial (suc n)
 
 -- it replaces the best only if greater
-unfoldable pub greater_of : Scored → ℕ → Verdict → Scored
-greater_of best partial Skipped = best
-greater_of best partial (Scores x size seq) =
-    cond (lt best.score x) (record { target = target_of partial; score = x; sizesim = size; seqsim = seq }) best
+unfoldable pub greater_of : Scored → ℕ → Option Scores → Scored
+greater_of best partial None = best
+greater_of best partial (Some new) =
+    cond (lt best.score new.score) (record { target = target_of partial; score = new.score; sizesim = new.sizesim; seqsim = new.seqsim }) best
 
 -- the best after one more part list, a list of positions among the parts
 unfoldable pub after_list : Settings → Parts → Total → Scored → List ℕ → Scored

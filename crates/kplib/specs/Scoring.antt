@@ -1,5 +1,5 @@
 -- What the functions behind the scoring ask and promise one another. No public promise cites this file.
-use Rattle.std.specs.Prelude.{ℕ, zero, suc, ◌+◌, ◌-◌, ◌*◌, ◌/◌, ◌%◌, ◌^◌, ◌≤◌, ◌<◌, ◌≡◌, Bool, true, false, cond, not, ◌&&◌, List, [], ◌∷◌, ◌++◌, map, T, eqb, ℤ, pos, nat_abs}
+use Rattle.std.specs.Prelude.{ℕ, zero, suc, ◌+◌, ◌-◌, ◌*◌, ◌/◌, ◌%◌, ◌^◌, ◌≤◌, ◌<◌, ◌≡◌, Bool, true, false, cond, not, ◌&&◌, List, [], ◌∷◌, ◌++◌, map, T, eqb, ℤ, pos, nat_abs, Option, Some, None}
 use Rattle.std.specs.Prelude.{length, get_or, take, Float}
 use Rattle.std.specs.Float.Ieee.{lt, le}
 use Rattle.metrics.specs.Similarity.{whole, sizesim_value, magnitude_sum}
@@ -8,12 +8,11 @@ use Rattle.params.specs.Checked.{Flat, Sized}
 use Rattle.params.specs.Numbers.{Table, Parts, table_of, row_at}
 use Rattle.kplib.specs.Parts.{positions_from, whole_of, choices, falling_lists, part_lists}
 use Rattle.kplib.specs.Sums.{size_of, features_of, Total}
-use Rattle.kplib.specs.Score.{sign, gap_of, score_value, start, list_score, greater_of}
+use Rattle.kplib.specs.Score.{sign, gap_of, score_value, start, list_score, greater_of, scores_of}
 use Rattle.kplib.specs.OneToOne.{node_total, latest_of, over_nodes, no_lone}
 use Rattle.params.specs.declared.Settings.{Settings}
 use Rattle.kplib.specs.declared.pathscore.Scored.{Scored}
-use Rattle.kplib.specs.declared.pathscore.Verdict.{Verdict}
-use Rattle.kplib.specs.declared.pathscore.Verdict.TheVariants.{Skipped, Scores}
+use Rattle.kplib.specs.declared.pathscore.Scores.{Scores}
 use Rattle.kplib.specs.declared.pathscore.Best.{Best}
 use Rattle.kplib.specs.declared.pathscore.Terms.{Terms}
 use Rattle.kplib.specs.declared.onetoone.Lone.{Lone}
@@ -126,9 +125,9 @@ pub record Summable (e : ℕ) (table : List ℤ) (rows : List ℕ) : Type 0 wher
   pub most : length rows ≤ 64
 
 -- the chain's row and its magnitudes' sum, once it is summed
-abbrev pub Ready : Bool → List ℤ → ℕ → List ℤ → Type 0
-Ready true row weight features = (row ≡ features) × (weight ≡ magnitude_sum features)
-Ready false row weight features = Unit {0}
+abbrev pub Ready : Option ℕ → List ℤ → List ℤ → Type 0
+Ready (Some weight) row features = (row ≡ features) × (weight ≡ magnitude_sum features)
+Ready None row features = Unit {0}
 
 -- ---- one list
 
@@ -184,8 +183,8 @@ may_win s chainSize chainLen listSize listLen partial floor best =
     not (s.squish && eqb chainLen 0) && (eqb (sign chainSize) (sign listSize) && (not (lt terms.size s.sizesim) && may_score s terms (whole 1)))
 
 -- the verdict by seqsim, where the tests before it are passed
-abbrev pub verdict_of : Settings → Terms → Float → Verdict
-verdict_of s terms seq = cond (lt seq s.seqsim) Skipped (Scores (score_value s seq terms.size terms.partial terms.gap) terms.size seq)
+abbrev pub verdict_of : Settings → Terms → Float → Option Scores
+verdict_of s terms seq = cond (lt seq s.seqsim) None (Some (scores_of (score_value s seq terms.size terms.partial terms.gap) terms.size seq))
 
 -- a list that may win against a summed chain
 pub record Judgeable (s : Settings) (table : List ℤ) (rows : List ℕ) (chainRow : List ℤ) (weight : ℕ) (terms : Terms) : Type 0 where
@@ -197,9 +196,9 @@ pub record Judgeable (s : Settings) (table : List ℤ) (rows : List ℕ) (chainR
   pub gap_few : terms.gap ≤ 64
 
 -- the list's own verdict; or none, since with some seqsim that is no less than its own it could not win
-pub data Judged (s : Settings) (terms : Terms) (seq : Float) : Verdict → Type 0 where
-  own : {r : Verdict} → r ≡ verdict_of s terms seq → Judged s terms seq r
-  idle : {r : Verdict} (most : Float) → r ≡ Skipped → T (le seq most) → may_score s terms most ≡ false → Judged s terms seq r
+pub data Judged (s : Settings) (terms : Terms) (seq : Float) : Option Scores → Type 0 where
+  own : {r : Option Scores} → r ≡ verdict_of s terms seq → Judged s terms seq r
+  idle : {r : Option Scores} (most : Float) → r ≡ None → T (le seq most) → may_score s terms most ≡ false → Judged s terms seq r
 
 -- ---- the lists as they lie, each a code and a size
 
@@ -239,8 +238,8 @@ unfolding after_codes after_code
 coded_score plan part_features codes sizes chain = after_codes (after_code plan part_features chain) start codes sizes
 
 -- one laid list about to be tried against a chain, with the scratch, which is the chain's row once it is summed
-pub record Attempt (plan : Plan) (features : List ℤ) (chain : List ℕ) (chainSize : ℤ) (part_features : List ℤ) (code : ℕ) (size : ℤ) (chosen : List ℕ) (scratch : List ℤ) (summed : Bool)
-    (weight : ℕ) : Type 0 where
+pub record Attempt (plan : Plan) (features : List ℤ) (chain : List ℕ) (chainSize : ℤ) (part_features : List ℤ) (code : ℕ) (size : ℤ) (chosen : List ℕ) (scratch : List ℤ)
+    (weight : Option ℕ) : Type 0 where
   pub planned : Planned plan
   pub chained : Summable plan.width features chain
   pub chain_size : nat_abs chainSize ≤ 8388608
@@ -248,19 +247,19 @@ pub record Attempt (plan : Plan) (features : List ℤ) (chain : List ℕ) (chain
   pub listed : CodedList plan.m code size
   pub room : 64 ≤ length chosen
   pub scratch_is : length scratch ≡ plan.width
-  pub ready : Ready summed scratch weight (features_of plan.width features chain)
+  pub ready : Ready weight scratch (features_of plan.width features chain)
 
 -- what the best stood for, with the list tried, is what the result stands for
 pub record Attempted (plan : Plan) (features : List ℤ) (chain : List ℕ) (chainSize : ℤ) (part_features : List ℤ) (code : ℕ) (size : ℤ) (floor : Float) (best : Scored) (r : Best)
     (scratch : List ℤ) : Type 0 where
   pub stands : (x : Scored) → StandsFor floor x best → StandsFor floor (after_code plan part_features (chain_total plan.width features chain chainSize) x code size) r.scored
-  pub ready : Ready r.summed scratch r.weight (features_of plan.width features chain)
+  pub ready : Ready r.weight scratch (features_of plan.width features chain)
 
 -- ---- a chain, and one-to-one
 
 -- before the first list
 abbrev pub none_tried : Best
-none_tried = record { scored = start; summed = false; weight = 0 }
+none_tried = record { scored = start; weight = None }
 
 -- what scoring a chain asks: its rows and size, the parts' rows, the lists laid down, and the scratch
 pub record Scorable (plan : Plan) (features : List ℤ) (chain : List ℕ) (chainSize : ℤ) (part_features : List ℤ) (codes : List ℕ)

@@ -9,7 +9,7 @@ ghost use Rattle.kplib.specs.Scoring.{unplaced, AllBelow};
 ghost use Rattle.kplib.specs.Proposal.{one_of, gives, proposal_of, pair_score, proposal_fault, rises_below, fewest_of, Pairable};
 ghost use Rattle.kplib.specs.Promises.{CheckPathPromise};
 
-use crate::pathscore::{Verdict, list_score};
+use crate::pathscore::{Scores, list_score};
 use crate::queue::rows_size;
 use crate::steps::entries;
 use crate::sums::sum_features;
@@ -178,7 +178,7 @@ fn pair_score(
     positions: &[u32],
     chain_row: &mut [i32],
     list_row: &mut [i32],
-) -> Verdict
+) -> Option<Scores>
     requires { Pairable s (unplaced sizes.now features.now) (parts_of part_sizes.now part_features.now) rows.now positions.now
         × (length chain_row.old ≡ 4 ^ s.k) × (length list_row.old ≡ 4 ^ s.k) }
     ensures { let t = unplaced sizes.now features.now in
@@ -210,7 +210,7 @@ fn score_pair(
     part_features: &[i32],
     rows: &[u32],
     positions: &[u32],
-) -> Verdict
+) -> Option<Scores>
     requires { Pairable s (unplaced sizes.now features.now) (parts_of part_sizes.now part_features.now) rows.now positions.now }
     ensures { let t = unplaced sizes.now features.now in
         let p = parts_of part_sizes.now part_features.now in
@@ -233,17 +233,12 @@ fn score_pair(
 }
 
 // Whether every skip test was passed, and to this score, greater than 0, bit for bit.
-fn gives_score(score: f32, verdict: Verdict) -> bool
+fn gives_score(score: f32, verdict: Option<Scores>) -> bool
     ensures { result ≡ gives score verdict }
 {
     match verdict {
-        Verdict::Skipped => false,
-        Verdict::Scores(x, sizesim, seqsim) => {
-            if 0.0 < score {
-                return bits_of(x) == bits_of(score);
-            }
-            false
-        }
+        Some(scores) if 0.0 < score => bits_of(scores.score) == bits_of(score),
+        _ => false,
     }
 }
 

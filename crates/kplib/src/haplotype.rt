@@ -12,8 +12,7 @@ fn lengths_of(m: usize, fnmax: u32) -> usize
     requires { m ≤ 64 }
     ensures { (result ≡ lengths_of m fnmax) × (result ≤ m) }
 {
-    let n = fnmax as usize;
-    if n < m { n + 1 } else { m }
+    m.min(fnmax as usize + 1)
 }
 
 // A list's size with position p's added.
@@ -69,10 +68,8 @@ fn lay_lengths(
 {
     let m = part_sizes.len();
     let mut at: usize = 0;
-    let mut i: usize = 0;
-    while i < lengths {
+    for i in 0..lengths {
         at = lay_choices(part_sizes, 0, m - i, 0, 0, 1, 0, at, codes, list_sizes);
-        i += 1;
     }
     at
 }
@@ -83,10 +80,8 @@ pub(crate) fn whole_size(part_sizes: &[i32]) -> i32
     ensures { result ≡ size_of part_sizes.now (whole_of (length part_sizes.now)) }
 {
     let mut size: i32 = 0;
-    let mut p: usize = 0;
-    while p < part_sizes.len() {
-        size += part_sizes[p];
-        p += 1;
+    for x in part_sizes {
+        size += *x;
     }
     size
 }
@@ -119,12 +114,10 @@ fn bit_positions(bits: u32, m: usize, chosen: &mut [u32]) -> usize
 {
     let mut v = bits;
     let mut d: usize = 0;
-    let mut i: usize = 0;
-    while i < m {
+    for i in 0..m {
         chosen[d] = i as u32;
         d += (v % 2) as usize;
-        v = v / 2;
-        i += 1;
+        v /= 2;
     }
     d
 }
@@ -134,10 +127,8 @@ pub(crate) fn all_positions(m: usize, chosen: &mut [u32])
     requires { (m ≤ 64) × (m ≤ length chosen.old) }
     ensures { take m chosen.new ≡ whole_of m }
 {
-    let mut i: usize = 0;
-    while i < m {
+    for i in 0..m {
         chosen[i] = i as u32;
-        i += 1;
     }
 }
 

@@ -46,14 +46,12 @@ fn match_rows(plan: Plan, sizes: &[i32], features: &[i32], whole_row: &[i32]) ->
     };
     let s = plan.s;
     let width = plan.width;
-    let mut r: usize = 0;
-    while r < sizes.len() {
+    for (r, size) in sizes.iter().enumerate() {
         let a = r * width;
-        let e = a + width;
         let verdict = list_score(
             s,
-            sizes[r],
-            &features[a..e],
+            *size,
+            &features[a..a + width],
             1,
             plan.target,
             whole_row,
@@ -61,9 +59,7 @@ fn match_rows(plan: Plan, sizes: &[i32], features: &[i32], whole_row: &[i32]) ->
             0,
         );
         let x = greater_of(nothing(), 0, verdict);
-        let row = Row(r as u32);
-        best = latest_of(best, row, x);
-        r += 1;
+        best = latest_of(best, Row(r as u32), x);
     }
     best
 }

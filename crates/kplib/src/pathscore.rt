@@ -1,5 +1,5 @@
 // The score of a chain against the part lists of a haplotype (pathscore.rs).
-ghost use Rattle.std.specs.Prelude.{◌≡◌, true, ◌&&◌, ◌+◌, ◌*◌, ◌≤◌, min, eqb, nat_abs, length};
+ghost use Rattle.std.specs.Prelude.{◌≡◌, Some, ◌&&◌, ◌+◌, ◌*◌, ◌≤◌, min, eqb, nat_abs, length};
 ghost use Rattle.metrics.specs.Similarity.{sizesim_value, seqsim_value, magnitude_sum};
 ghost use Rattle.kplib.specs.Sums.{features_of};
 ghost use Rattle.kplib.specs.Score.{sign, seqsim_of_rows, gap_of, score_value, list_score, start, target_of, greater_of};
@@ -29,19 +29,19 @@ pub struct Scored {
     pub seqsim: f32,
 }
 
-// One part list against one chain: skipped, or its score, sizesim and seqsim.
+// What a part list scored against a chain.
 #[derive(Clone, Copy)]
-pub(crate) enum Verdict {
-    Skipped,
-    Scores(f32, f32, f32),
+pub(crate) struct Scores {
+    pub(crate) score: f32,
+    pub(crate) sizesim: f32,
+    pub(crate) seqsim: f32,
 }
 
-// The best so far, whether the chain's feature row is summed, and if so what its magnitudes sum to.
+// The best so far and, once the chain's feature row is summed, what its magnitudes sum to.
 #[derive(Clone, Copy)]
 pub(crate) struct Best {
     scored: Scored,
-    summed: bool,
-    weight: u32,
+    weight: Option<u32>,
 }
 
 // What a list's score depends on beside its seqsim, and what it must beat (`best`) and reach (`floor`).
@@ -64,16 +64,6 @@ pub(crate) fn nothing() -> Scored
         sizesim: 0.0,
         seqsim: 0.0,
     }
-}
-
-fn sign_of(x: i32) -> u32
-    requires { nat_abs x ≤ 8388608 }
-    ensures { result ≡ sign x }
-{
-    if x < 0 {
-        return 0;
-    }
-    if 0 < x { 2 } else { 1 }
 }
 
 // sizesim of two sizes that the lower crate does not refuse.
@@ -103,12 +93,10 @@ fn gap_of(squish: bool, n: usize, len: usize) -> usize
     ensures { (result ≡ gap_of squish n len) × (result ≤ 64) }
 {
     if squish {
-        if len == 0 {
-            return 0;
-        }
-        return len - 1;
+        len.saturating_sub(1)
+    } else {
+        n.abs_diff(len)
     }
-    if n < len { len - n } else { n - len }
 }
 
 fn score_value(s: Settings, seq: f32, size: f32, partial: usize, g: usize) -> f32
@@ -122,7 +110,7 @@ fn score_value(s: Settings, seq: f32, size: f32, partial: usize, g: usize) -> f3
 fn accepts_none(squish: bool, len: usize) -> bool
     ensures { result ≡ (squish && eqb len 0) }
 {
-    if squish { len == 0 } else { false }
+    squish && len == 0
 }
 
 // A list's score against a chain, both summed.
@@ -135,70 +123,70 @@ pub(crate) fn list_score(
     list_row: &[i32],
     list_len: usize,
     partial: usize,
-) -> Verdict
+) -> Option<Scores>
     requires { Comparable s chain_size chain_row.now chain_len list_size list_row.now list_len partial }
     ensures { result ≡ list_score s (total chain_size chain_row.now chain_len) (total list_size list_row.now list_len) partial }
 {
     if accepts_none(s.squish, chain_len) {
-        return Verdict::Skipped;
+        return None;
     }
-    if sign_of(chain_size) != sign_of(list_size) {
-        return Verdict::Skipped;
+    if chain_size.signum() != list_size.signum() {
+        return None;
     }
     let size = size_alike(chain_size, list_size);
     if size < s.sizesim {
-        return Verdict::Skipped;
+        return None;
     }
     let seq = seq_alike(chain_row, list_row, s.minkfreq);
     if seq < s.seqsim {
-        return Verdict::Skipped;
+        return None;
     }
     let g = gap_of(s.squish, list_len, chain_len);
-    Verdict::Scores(score_value(s, seq, size, partial, g), size, seq)
+    Some(Scores {
+        score: score_value(s, seq, size, partial, g),
+        sizesim: size,
+        seqsim: seq,
+    })
 }
 
 fn target_of(partial: usize) -> Target
     requires { partial ≤ 64 }
     ensures { result ≡ target_of partial }
 {
-    if partial == 0 {
-        return Target::Whole;
+    match partial {
+        0 => Target::Whole,
+        left_out => Target::Partial(left_out as u32),
     }
-    Target::Partial(partial as u32)
 }
 
 // The best, or the new one where it is greater.
-pub(crate) fn greater_of(best: Scored, partial: usize, verdict: Verdict) -> Scored
+pub(crate) fn greater_of(best: Scored, partial: usize, verdict: Option<Scores>) -> Scored
     requires { partial ≤ 64 }
     ensures { result ≡ greater_of best partial verdict }
 {
     match verdict {
-        Verdict::Skipped => best,
-        Verdict::Scores(score, sizesim, seqsim) => {
-            if best.score < score {
-                let target = target_of(partial);
-                return Scored {
-                    target,
-                    score,
-                    sizesim,
-                    seqsim,
-                };
-            }
-            best
-        }
+        Some(new) if best.score < new.score => Scored {
+            target: target_of(partial),
+            score: new.score,
+            sizesim: new.sizesim,
+            seqsim: new.seqsim,
+        },
+        _ => best,
     }
 }
 
 // The chain's row, summed at the first need of it, and what its magnitudes sum to.
-fn ready(table: &[i32], chain: &[u32], row: &mut [i32], summed: bool, weight: u32) -> u32
-    requires { (Summable (length row.old) table.now chain.now) × (Ready summed row.old weight (features_of (length row.old) table.now chain.now)) }
-    ensures { Ready true row.new result (features_of (length row.old) table.now chain.now) }
+fn ready(table: &[i32], chain: &[u32], row: &mut [i32], weight: Option<u32>) -> u32
+    requires { (Summable (length row.old) table.now chain.now) × (Ready weight row.old (features_of (length row.old) table.now chain.now)) }
+    ensures { Ready (Some result) row.new (features_of (length row.old) table.now chain.now) }
 {
-    if summed {
-        return weight;
+    match weight {
+        Some(sum) => sum,
+        None => {
+            sum_features(table, chain, row);
+            weight_of(row)
+        }
     }
-    sum_features(table, chain, row);
-    weight_of(row)
 }
 
 fn terms_of(
@@ -254,7 +242,7 @@ fn may_win(
     if accepts_none(s.squish, chain_len) {
         return false;
     }
-    if sign_of(chain_size) != sign_of(list_size) {
+    if chain_size.signum() != list_size.signum() {
         return false;
     }
     let terms = terms_of(
@@ -275,15 +263,18 @@ fn most_alike(weight: u32, n: u32) -> f32
 }
 
 // The verdict by seqsim, where the tests before it are passed.
-fn verdict_of(s: Settings, terms: Terms, seq: f32) -> Verdict
+fn verdict_of(s: Settings, terms: Terms, seq: f32) -> Option<Scores>
     requires { (terms.partial ≤ 64) × (terms.gap ≤ 64) }
     ensures { result ≡ verdict_of s terms seq }
 {
     if seq < s.seqsim {
-        return Verdict::Skipped;
+        return None;
     }
-    let score = score_value(s, seq, terms.size, terms.partial, terms.gap);
-    Verdict::Scores(score, terms.size, seq)
+    Some(Scores {
+        score: score_value(s, seq, terms.size, terms.partial, terms.gap),
+        sizesim: terms.size,
+        seqsim: seq,
+    })
 }
 
 // The verdict on a list that may win. Its rows are summed block by block; after each block, what n is so far bounds seqsim, and where that is below
@@ -295,7 +286,7 @@ fn judge(
     chain_row: &[i32],
     weight: u32,
     terms: Terms,
-) -> Verdict
+) -> Option<Scores>
     requires { Judgeable s table.now rows.now chain_row.now weight terms }
     ensures { let list = features_of (length chain_row.now) table.now rows.now in
         Judged s terms (seqsim_of_rows s.minkfreq chain_row.now list) result }
@@ -303,15 +294,16 @@ fn judge(
     let width = chain_row.len();
     let mut sums = Sums { d: 0, n: 0 };
     let mut from: usize = 0;
+    // no index loop: it steps from block to block, the last of which is shorter
     while from < width {
         let to = block_end(from, width);
         sums = sum_block(sums, table, rows, chain_row, from, to, s.minkfreq);
         let most = most_alike(weight, sums.n);
         if most < s.seqsim {
-            return Verdict::Skipped;
+            return None;
         }
         if !may_score(s, terms, most) {
-            return Verdict::Skipped;
+            return None;
         }
         from = to;
     }
@@ -332,7 +324,7 @@ fn try_list(
     floor: f32,
     best: Best,
 ) -> Best
-    requires { Attempt plan features.now chain.now chain_size part_features.now code size chosen.old scratch.old best.summed best.weight }
+    requires { Attempt plan features.now chain.now chain_size part_features.now code size chosen.old scratch.old best.weight }
     ensures { Attempted plan features.now chain.now chain_size part_features.now code size floor best.scored result scratch.new }
 {
     let s = plan.s;
@@ -344,14 +336,13 @@ fn try_list(
         return best;
     }
     let d = positions(code, plan.m, chosen);
-    let weight = ready(features, chain, scratch, best.summed, best.weight);
+    let weight = ready(features, chain, scratch, best.weight);
     let terms = terms_of(s, chain_size, len, size, n, partial, floor, old.score);
     let verdict = judge(s, part_features, &chosen[..d], scratch, weight, terms);
     let scored = greater_of(old, partial, verdict);
     Best {
         scored,
-        summed: true,
-        weight,
+        weight: Some(weight),
     }
 }
 
@@ -359,11 +350,9 @@ fn try_list(
 fn none_tried() -> Best
     ensures { result ≡ none_tried }
 {
-    let scored = nothing();
     Best {
-        scored,
-        summed: false,
-        weight: 0,
+        scored: nothing(),
+        weight: None,
     }
 }
 
@@ -386,22 +375,20 @@ pub(crate) fn score_chain(
         StandsFor floor (coded_score plan part_features.now codes.now list_sizes.now chain) result }
 {
     let mut best = none_tried();
-    let mut i: usize = 0;
-    while i < codes.len() {
+    for (i, code) in codes.iter().enumerate() {
         best = try_list(
             plan,
             features,
             chain,
             chain_size,
             part_features,
-            codes[i],
+            *code,
             list_sizes[i],
             chosen,
             scratch,
             floor,
             best,
         );
-        i += 1;
     }
     best.scored
 }

@@ -38,21 +38,12 @@ pub(crate) fn read_chain(links: &[u32], entry: usize, chain: &mut [u32]) -> usiz
     at
 }
 
-// How far a is from b.
-fn apart(a: i32, b: i32) -> u64
-    requires { (nat_abs a ≤ 8388608) × (nat_abs b ≤ 8388608) }
-    ensures { result ≡ nat_abs (a -ℤ b) }
-{
-    let d = a - b;
-    if d < 0 { (0 - d) as u64 } else { d as u64 }
-}
-
 // The key of an entry whose chain has this size.
 pub(crate) fn key(size: i32, target: i32, entry: usize) -> u64
     requires { (nat_abs size ≤ 8388608) × (nat_abs target ≤ 8388608) × (entry < 1048576) }
     ensures { result ≡ key_of (nat_abs (size -ℤ target)) entry }
 {
-    apart(size, target) * 1048576 + (entry as u64)
+    u64::from(size.abs_diff(target)) * 1048576 + (entry as u64)
 }
 
 // The size of a chain.
@@ -61,11 +52,8 @@ pub(crate) fn rows_size(sizes: &[i32], rows: &[u32]) -> i32
     ensures { result ≡ size_of sizes.now rows.now }
 {
     let mut size: i32 = 0;
-    let mut i: usize = 0;
-    while i < rows.len() {
-        let r = rows[i] as usize;
-        size += sizes[r];
-        i += 1;
+    for r in rows {
+        size += sizes[*r as usize];
     }
     size
 }
@@ -121,9 +109,7 @@ pub(crate) fn queue_extensions(
     let first = end.0 as usize;
     let parent = (entry as u32) * 64;
     let mut added: usize = 0;
-    let mut r = sizes.len();
-    while r > first {
-        r -= 1;
+    for r in (first..sizes.len()).rev() {
         if may[r] {
             let new = used + added;
             links[new] = parent + (r as u32);

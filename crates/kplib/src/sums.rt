@@ -12,10 +12,8 @@ fn add_row(acc: &mut [i32], row: &[i32])
     requires { (length row.now ≡ length acc.old) × (magnitude_sum acc.old ≤ 8388608) × (magnitude_sum row.now ≤ 131072) }
     ensures { acc.new ≡ row_plus acc.old row.now }
 {
-    let mut i: usize = 0;
-    while i < acc.len() {
-        acc[i] = acc[i] + row[i];
-        i += 1;
+    for (i, x) in row.iter().enumerate() {
+        acc[i] += *x;
     }
 }
 
@@ -25,12 +23,9 @@ fn add_parts(table: &[i32], rows: &[u32], width: usize, from: usize, out: &mut [
     ensures { out.new ≡ parts_from width from (length out.old) table.now out.old rows.now }
 {
     let len = out.len();
-    let mut i: usize = 0;
-    while i < rows.len() {
-        let a = (rows[i] as usize) * width + from;
-        let e = a + len;
-        add_row(out, &table[a..e]);
-        i += 1;
+    for r in rows {
+        let a = (*r as usize) * width + from;
+        add_row(out, &table[a..a + len]);
     }
 }
 
@@ -49,10 +44,8 @@ pub(crate) fn weight_of(row: &[i32]) -> u32
     ensures { result ≡ magnitude_sum row.now }
 {
     let mut sum: u32 = 0;
-    let mut i: usize = 0;
-    while i < row.len() {
-        sum += magnitude(row[i]);
-        i += 1;
+    for x in row {
+        sum += magnitude(*x);
     }
     sum
 }
@@ -94,10 +87,8 @@ fn sum_on(start: Sums, a: &[i32], b: &[i32], minkfreq: u32) -> Sums
     ensures { result ≡ sums_on minkfreq a.now b.now start }
 {
     let mut s = start;
-    let mut i: usize = 0;
-    while i < a.len() {
-        s = add_pair(s, a[i], b[i], minkfreq);
-        i += 1;
+    for (i, x) in a.iter().enumerate() {
+        s = add_pair(s, *x, b[i], minkfreq);
     }
     s
 }

@@ -1,13 +1,7 @@
 -- The lists of the first i lengths are laid.
-use mathlib.Core.Path.{◌≡◌}
-use Prim.Native.Nat.{◌-◌, ◌≤◌}
-use lib.ListN.{length}
 use Rattle.kplib.proofs.LayLaws.{Laying}
 use Rattle.kplib.proofs.haplotype.lay_lengths.Given as goal
 
 abbrev pub invariant-loop-i : goal.invariant-loop-i
 invariant-loop-i l =
-    (l.i ≤ l.lengths) × (length l.codes ≡ length l.initial.codes) × (length l.list_sizes ≡ length l.initial.list_sizes) × Laying l.part_sizes l.i l.at l.codes l.list_sizes
-
-abbrev pub decreases-loop-i : goal.decreases-loop-i
-decreases-loop-i l = l.lengths - l.i
+    Laying l.part_sizes l.i l.at l.codes l.list_sizes

@@ -1,12 +1,8 @@
 -- The sum so far, with the sizes that are left, is the size of the whole.
-use Prim.Native.Nat.{◌-◌, ◌≤◌}
 use lib.ListN.{length}
 use Rattle.kplib.specs.Parts.{whole_of}
 use Rattle.kplib.proofs.SizeSumLaws.{Summing}
 use Rattle.kplib.proofs.haplotype.whole_size.Given as goal
 
-abbrev pub invariant-loop-p : goal.invariant-loop-p
-invariant-loop-p l = (l.p ≤ length l.part_sizes) × Summing l.part_sizes (whole_of (length l.part_sizes)) l.size l.p
-
-abbrev pub decreases-loop-p : goal.decreases-loop-p
-decreases-loop-p l = length l.part_sizes - l.p
+abbrev pub invariant-loop-x : goal.invariant-loop-x
+invariant-loop-x l = Summing l.part_sizes (whole_of (length l.part_sizes)) l.size l.x-index

@@ -10,49 +10,13 @@ loop-i-init c =
     let o = open_end c.args.keys.now c.args.n c.args.key c.requires.0 c.requires.1 in
     (omega arith, refl, o.0, o.1)
 
-pub overflow_sub-p : goal.overflow_sub-p
-overflow_sub-p c = omega arith
-
-pub offset_bounds-keys-p : goal.offset_bounds-keys-p
-offset_bounds-keys-p c = omega arith
-
-pub bounds-keys-p : goal.bounds-keys-p
-bounds-keys-p c = omega arith
-
-pub offset_bounds-keys-i : goal.offset_bounds-keys-i
-offset_bounds-keys-i c = omega arith
-
-pub bounds-keys-i : goal.bounds-keys-i
-bounds-keys-i c = omega arith
-
-pub shape_of-keys-then-above-key : goal.shape_of-keys-then-above-key
-shape_of-keys-then-above-key c = simp length-set c.loop-i.invariant.1
-
 pub returns-then-above-key : goal.returns-then-above-key
 returns-then-above-key c = let l = c.loop-i in close l.invariant.2 (λ z. c.if-above-key.true) l.invariant.3
-
-pub offset_bounds-keys-i-in-loop-i : goal.offset_bounds-keys-i-in-loop-i
-offset_bounds-keys-i-in-loop-i c = omega arith
-
-pub bounds-keys-i-in-loop-i : goal.bounds-keys-i-in-loop-i
-bounds-keys-i-in-loop-i c = omega arith
-
-pub loop-i-smaller : goal.loop-i-smaller
-loop-i-smaller c = omega arith
 
 pub loop-i-preserved : goal.loop-i-preserved
 loop-i-preserved c =
     let l = c.loop-i in
     (omega arith, simp length-set l.invariant.1, go_up l.invariant.2 (omega arith), fits_up l.invariant.2 (omega arith) c.if-above-key.false l.invariant.3)
-
-pub offset_bounds-keys-i-2 : goal.offset_bounds-keys-i-2
-offset_bounds-keys-i-2 c = omega arith
-
-pub bounds-keys-i-2 : goal.bounds-keys-i-2
-bounds-keys-i-2 c = omega arith
-
-pub shape_of-keys : goal.shape_of-keys
-shape_of-keys c = simp length-set c.loop-i.invariant.1
 
 pub returns : goal.returns
 returns c = close c.loop-i.invariant.2 (λ z. absurd (omega arith)) c.loop-i.invariant.3

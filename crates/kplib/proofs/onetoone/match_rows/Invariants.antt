@@ -1,11 +1,6 @@
 -- The best so far, after the rows that are left, is the answer: source and sink change nothing. Assumes nothing.
-use Prim.Native.Nat.{◌-◌, ◌≤◌}
-use lib.ListN.{length}
 use Rattle.kplib.proofs.OneToOneLaws.{Matched}
 use Rattle.kplib.proofs.onetoone.match_rows.Given as goal
 
 abbrev pub invariant-loop-r : goal.invariant-loop-r
-invariant-loop-r l = (l.r ≤ length l.sizes) × Matched l.plan l.sizes l.features l.whole_row l.best l.r
-
-abbrev pub decreases-loop-r : goal.decreases-loop-r
-decreases-loop-r l = length l.sizes - l.r
+invariant-loop-r l = Matched l.plan l.sizes l.features l.whole_row l.best l.r

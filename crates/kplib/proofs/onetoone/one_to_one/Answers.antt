@@ -1,14 +1,6 @@
 -- The whole haplotype is summed once, then the rows are gone through. Assumes nothing.
-use mathlib.Core.Path.{sym}
-use native.Mathlib.Omega.{arith}
-use lib.ListN.{length}
-use lib.Seq.{length-take-le}
 use Rattle.kplib.proofs.OneToOneLaws.{whole_ok, matching, matched}
 use Rattle.kplib.proofs.onetoone.one_to_one.Goals as goal
-
-pub slice_bounds-sum_features-end-2 : goal.slice_bounds-sum_features-end-2
-slice_bounds-sum_features-end-2 c =
-    sym (length-take-le (length c.args.part_sizes.now) _ (omega (arith, c.all_positions.auto.chosen, c.requires.room, c.requires.tables.part_sized.few)))
 
 pub sum_features-requires : goal.sum_features-requires
 sum_features-requires c = whole_ok c.requires c.all_positions.ensures

@@ -1,16 +1,15 @@
 -- A skipped list and one that is not greater leave the best.
-use Rattle.kplib.proofs.VerdictLaws.{greater_new, greater_old, greater_skipped}
+use Rattle.kplib.specs.Score.{greater_of}
 use Rattle.kplib.proofs.pathscore.greater_of.Goals as goal
 
-pub returns-then-best-score : goal.returns-then-best-score
-returns-then-best-score c =
-    let a = c.args in
-    greater_new a.best a.partial a.verdict _ _ _ _ c.in-Scores.is c.target_of-target.ensures c.if-best-score.true
+pub returns-in-Some : goal.returns-in-Some
+unfolding greater_of
+returns-in-Some c = rw (c.in-Some.is, c.if-best-new.true, c.target_of.ensures)
 
-pub returns-in-Skipped : goal.returns-in-Skipped
-returns-in-Skipped c = let a = c.args in greater_skipped a.best a.partial a.verdict c.in-Skipped.is
+pub returns-in_default : goal.returns-in_default
+unfolding greater_of
+returns-in_default c = rw (c.in-Some.is, c.if-best-new.false)
 
-pub returns-else-best-score : goal.returns-else-best-score
-returns-else-best-score c =
-    let a = c.args in
-    greater_old a.best a.partial a.verdict _ _ _ c.in-Scores.is c.if-best-score.false
+pub returns-in_default-2 : goal.returns-in_default-2
+unfolding greater_of
+returns-in_default-2 c = rw c.in_default.is

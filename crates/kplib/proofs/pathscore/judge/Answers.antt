@@ -1,9 +1,8 @@
 -- After each block what is added up and what is left are the whole, so a list is given up only where its own seqsim could not win either.
 use mathlib.Core.Path.{refl}
-use native.Mathlib.Omega.{arith}
 use lib.ListN.{length}
 use Rattle.kplib.specs.Sums.{features_of}
-use Rattle.kplib.proofs.BlockLaws.{Passed, none_passed, block_passed, low_n, block_ok, too_low, no_gain, whole_verdict}
+use Rattle.kplib.proofs.BlockLaws.{Passed, block_passed, low_n, block_ok, too_low, no_gain, whole_verdict}
 use Rattle.kplib.proofs.pathscore.judge.Goals.{After-sum_block-sums}
 use Rattle.kplib.proofs.pathscore.judge.Goals as goal
 
@@ -17,9 +16,6 @@ passed : (c : After-sum_block-sums) → After c
 passed c =
     block_passed c.loop-from.invariant.1 c.block_end-to.ensures.0 c.block_end-to.ensures.1 c.sum_block-sums.ensures
 
-pub loop-from-init : goal.loop-from-init
-loop-from-init c = (refl, none_passed _ _ _)
-
 pub sum_block-sums-requires : goal.sum_block-sums-requires
 sum_block-sums-requires c =
     block_ok c.requires c.loop-from.invariant.1 c.block_end-to.ensures.0 c.block_end-to.ensures.1 c.block_end-to.ensures.2
@@ -31,21 +27,12 @@ pub returns-then-most-s : goal.returns-then-most-s
 returns-then-most-s c =
     too_low c.requires (passed (goal.at.returns-then-most-s c).After-sum_block-sums) c.most_alike-most.ensures c.if-most-s.true
 
-pub may_score-requires : goal.may_score-requires
-may_score-requires c = (c.requires.partial_few, c.requires.gap_few)
-
 pub returns-then-not-may_score : goal.returns-then-not-may_score
 returns-then-not-may_score c =
     no_gain c.requires (passed (goal.at.returns-then-not-may_score c).After-sum_block-sums) c.most_alike-most.ensures c.may_score.ensures c.if-not-may_score.true
 
-pub loop-from-smaller : goal.loop-from-smaller
-loop-from-smaller c = omega (arith, c.block_end-to.ensures.0, c.loop-from-test.true)
-
 pub loop-from-preserved : goal.loop-from-preserved
 loop-from-preserved c = (refl, passed (goal.at.loop-from-preserved c).After-sum_block-sums)
-
-pub verdict_of-requires : goal.verdict_of-requires
-verdict_of-requires c = (c.requires.partial_few, c.requires.gap_few)
 
 pub returns : goal.returns
 returns c =

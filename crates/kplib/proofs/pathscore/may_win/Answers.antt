@@ -1,27 +1,21 @@
 -- The tests of a list that are made before seqsim's, and what it could score.
-use Rattle.kplib.proofs.VerdictLaws.{as_read, lost_by_squish, lost_by_sign, lost_by_size, by_bound}
+use Rattle.kplib.proofs.VerdictLaws.{lost_by_squish, lost_by_sign, lost_by_size, by_bound}
 use Rattle.kplib.proofs.pathscore.may_win.Goals as goal
 
 pub returns-then-accepts_none : goal.returns-then-accepts_none
 returns-then-accepts_none c =
     lost_by_squish c.args.s c.args.floor c.args.best c.requires c.accepts_none.ensures c.if-accepts_none.true
 
-pub returns-then-sign_of : goal.returns-then-sign_of
-returns-then-sign_of c =
-    lost_by_sign c.args.s c.args.floor c.args.best c.requires c.accepts_none.ensures c.if-accepts_none.false c.sign_of.ensures c.sign_of-2.ensures c.if-sign_of.true
-
-pub terms_of-terms-requires : goal.terms_of-terms-requires
-terms_of-terms-requires c = as_read c.requires
+pub returns-then-signum : goal.returns-then-signum
+returns-then-signum c =
+    lost_by_sign c.args.s c.args.floor c.args.best c.requires c.accepts_none.ensures c.if-accepts_none.false c.signum.ensures.value c.signum-2.ensures.value c.if-signum.true
 
 pub returns-then-terms-s : goal.returns-then-terms-s
 returns-then-terms-s c =
-    lost_by_size c.args.s c.args.floor c.args.best c.requires c.accepts_none.ensures c.if-accepts_none.false c.sign_of.ensures c.sign_of-2.ensures c.if-sign_of.false
+    lost_by_size c.args.s c.args.floor c.args.best c.requires c.accepts_none.ensures c.if-accepts_none.false c.signum.ensures.value c.signum-2.ensures.value c.if-signum.false
     c.terms_of-terms.ensures.0 c.if-terms-s.true
-
-pub may_score-requires : goal.may_score-requires
-may_score-requires c = (c.terms_of-terms.ensures.1, c.terms_of-terms.ensures.2)
 
 pub returns : goal.returns
 returns c =
-    by_bound c.args.s c.args.floor c.args.best c.requires c.accepts_none.ensures c.if-accepts_none.false c.sign_of.ensures c.sign_of-2.ensures c.if-sign_of.false
+    by_bound c.args.s c.args.floor c.args.best c.requires c.accepts_none.ensures c.if-accepts_none.false c.signum.ensures.value c.signum-2.ensures.value c.if-signum.false
     c.terms_of-terms.ensures.0 c.if-terms-s.false c.may_score.ensures

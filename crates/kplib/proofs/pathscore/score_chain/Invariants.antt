@@ -1,14 +1,7 @@
 -- The best so far, after the lists that are left, stands for the score. Assumes nothing.
-use mathlib.Core.Path.{◌≡◌}
-use Prim.Native.Nat.{◌-◌, ◌≤◌}
-use lib.ListN.{length}
 use Rattle.kplib.proofs.ChainScoreLaws.{Tried}
 use Rattle.kplib.proofs.pathscore.score_chain.Given as goal
 
 abbrev pub invariant-loop-i : goal.invariant-loop-i
 invariant-loop-i l =
-    (l.i ≤ length l.codes) × (length l.chosen ≡ length l.initial.chosen) × (length l.scratch ≡ length l.initial.scratch)
-    × Tried l.plan l.features l.chain l.chain_size l.part_features l.codes l.list_sizes l.floor l.best l.scratch l.i
-
-abbrev pub decreases-loop-i : goal.decreases-loop-i
-decreases-loop-i l = length l.codes - l.i
+    Tried l.plan l.features l.chain l.chain_size l.part_features l.codes l.list_sizes l.floor l.best l.scratch l.i

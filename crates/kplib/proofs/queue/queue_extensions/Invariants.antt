@@ -1,5 +1,4 @@
 -- Row by row, highest first: a row that extends the chain is put behind the entries, its key to the keys, and any other row is passed over.
-use mathlib.Core.Path.{◌≡◌}
 use Prim.Native.Nat.{◌≤◌}
 use lib.ListN.{length}
 use Rattle.paths.proofs.QueueLaws.{Queueing}
@@ -9,10 +8,5 @@ use Rattle.kplib.proofs.queue.queue_extensions.Given as goal
 
 abbrev pub invariant-loop-r : goal.invariant-loop-r
 invariant-loop-r l =
-    (l.first ≤ l.r) × (l.r ≤ length l.sizes) × (length l.links ≡ length l.initial.links) × (length l.keys ≡ length l.initial.keys)
-    × Queueing (follows_by l.plan l.together) (length l.sizes) (distance_to l.sizes l.plan.target) l.used l.queued l.entry (parents_of l.initial.links) (lasts_of l.initial.links)
+    (l.first ≤ l.r) × Queueing (follows_by l.plan l.together) (length l.sizes) (distance_to l.sizes l.plan.target) l.used l.queued l.entry (parents_of l.initial.links) (lasts_of l.initial.links)
     l.initial.keys (parents_of l.links) (lasts_of l.links) l.keys l.added l.r
-
-abbrev pub decreases-loop-r : goal.decreases-loop-r
-decreases-loop-r l =
-    l.r

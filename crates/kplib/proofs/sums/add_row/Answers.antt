@@ -2,8 +2,6 @@
 use mathlib.Core.Path.{◌∙◌}
 use native.Mathlib.Omega.{arith}
 use borrow.Author.Rules.{rules}
-use Prim.Native.Nat.{◌<◌}
-use lib.ListN.{length, length-set}
 use Rattle.kplib.proofs.RowSumLaws.{mixed, mixed_all, added_fits, added}
 use Rattle.kplib.proofs.sums.add_row.Goals as goal
 
@@ -13,16 +11,12 @@ loop-i-init c = search rules
 
 pub overflow_add-acc : goal.overflow_add-acc
 overflow_add-acc c =
-    added_fits c.loop-i.acc c.args.acc.now c.args.row.now c.loop-i.i c.loop-i.invariant.2 c.requires.0 c.requires.1 c.requires.2
+    added_fits c.loop-i.acc c.args.acc.now c.args.row.now c.loop-i.i c.loop-i.invariant c.requires.0 c.requires.1 c.requires.2
 
 pub loop-i-preserved : goal.loop-i-preserved
 loop-i-preserved c =
-    let h : c.loop-i.i < length c.args.acc.now = omega arith in
-    (omega arith, simp length-set c.loop-i.invariant.1, added c.loop-i.acc c.args.acc.now c.args.row.now c.loop-i.i c.loop-i.invariant.2 c.requires.0 h c.requires.1 c.requires.2)
-
-pub shape_of-acc : goal.shape_of-acc
-shape_of-acc c = c.loop-i.invariant.1
+    added c.loop-i.acc c.args.acc.now c.args.row.now c.loop-i.i c.loop-i.invariant c.requires.0 (omega arith) c.requires.1 c.requires.2
 
 pub returns : goal.returns
 returns c =
-    c.loop-i.invariant.2 ∙ mixed_all c.loop-i.i c.args.acc.now c.args.row.now c.requires.0 (omega arith)
+    c.loop-i.invariant ∙ mixed_all c.loop-i.i c.args.acc.now c.args.row.now c.requires.0 (omega arith)

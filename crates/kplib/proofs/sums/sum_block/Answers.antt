@@ -3,7 +3,7 @@ use mathlib.Core.Path.{◌≡◌, refl}
 use lib.IntN.{pos}
 use lib.ListN.{replicate}
 use Rattle.kplib.specs.Sums.{zeros}
-use Rattle.kplib.proofs.BlockLaws.{cleared_long, cleared_ok, part_is, front_in, front_long, rows_pass, block_is}
+use Rattle.kplib.proofs.BlockLaws.{cleared_ok, part_is, rows_pass, block_is}
 use Rattle.kplib.proofs.sums.sum_block.Goals as goal
 
 -- the local array, before it is written to
@@ -11,19 +11,8 @@ noughts : replicate 128 (pos 0) ≡ zeros 128
 unfolding zeros
 noughts = refl
 
-pub slice_bounds-add_parts-end : goal.slice_bounds-add_parts-end
-slice_bounds-add_parts-end c = cleared_long c.requires noughts
-
 pub add_parts-requires : goal.add_parts-requires
 add_parts-requires c = cleared_ok c.requires noughts
-
-pub slice_bounds-block-end-2 : goal.slice_bounds-block-end-2
-slice_bounds-block-end-2 c =
-    front_in c.requires (part_is c.requires noughts c.add_parts.ensures) _
-
-pub slice_bounds-sum_on-end-2 : goal.slice_bounds-sum_on-end-2
-slice_bounds-sum_on-end-2 c =
-    front_long c.requires (part_is c.requires noughts c.add_parts.ensures) _
 
 pub sum_on-requires : goal.sum_on-requires
 sum_on-requires c =

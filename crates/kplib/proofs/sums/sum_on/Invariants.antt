@@ -1,11 +1,6 @@
 -- What is added up and what is left are the whole.
-use Prim.Native.Nat.{◌-◌, ◌≤◌}
-use lib.ListN.{length}
 use Rattle.kplib.proofs.BlockLaws.{Passing}
 use Rattle.kplib.proofs.sums.sum_on.Given as goal
 
 abbrev pub invariant-loop-i : goal.invariant-loop-i
-invariant-loop-i l = (l.i ≤ length l.a) × Passing l.minkfreq l.a l.b l.initial.s l.i l.s
-
-abbrev pub decreases-loop-i : goal.decreases-loop-i
-decreases-loop-i l = length l.a - l.i
+invariant-loop-i l = Passing l.minkfreq l.a l.b l.initial.s l.i l.s

@@ -1,12 +1,9 @@
 -- What is added up and what is left are the whole.
 use mathlib.Core.Path.{◌≡◌}
-use Prim.Native.Nat.{◌+◌, ◌-◌, ◌≤◌}
-use lib.ListN.{length, drop}
+use Prim.Native.Nat.{◌+◌}
+use lib.ListN.{drop}
 use Rattle.metrics.specs.Similarity.{magnitude_sum}
 use Rattle.kplib.proofs.sums.weight_of.Given as goal
 
-abbrev pub invariant-loop-i : goal.invariant-loop-i
-invariant-loop-i l = (l.i ≤ length l.row) × (l.sum + magnitude_sum (drop l.i l.row) ≡ magnitude_sum l.row)
-
-abbrev pub decreases-loop-i : goal.decreases-loop-i
-decreases-loop-i l = length l.row - l.i
+abbrev pub invariant-loop-x : goal.invariant-loop-x
+invariant-loop-x l = l.sum + magnitude_sum (drop l.x-index l.row) ≡ magnitude_sum l.row
