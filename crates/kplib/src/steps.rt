@@ -73,9 +73,7 @@ fn weigh(
 fn later_of(a: Leader, b: Leader) -> Leader
     ensures { result ≡ later_of a b }
 {
-    let old = a.scored;
-    let new = b.scored;
-    if old.score <= new.score { b } else { a }
+    if a.scored.score <= b.scored.score { b } else { a }
 }
 
 // Where the search stands after an entry was scored and `added` entries were queued.
@@ -163,13 +161,7 @@ fn run(
 {
     let steps = plan.s.maxpaths as usize + 1;
     let mut at = from;
-    loop {
-        if at.queued == 0 {
-            return at;
-        }
-        if at.count == steps {
-            return at;
-        }
+    while 0 < at.queued && at.count < steps {
         at = step(
             plan,
             together,
@@ -184,6 +176,7 @@ fn run(
             at,
         );
     }
+    at
 }
 
 // Before the first step: the empty chain is queued.

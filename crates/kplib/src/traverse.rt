@@ -36,11 +36,7 @@ pub struct Answer {
 fn matched(target: Target) -> bool
     ensures { result ≡ matched_by target }
 {
-    match target {
-        Target::Nothing => false,
-        Target::Whole => true,
-        Target::Partial(left) => true,
-    }
+    !matches!(target, Target::Nothing)
 }
 
 // Writes rows to the front of the answer buffer.
@@ -48,11 +44,7 @@ pub(crate) fn put_rows(from: &[u32], rows: &mut [u32])
     requires { length from.now ≤ length rows.old }
     ensures { rows.new ≡ placed rows.old from.now }
 {
-    let mut i: usize = 0;
-    while i < from.len() {
-        rows[i] = from[i];
-        i += 1;
-    }
+    rows[..from.len()].copy_from_slice(from);
 }
 
 // Writes the rows of an entry's chain to the front of the answer buffer. Returns how many.

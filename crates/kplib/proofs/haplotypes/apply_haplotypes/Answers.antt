@@ -167,13 +167,6 @@ slice_bounds-put_words-end c = omega (arith, reports_room c.loop-i.invariant c.l
 pub put_words-requires : goal.put_words-requires
 put_words-requires c = words_length c.loop-i.invariant c.loop-i-test.true
 
-pub overflow_add-i : goal.overflow_add-i
-overflow_add-i c =
-    omega (arith, c.loop-i-test.true, few_haplotypes c.loop-i.invariant)
-
-pub loop-i-smaller : goal.loop-i-smaller
-loop-i-smaller c = omega arith
-
 pub loop-i-preserved : goal.loop-i-preserved
 loop-i-preserved c =
     next c.loop-i.invariant c.loop-i-test.true c.begin_of-part.ensures c.begin_of-feature.ensures c.answer_haplotype-answer.ensures

@@ -2,5 +2,5 @@
 use Rattle.kplib.proofs.HaplotypesLaws.{end_before}
 use Rattle.kplib.proofs.haplotypes.begin_of.Goals as goal
 
-pub returns : goal.returns
-returns c = end_before _ _ c.if-i-eq0.false
+pub returns-else-i-eq0 : goal.returns-else-i-eq0
+returns-else-i-eq0 c = end_before _ _ c.if-i-eq0.false

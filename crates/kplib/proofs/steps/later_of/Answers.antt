@@ -1,8 +1,8 @@
 -- By the comparison.
 use Rattle.kplib.proofs.steps.later_of.Goals as goal
 
-pub returns-then-old-new : goal.returns-then-old-new
-returns-then-old-new c = rw c.if-old-new.true
+pub returns-then-a-b : goal.returns-then-a-b
+returns-then-a-b c = rw c.if-a-b.true
 
-pub returns-else-old-new : goal.returns-else-old-new
-returns-else-old-new c = rw c.if-old-new.false
+pub returns-else-a-b : goal.returns-else-a-b
+returns-else-a-b c = rw c.if-a-b.false
