@@ -11,9 +11,9 @@ ghost use Rattle.kplib.specs.Promises.{CheckPathPromise};
 
 use crate::pathscore::{Verdict, list_score};
 use crate::queue::rows_size;
-use crate::steps::entries;
 use crate::sums::sum_features;
 use metrics::floats::bits_of;
+use metrics::kmer::entries;
 use metrics::overlaps;
 use metrics::refusals::{ACCEPTED, LONG_PROPOSAL};
 use params::Settings;

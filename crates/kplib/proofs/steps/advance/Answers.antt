@@ -7,4 +7,4 @@ use Rattle.kplib.proofs.steps.advance.Goals as goal
 pub returns : goal.returns
 returns c =
     let a = c.args in
-    ap (λ (b : Leader). record { used = a.at.used + a.added; queued = a.at.queued - 1 + a.added; count = a.at.count + 1; best = b }) c.later_of-best.ensures
+    ap (λ (b : Leader). record { used = a.at.used + a.added; queued = a.at.queued - 1 + a.added; count = a.at.count + 1; best = b }) c.later_of.ensures

@@ -11,12 +11,16 @@ use Rattle.kplib.specs.Search.{haplotype_size}
 use Rattle.kplib.specs.declared.plan.Plan.{Plan}
 use Rattle.kplib.proofs.StepLaws.{going_first}
 use Rattle.kplib.proofs.SearchedLaws.{haplotype_small, plan_is, searchable_first, searched_as}
+use Rattle.metrics.proofs.Entries.{power}
 use Rattle.kplib.proofs.steps.search.Goals.{After-whole_size-target}
 use Rattle.kplib.proofs.steps.search.Goals as goal
 
 -- the plan's width and target
+width_is : (c : After-whole_size-target) → c.entries-width.result ≡ 4 ^ c.args.s.k
+width_is c = c.entries-width.ensures ∙ power _ c.requires.checked.k_high
+
 width_few : (c : After-whole_size-target) → c.entries-width.result ≤ 4096
-width_few c = omega (arith, c.entries-width.ensures, c.requires.checked.rows.short)
+width_few c = omega (arith, width_is c, c.requires.checked.rows.short)
 
 target_is : (c : After-whole_size-target) → to_z w32 (of_z w32 c.whole_size-target.result) ≡ haplotype_size c.args.part_sizes.now
 target_is c = read_back _ c.whole_size-target.type_inv ∙ c.whole_size-target.ensures
@@ -28,10 +32,7 @@ planned : (c : After-whole_size-target) → ◌≡◌ {A = Plan} (record {
   target = to_z w32
       (of_z w32 c.whole_size-target.result);
 }) (record { s = c.args.s; width = 4 ^ c.args.s.k; m = length c.args.part_sizes.now; target = haplotype_size c.args.part_sizes.now })
-planned c = plan_is c.args.s c.args.part_sizes.now c.entries-width.ensures (target_is c)
-
-pub entries-width-requires : goal.entries-width-requires
-entries-width-requires c = c.requires.checked.k_high
+planned c = plan_is c.args.s c.args.part_sizes.now (width_is c) (target_is c)
 
 pub slice_bounds-lay_lists-end : goal.slice_bounds-lay_lists-end
 slice_bounds-lay_lists-end c = refl

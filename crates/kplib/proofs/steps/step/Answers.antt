@@ -11,8 +11,8 @@ entered c =
     let b = c.requires in
     entry_in b.0 b.1.2 c.take_next-entry.auto.keys b.1.0 b.1.1 c.take_next-entry.ensures
 
-pub weigh-weighed-requires : goal.weigh-weighed-requires
-weigh-weighed-requires c = let b = c.requires in weighable b.0 b.1.2 _ (entered (goal.at.weigh-weighed-requires c).After-take_next-entry) refl
+pub weigh-size-requires : goal.weigh-size-requires
+weigh-size-requires c = let b = c.requires in weighable b.0 b.1.2 _ (entered (goal.at.weigh-size-requires c).After-take_next-entry) refl
 
 pub end_node-end-requires : goal.end_node-end-requires
 end_node-end-requires c =
@@ -25,7 +25,7 @@ overflow_sub-at c = let b = c.requires in omega (arith, b.1.0)
 pub queue_extensions-added-requires : goal.queue_extensions-added-requires
 queue_extensions-added-requires c =
     let b = c.requires in
-    extending b.0 b.1.2 c.take_next-entry.auto.keys b.1.0 b.1.1 c.take_next-entry.ensures _ c.end_node-end.ensures c.weigh-weighed.ensures.size_is
+    extending b.0 b.1.2 c.take_next-entry.auto.keys b.1.0 b.1.1 c.take_next-entry.ensures _ c.end_node-end.ensures c.weigh-size.ensures.size_is
 
 pub advance-requires : goal.advance-requires
 advance-requires c =
@@ -41,11 +41,11 @@ shape_of-keys c =
     c.queue_extensions-added.auto.keys ∙ c.take_next-entry.auto.keys
 
 pub shape_of-scratch : goal.shape_of-scratch
-shape_of-scratch c = c.weigh-weighed.auto.scratch
+shape_of-scratch c = c.weigh-size.auto.scratch
 
 pub returns : goal.returns
 returns c =
     let b = c.requires in
     gone_on b.0 b.1.2 c.take_next-entry.auto.keys b.1.0 b.1.1 c.take_next-entry.ensures _ _ c.queue_extensions-added.ensures.fact c.queue_extensions-added.ensures.result_in_bounds
-    c.weigh-weighed.ensures
+    c.weigh-size.ensures
     c.advance.ensures
