@@ -1,15 +1,10 @@
 -- The rows so far are a chain; the first that does not extend them decides.
 use native.Mathlib.Omega.{arith}
-use lib.Seq.{length-take-le}
-use mathlib.Core.Path.{sym}
-use Rattle.kplib.proofs.RowChainLaws.{none_grown, grown_below, grown_on, grown_not, grown_all}
+use Rattle.kplib.proofs.RowChainLaws.{none_grown, grown_below, grown_on, grown_not}
 use Rattle.kplib.proofs.checkpath.is_chain.Goals as goal
 
 pub loop-i-init : goal.loop-i-init
 loop-i-init c = none_grown _ _ _ _
-
-pub slice_bounds-row_extends-end : goal.slice_bounds-row_extends-end
-slice_bounds-row_extends-end c = sym (length-take-le _ _ (omega arith))
 
 pub row_extends-requires : goal.row_extends-requires
 row_extends-requires c =
@@ -22,6 +17,3 @@ returns-then-not-row_extends c = grown_not _ _ _ _ c.loop-i.invariant (omega ari
 pub loop-i-preserved : goal.loop-i-preserved
 loop-i-preserved c =
     grown_on _ _ _ _ c.loop-i.invariant (omega arith) c.row_extends.ensures (c.if-not-row_extends.false)
-
-pub returns : goal.returns
-returns c = grown_all _ _ _ _ c.loop-i.invariant (omega arith)

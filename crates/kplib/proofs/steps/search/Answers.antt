@@ -34,33 +34,9 @@ planned : (c : After-whole_size-target) → ◌≡◌ {A = Plan} (record {
 }) (record { s = c.args.s; width = 4 ^ c.args.s.k; m = length c.args.part_sizes.now; target = haplotype_size c.args.part_sizes.now })
 planned c = plan_is c.args.s c.args.part_sizes.now (width_is c) (target_is c)
 
-pub slice_bounds-lay_lists-end : goal.slice_bounds-lay_lists-end
-slice_bounds-lay_lists-end c = refl
-
-pub slice_bounds-lay_lists-end-2 : goal.slice_bounds-lay_lists-end-2
-slice_bounds-lay_lists-end-2 c = refl
-
-pub whole_size-target-requires : goal.whole_size-target-requires
-whole_size-target-requires c = c.requires.checked.part_sized
-
-pub pairs_together-together-requires : goal.pairs_together-together-requires
-pairs_together-together-requires c = let h = c.requires.checked in (h.ends_are, omega (arith, h.sized.few, h.sizes_are), c.requires.rising)
-
 pub key-requires : goal.key-requires
 key-requires c =
     (omega arith, rw (target_is (goal.at.key-requires c).After-whole_size-target) (haplotype_small _ c.requires.checked.part_sized), omega arith)
-
-pub slice_bounds-codes-end : goal.slice_bounds-codes-end
-slice_bounds-codes-end c = c.lay_lists-count.ensures.room
-
-pub slice_bounds-run-end : goal.slice_bounds-run-end
-slice_bounds-run-end c = sym (length-take-le _ _ c.lay_lists-count.ensures.room)
-
-pub slice_bounds-list_sizes-end : goal.slice_bounds-list_sizes-end
-slice_bounds-list_sizes-end c = c.lay_lists-count.ensures.beside
-
-pub slice_bounds-run-end-2 : goal.slice_bounds-run-end-2
-slice_bounds-run-end-2 c = sym (length-take-le _ _ c.lay_lists-count.ensures.beside)
 
 pub slice_bounds-scratch-end : goal.slice_bounds-scratch-end
 slice_bounds-scratch-end c = omega (arith, width_few (goal.at.slice_bounds-scratch-end c).After-whole_size-target)
@@ -68,21 +44,12 @@ slice_bounds-scratch-end c = omega (arith, width_few (goal.at.slice_bounds-scrat
 pub slice_bounds-run-end-3 : goal.slice_bounds-run-end-3
 slice_bounds-run-end-3 c = sym (length-take-le _ _ (omega (arith, width_few (goal.at.slice_bounds-run-end-3 c).After-whole_size-target)))
 
-pub not_begun-requires : goal.not_begun-requires
-not_begun-requires c = tt
-
 pub run-requires : goal.run-requires
 run-requires c = (
   searchable_first c.requires (planned (goal.at.run-requires c).After-whole_size-target) c.lay_lists-count.ensures _ refl (simp length-set refl)
       (length-take-le _ _ (omega (arith, width_few (goal.at.run-requires c).After-whole_size-target))),
   going_first _ _ c.args.keys.now (omega (arith, c.requires.key_room)) c.key.ensures c.not_begun.ensures,
 )
-
-pub shape_of-links : goal.shape_of-links
-shape_of-links c = c.run.auto.links
-
-pub shape_of-keys : goal.shape_of-keys
-shape_of-keys c = c.run.auto.keys ∙ simp length-set
 
 pub returns : goal.returns
 returns c =

@@ -1,5 +1,5 @@
 -- The whole haplotype's row is cut to the job's width.
-use mathlib.Core.Path.{◌≡◌, refl, sym, ◌∙◌}
+use mathlib.Core.Path.{◌≡◌, sym, ◌∙◌}
 use Prim.Native.Nat.{◌≤◌, ◌^◌}
 use native.Mathlib.Omega.{arith}
 use lib.Seq.{length-take-le}
@@ -13,9 +13,6 @@ width_is c = c.entries-width.ensures ∙ power _ c.requires.1
 
 width_few : (c : After-entries-width) → c.entries-width.result ≤ 4096
 width_few c = omega (arith, width_is c, c.requires.2.rows.short)
-
-pub slice_bounds-one_to_one-end : goal.slice_bounds-one_to_one-end
-slice_bounds-one_to_one-end c = refl
 
 pub slice_bounds-whole_row-end : goal.slice_bounds-whole_row-end
 slice_bounds-whole_row-end c = omega (arith, width_few (goal.at.slice_bounds-whole_row-end c).After-entries-width)

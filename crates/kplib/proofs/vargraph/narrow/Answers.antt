@@ -12,18 +12,6 @@ has_room l k = narrowing_room l.loop-i.invariant l.requires.1 k
 pub loop-i-init : goal.loop-i-init
 loop-i-init c = narrowing_begin _ c.requires.1
 
-pub bounds-rows-end : goal.bounds-rows-end
-bounds-rows-end c = let l = c.loop-i in omega (arith, narrowing_room l.invariant c.requires.1 (omega arith))
-
-pub overflow_cast-s : goal.overflow_cast-s
-overflow_cast-s c = let l = c.loop-i in record { fits = omega (arith, l.invariant.kept.rows l.i) }
-
-pub overflow_add-flags : goal.overflow_add-flags
-overflow_add-flags c = let l = c.loop-i in record { fits = omega (arith, l.invariant.kept.rows l.i, c.requires.0) }
-
-pub bounds-together-flags : goal.bounds-together-flags
-bounds-together-flags c = let l = c.loop-i in omega (arith, l.invariant.kept.rows l.i, c.requires.0)
-
 pub loop-i-preserved : goal.loop-i-preserved
 loop-i-preserved c =
     let l = c.loop-i in
