@@ -4,7 +4,6 @@ use mathlib.Core.Path.{◌≡◌, refl, sym, ap, ◌∙◌}
 use Prim.Native.Nat.{ℕ, ◌+◌, ◌≤◌, ◌<◌}
 use native.Mathlib.Omega.{arith}
 use native.Mathlib.Numerals.{add-one}
-use mathlib.Core.Logic.{◌⊎◌, inl, inr}
 use mathlib.Core.Bool.{Bool, true, false, not, ◌&&◌}
 use mathlib.Core.List.{List, [], ◌∷◌, ◌++◌, reverse, reverse-cons, reverse-append, reverse-reverse}
 use lib.Dec.{leb, ltb}
@@ -72,14 +71,16 @@ module _ {joins : ℕ → ℕ → Bool} {chain : List ℕ} {s i : ℕ} (h : Stan
 
 -- ---- one row
 module _ (starts ends : List ℕ) (full : Bool) (c : List ℕ) (s : ℕ) where
-  -- there is no such row, it does not come later, or none may follow
-  pub row_not : {next : ℕ} → next ≡ first_after c
-      → (length starts ≤ s) ⊎ ((s < length starts) × (s < next) ⊎ (s < length starts) × (next ≤ s) × (full ≡ false))
-      → false ≡ (ltb s (length starts) && extends_in starts ends full c s)
+  pub row_absent : length starts ≤ s → false ≡ (ltb s (length starts) && extends_in starts ends full c s)
+  row_absent h = rw (le-ltb s (length starts) h)
+
+  pub row_early : {next : ℕ} → next ≡ first_after c → s < next → false ≡ (ltb s (length starts) && extends_in starts ends full c s)
   unfolding extends
-  row_not e (inl h) = rw (le-ltb s (length starts) h)
-  row_not e (inr (inl h)) = rw (lt-leb (first_after c) s (omega (arith, e, h.1))) (sym (and_false (ltb s (length starts))))
-  row_not e (inr (inr h)) = rw (h.2, and_false (leb (first_after c) s)) (sym (and_false (ltb s (length starts))))
+  row_early e h = rw (lt-leb (first_after c) s (omega (arith, e))) (sym (and_false (ltb s (length starts))))
+
+  pub row_bare : full ≡ false → false ≡ (ltb s (length starts) && extends_in starts ends full c s)
+  unfolding extends
+  row_bare e = rw (e, and_false (leb (first_after c) s)) (sym (and_false (ltb s (length starts))))
 
   pub row_stands : {next : ℕ} {r : Bool} → s < length starts → next ≡ first_after c → next ≤ s → full ≡ true → r ≡ stands_with_all (edge starts ends) c s
       → r ≡ (ltb s (length starts) && extends_in starts ends full c s)
