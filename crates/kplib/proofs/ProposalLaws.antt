@@ -2,9 +2,10 @@
 -- as the search scores them: what is summed in front of a local array is the chain's row, and the list's. Assumes nothing.
 use Rattle.std.specs.Prelude.{Option}
 use mathlib.Core.Path.{◌≡◌, refl, sym, ap, ◌∙◌}
-use Prim.Native.Nat.{ℕ, zero, suc, ◌+◌, ◌-◌, ◌*◌, ◌^◌, ◌≤◌, ◌<◌}
+use Prim.Native.Nat.{ℕ, zero, suc, ◌+◌, ◌-◌, ◌*◌, ◌^◌, ◌≤◌, ◌<◌, max}
 use native.Mathlib.Omega.{arith}
 use native.Mathlib.Nat.{mul-le-mul_right}
+use mathlib.Core.Logic.{◌⊎◌, inl, inr}
 use mathlib.Core.Bool.{Bool, true, false, ◌&&◌}
 use mathlib.Core.List.{List, [], ◌∷◌, ◌++◌, reverse}
 use lib.Dec.{leb, ltb}
@@ -78,11 +79,9 @@ module _ (s : Settings) (t : Table) (p : Parts) where
       unfolding proposal_fault
       then_long n h = goes_on front (long_rules s t p o) n all_asked h
 
-      pub long_rows : 64 < length o.rows → 54 ≡ proposal_fault s t p o
-      long_rows h = then_long 54 (rw (lt-ltb 64 (length o.rows) h))
-
-      pub long_positions : length o.rows ≤ 64 → 64 < length o.positions → 54 ≡ proposal_fault s t p o
-      long_positions k h = then_long 54 (rw (le-ltb 64 (length o.rows) k, lt-ltb 64 (length o.positions) h))
+      pub too_long : (64 < length o.rows) ⊎ ((length o.rows ≤ 64) × (64 < length o.positions)) → 54 ≡ proposal_fault s t p o
+      too_long (inl h) = then_long 54 (rw (lt-ltb 64 (length o.rows) h))
+      too_long (inr h) = then_long 54 (rw (le-ltb 64 (length o.rows) h.0, lt-ltb 64 (length o.positions) h.1))
 
       pub no_fault : length o.rows ≤ 64 → length o.positions ≤ 64 → 0 ≡ proposal_fault s t p o
       no_fault k h = then_long 0 (rw (le-ltb 64 (length o.rows) k, le-ltb 64 (length o.positions) h))
@@ -113,13 +112,9 @@ pub fewest_all : (m fnmax pileupmax : ℕ) → pileupmax ≤ m → m ≡ fewest_
 unfolding fewest_of
 fewest_all m fnmax pileupmax h = rw (le-leb pileupmax m h)
 
-pub fewest_left : (m fnmax pileupmax : ℕ) → m < pileupmax → fnmax < m → m - fnmax ≡ fewest_of m fnmax pileupmax
+pub fewest_left : (m fnmax pileupmax : ℕ) {r : ℕ} → m < pileupmax → r ≡ max 1 (m - fnmax) → r ≡ fewest_of m fnmax pileupmax
 unfolding fewest_of
-fewest_left m fnmax pileupmax h k = rw (lt-leb pileupmax m h) (omega arith)
-
-pub fewest_one : (m fnmax pileupmax : ℕ) → m < pileupmax → m ≤ fnmax → 1 ≡ fewest_of m fnmax pileupmax
-unfolding fewest_of
-fewest_one m fnmax pileupmax h k = rw (lt-leb pileupmax m h) (omega arith)
+fewest_left m fnmax pileupmax h e = rw (lt-leb pileupmax m h) e
 
 -- the positions from place i on decide
 pub record Rising (m : ℕ) (positions : List ℕ) (next i : ℕ) : Type 0 where
@@ -133,11 +128,10 @@ module _ {m next i : ℕ} {positions : List ℕ} (h : Rising m positions next i)
       → (leb next (get_or positions i 0) && (ltb (get_or positions i 0) m && rises_below m (suc (get_or positions i 0)) (drop (suc i) positions))) ≡ rises_below m 0 positions
   position_first k = sym (ap (λ (l : List ℕ). rises_below m next l) (drop-cons positions i 0 k)) ∙ h.rest
 
-  pub falls : i < length positions → get_or positions i 0 < next → false ≡ rises_below m 0 positions
-  falls k l = rw (lt-leb next (get_or positions i 0) l) at (position_first k)
-
-  pub past : i < length positions → next ≤ get_or positions i 0 → m ≤ get_or positions i 0 → false ≡ rises_below m 0 positions
-  past k l n = rw (le-leb next (get_or positions i 0) l, le-ltb (get_or positions i 0) m n) at (position_first k)
+  -- a position that is not above the last one, or not below m
+  pub falls : i < length positions → (get_or positions i 0 < next) ⊎ ((next ≤ get_or positions i 0) × (m ≤ get_or positions i 0)) → false ≡ rises_below m 0 positions
+  falls k (inl l) = rw (lt-leb next (get_or positions i 0) l) at (position_first k)
+  falls k (inr l) = rw (le-leb next (get_or positions i 0) l.0, le-ltb (get_or positions i 0) m l.1) at (position_first k)
 
   pub rises_on : i < length positions → next ≤ get_or positions i 0 → get_or positions i 0 < m → Rising m positions (get_or positions i 0 + 1) (i + 1)
   rises_on k l n =

@@ -11,9 +11,9 @@ ghost use Rattle.kplib.specs.Promises.{CheckPathPromise};
 
 use crate::pathscore::{Scores, list_score};
 use crate::queue::rows_size;
-use crate::steps::entries;
 use crate::sums::sum_features;
 use metrics::floats::bits_of;
+use metrics::kmer::entries;
 use metrics::overlaps;
 use metrics::refusals::{ACCEPTED, LONG_PROPOSAL};
 use params::Settings;
@@ -58,10 +58,7 @@ fn proposal_fault(
     if fault != ACCEPTED {
         return fault;
     }
-    if rows.len() > 64 {
-        return LONG_PROPOSAL;
-    }
-    if positions.len() > 64 {
+    if rows.len() > 64 || positions.len() > 64 {
         return LONG_PROPOSAL;
     }
     ACCEPTED
@@ -72,13 +69,11 @@ fn stands_with_all(starts: &[u64], ends: &[u64], chain: &[u32], s: usize) -> boo
     requires { (length ends.now ≡ length starts.now) × (length starts.now ≤ 64) × (s < length starts.now) × AllBelow (length starts.now) chain.now }
     ensures { result ≡ stands_with_all (edge starts.now ends.now) (reverse chain.now) s }
 {
-    let mut i: usize = 0;
-    while i < chain.len() {
-        let r = chain[i] as usize;
+    for row in chain {
+        let r = *row as usize;
         if overlaps(starts[r], ends[r], starts[s], ends[s]) {
             return false;
         }
-        i += 1;
     }
     true
 }
@@ -96,13 +91,7 @@ fn row_extends(
     ensures { let starts = starts.entry.now in
         result ≡ (ltb s (length starts) && extends_in starts ends.now full (reverse chain.now) s) }
 {
-    if s >= starts.len() {
-        return false;
-    }
-    if s < next {
-        return false;
-    }
-    if !full {
+    if s >= starts.len() || s < next || !full {
         return false;
     }
     stands_with_all(starts, ends, chain, s)
@@ -114,14 +103,12 @@ fn is_chain(starts: &[u64], ends: &[u64], full: bool, rows: &[u32]) -> bool
     ensures { result ≡ is_chain_in starts.now ends.now full (reverse rows.now) }
 {
     let mut next: usize = 0;
-    let mut i: usize = 0;
-    while i < rows.len() {
-        let s = rows[i] as usize;
+    for (i, row) in rows.iter().enumerate() {
+        let s = *row as usize;
         if !row_extends(starts, ends, full, &rows[..i], next, s) {
             return false;
         }
         next = s + 1;
-        i += 1;
     }
     true
 }
@@ -130,11 +117,10 @@ fn is_chain(starts: &[u64], ends: &[u64], full: bool, rows: &[u32]) -> bool
 fn fewest(m: usize, fnmax: u32, pileupmax: u32) -> usize
     ensures { result ≡ fewest_of m fnmax pileupmax }
 {
-    if (pileupmax as usize) <= m {
+    if pileupmax as usize <= m {
         return m;
     }
-    let left_out = fnmax as usize;
-    if left_out < m { m - left_out } else { 1 }
+    m.saturating_sub(fnmax as usize).max(1)
 }
 
 // Whether positions rise, all below m.
@@ -142,17 +128,12 @@ fn rises_below(m: usize, positions: &[u32]) -> bool
     ensures { result ≡ rises_below m 0 positions.now }
 {
     let mut next: usize = 0;
-    let mut i: usize = 0;
-    while i < positions.len() {
-        let p = positions[i] as usize;
-        if p < next {
-            return false;
-        }
-        if p >= m {
+    for position in positions {
+        let p = *position as usize;
+        if p < next || m <= p {
             return false;
         }
         next = p + 1;
-        i += 1;
     }
     true
 }
@@ -161,10 +142,7 @@ fn rises_below(m: usize, positions: &[u32]) -> bool
 fn is_part_list(m: usize, fnmax: u32, pileupmax: u32, positions: &[u32]) -> bool
     ensures { result ≡ one_of positions.now (part_lists m fnmax pileupmax) }
 {
-    if positions.len() < fewest(m, fnmax, pileupmax) {
-        return false;
-    }
-    rises_below(m, positions)
+    fewest(m, fnmax, pileupmax) <= positions.len() && rises_below(m, positions)
 }
 
 // One list scored against one chain. The scratch is lent, a feature row for each.

@@ -14,10 +14,7 @@ fn begin_of(ends: &[u64], i: usize) -> usize
     requires { i ≤ length ends.now }
     ensures { result ≡ begin_of ends.now i }
 {
-    if i == 0 {
-        return 0;
-    }
-    ends[i - 1] as usize
+    if i == 0 { 0 } else { ends[i - 1] as usize }
 }
 
 // The answers of all haplotypes: each one's rows in its own V of `rows`, its refusal and answer in its own eight of `reports`. Stretch i of the parts ends at
@@ -60,8 +57,7 @@ pub fn apply_haplotypes(
         return refusal;
     }
     let v = starts.len();
-    let mut i: usize = 0;
-    while i < part_ends.len() {
+    for i in 0..part_ends.len() {
         let part = begin_of(part_ends, i);
         let part_end = part_ends[i] as usize;
         let feature = begin_of(feature_ends, i);
@@ -81,7 +77,6 @@ pub fn apply_haplotypes(
             &mut rows[at..at + v],
         );
         put_words(answer, &mut reports[word..word + 8]);
-        i += 1;
     }
     0
 }

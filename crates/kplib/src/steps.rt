@@ -8,6 +8,7 @@ use crate::pathscore::{Scored, nothing, score_chain};
 use crate::plan::Plan;
 use crate::queue::{end_node, key, queue_extensions, read_chain, rows_size, take_next};
 use crate::vargraph::pairs_together;
+use metrics::kmer::entries;
 use params::Settings;
 
 // A chain's size and score.
@@ -73,9 +74,7 @@ fn weigh(
 fn later_of(a: Leader, b: Leader) -> Leader
     ensures { result ≡ later_of a b }
 {
-    let old = a.scored;
-    let new = b.scored;
-    if old.score <= new.score { b } else { a }
+    if a.scored.score <= b.scored.score { b } else { a }
 }
 
 // Where the search stands after an entry was scored and `added` entries were queued.
@@ -83,12 +82,11 @@ fn advance(at: Progress, entry: usize, scored: Scored, added: usize) -> Progress
     requires { (0 < at.queued) × (at.used ≤ 1048576) × (at.queued ≤ 1048576) × (at.count ≤ 4096) × (added ≤ 64) }
     ensures { result ≡ advanced at entry scored added }
 {
-    let best = later_of(at.best, Leader { entry, scored });
     Progress {
         used: at.used + added,
         queued: at.queued - 1 + added,
         count: at.count + 1,
-        best,
+        best: later_of(at.best, Leader { entry, scored }),
     }
 }
 
@@ -113,7 +111,7 @@ fn step(
         (Going q links.new keys.new result) × (result.count ≡ at.count + 1) }
 {
     let entry = take_next(keys, at.queued);
-    let weighed = weigh(
+    let Weighed { size, scored } = weigh(
         plan,
         sizes,
         features,
@@ -125,7 +123,6 @@ fn step(
         scratch,
         at.best.scored.score,
     );
-    let scored = weighed.scored;
     let end = end_node(links, entry);
     let added = queue_extensions(
         plan,
@@ -137,7 +134,7 @@ fn step(
         at.queued - 1,
         entry,
         end,
-        weighed.size,
+        size,
     );
     advance(at, entry, scored, added)
 }
@@ -163,13 +160,7 @@ fn run(
 {
     let steps = plan.s.maxpaths as usize + 1;
     let mut at = from;
-    loop {
-        if at.queued == 0 {
-            return at;
-        }
-        if at.count == steps {
-            return at;
-        }
+    while 0 < at.queued && at.count < steps {
         at = step(
             plan,
             together,
@@ -184,28 +175,22 @@ fn run(
             at,
         );
     }
+    at
 }
 
 // Before the first step: the empty chain is queued.
 fn not_begun() -> Progress
     ensures { result ≡ not_begun }
 {
-    let scored = nothing();
-    let best = Leader { entry: 0, scored };
     Progress {
         used: 1,
         queued: 1,
         count: 0,
-        best,
+        best: Leader {
+            entry: 0,
+            scored: nothing(),
+        },
     }
-}
-
-// The entries of an accepted job's feature rows.
-pub(crate) fn entries(k: u8) -> usize
-    requires { k ≤ 6 }
-    ensures { result ≡ 4 ^ k }
-{
-    metrics::kmer::entries(k)
 }
 
 // The search, with the room that it asks: codes and sizes of at most 2,047 part lists and the flags of all pairs, laid down once, and a feature row.
@@ -233,11 +218,10 @@ pub(crate) fn search(
     let width = entries(s.k);
     let count = lay_lists(s, part_sizes, &mut codes, &mut list_sizes);
     let target = whole_size(part_sizes);
-    let m = part_sizes.len();
     let plan = Plan {
         s,
         width,
-        m,
+        m: part_sizes.len(),
         target,
     };
     let together = pairs_together(starts, ends);

@@ -13,8 +13,9 @@ ghost use Rattle.kplib.specs.Promises.{call_lent, ApplyHaplotypePromise};
 use crate::onetoone::{Lone, one_to_one};
 use crate::pathscore::{Scored, Target, nothing};
 use crate::queue::read_chain;
-use crate::steps::{entries, search};
+use crate::steps::search;
 use crate::vargraph::Row;
+use metrics::kmer::entries;
 use params::Settings;
 use params::checks::{call_fault, parts_fault, queue_room};
 use params::graphparams::search_mode;
@@ -36,23 +37,7 @@ pub struct Answer {
 fn matched(target: Target) -> bool
     ensures { result ≡ matched_by target }
 {
-    match target {
-        Target::Nothing => false,
-        Target::Whole => true,
-        Target::Partial(left) => true,
-    }
-}
-
-// Writes rows to the front of the answer buffer.
-pub(crate) fn put_rows(from: &[u32], rows: &mut [u32])
-    requires { length from.now ≤ length rows.old }
-    ensures { rows.new ≡ placed rows.old from.now }
-{
-    let mut i: usize = 0;
-    while i < from.len() {
-        rows[i] = from[i];
-        i += 1;
-    }
+    !matches!(target, Target::Nothing)
 }
 
 // Writes the rows of an entry's chain to the front of the answer buffer. Returns how many.
@@ -63,8 +48,9 @@ fn copy_chain(links: &[u32], entry: usize, rows: &mut [u32]) -> usize
 {
     let mut chain = [0u32; 64];
     let at = read_chain(links, entry, &mut chain);
-    put_rows(&chain[at..], rows);
-    64 - at
+    let count = 64 - at;
+    rows[..count].copy_from_slice(&chain[at..]);
+    count
 }
 
 // The same only where some part list matched.
@@ -95,11 +81,10 @@ fn answer_with(refusal: u32, rows: usize, x: Scored, count: usize, complete: boo
     requires { (rows ≤ 64) × (count ≤ 4096) }
     ensures { result ≡ answer_parts refusal rows x count complete }
 {
-    let target = x.target;
     Answer {
         refusal,
         rows: rows as u32,
-        target,
+        target: x.target,
         score: x.score,
         sizesim: x.sizesim,
         seqsim: x.seqsim,
@@ -139,10 +124,8 @@ fn answer_search(
         links,
         keys,
     );
-    let best = end.best;
-    let scored = best.scored;
-    let target = scored.target;
-    let n = place_chain(links, best.entry, target, rows);
+    let scored = end.best.scored;
+    let n = place_chain(links, end.best.entry, scored.target, rows);
     answer_with(0, n, scored, end.count, end.queued == 0)
 }
 
@@ -187,10 +170,8 @@ fn answer_alone(
         let p = parts_of part_sizes.now part_features.now in
         (result ≡ answer_with 0 (matched_alone s t p)) × (rows.new ≡ placed rows.old (matched_alone s t p).rows) }
 {
-    let lone = alone(s, sizes, features, part_sizes, part_features);
-    let scored = lone.scored;
-    let target = scored.target;
-    let n = place_row(lone.row, target, rows);
+    let Lone { row, scored } = alone(s, sizes, features, part_sizes, part_features);
+    let n = place_row(row, scored.target, rows);
     answer_with(0, n, scored, starts.len() + 2, true)
 }
 

@@ -38,13 +38,11 @@ fn lay_row(starts: &[u64], ends: &[u64], r: usize, together: &mut [bool; 4096])
         × (falling_start starts.now ≡ false) × SetFrom (64 * r) together.old }
     ensures { RowLaid (edge starts.now ends.now) (length starts.now) r together.old together.new }
 {
-    let mut s = r + 1;
-    while s < starts.len() {
+    for s in r + 1..starts.len() {
         if ends[r] <= starts[s] {
             return;
         }
         together[64 * r + s] = !overlaps(starts[r], ends[r], starts[s], ends[s]);
-        s += 1;
     }
 }
 
@@ -54,10 +52,8 @@ pub(crate) fn pairs_together(starts: &[u64], ends: &[u64]) -> [bool; 4096]
     ensures { Together (edge starts.now ends.now) (length starts.now) result }
 {
     let mut together = [true; 4096];
-    let mut r: usize = 0;
-    while r < starts.len() {
+    for r in 0..starts.len() {
         lay_row(starts, ends, r, &mut together);
-        r += 1;
     }
     together
 }
@@ -69,10 +65,8 @@ pub(crate) fn stand_with(together: &[bool; 4096], row: Row, may: &mut [bool; 64]
         Flagged (λ s. get_or old s false && flag_of together.now row.0 s) may.new }
 {
     let at = 64 * (row.0 as usize);
-    let mut s: usize = 0;
-    while s < 64 {
-        may[s] = may[s] & together[at + s];
-        s += 1;
+    for s in 0..64 {
+        may[s] &= together[at + s];
     }
 }
 
@@ -82,12 +76,10 @@ fn narrow(together: &[bool; 4096], row: Row, rows: &mut [u8; 4160], from: usize,
     ensures { Narrowed (flag_of together.now row.0) from to rows.old rows.new result }
 {
     let flags = 64 * (row.0 as usize);
-    let mut i = from;
     let mut end = to;
-    while i < to {
+    for i in from..to {
         let s = rows[i];
         rows[end] = s;
-        i += 1;
         if together[flags + (s as usize)] {
             end += 1;
         }
@@ -127,10 +119,8 @@ fn first_rows(v: usize) -> [u8; 4160]
     ensures { Counting result 0 v × (span_of result v 0 ≡ rows_from v 0) }
 {
     let mut rows = [0u8; 4160];
-    let mut r: usize = 0;
-    while r < v {
+    for r in 0..v {
         rows[r] = r as u8;
-        r += 1;
     }
     rows
 }

@@ -1,45 +1,19 @@
 -- The rows so far are a chain; the first that does not extend them decides.
 use native.Mathlib.Omega.{arith}
-use lib.Seq.{length-take-le}
-use mathlib.Core.Path.{sym}
-use Rattle.kplib.proofs.RowChainLaws.{none_grown, grown_below, grown_on, grown_not, grown_all}
+use Rattle.kplib.proofs.RowChainLaws.{none_grown, grown_below, grown_on, grown_not}
 use Rattle.kplib.proofs.checkpath.is_chain.Goals as goal
 
 pub loop-i-init : goal.loop-i-init
-loop-i-init c = (omega arith, none_grown _ _ _ _)
-
-pub offset_bounds-rows-i : goal.offset_bounds-rows-i
-offset_bounds-rows-i c = omega arith
-
-pub bounds-rows-i : goal.bounds-rows-i
-bounds-rows-i c = omega arith
-
-pub overflow_cast-s : goal.overflow_cast-s
-overflow_cast-s c = record { fits = omega (arith, c.shared_slice_known-in-loop-i-1.given c.loop-i.i) }
-
-pub slice_bounds-row_extends-end : goal.slice_bounds-row_extends-end
-slice_bounds-row_extends-end c = sym (length-take-le _ _ c.loop-i.invariant.0)
+loop-i-init c = none_grown _ _ _ _
 
 pub row_extends-requires : goal.row_extends-requires
 row_extends-requires c =
-    let g = c.loop-i.invariant.1 in let h = c.requires in
+    let g = c.loop-i.invariant in let h = c.requires in
     (h.0, h.1, grown_below _ _ _ _ g, g.after)
 
 pub returns-then-not-row_extends : goal.returns-then-not-row_extends
-returns-then-not-row_extends c = grown_not _ _ _ _ c.loop-i.invariant.1 (omega arith) c.row_extends.ensures (c.if-not-row_extends.true)
-
-pub overflow_add-next : goal.overflow_add-next
-overflow_add-next c = record { fits = omega (arith, c.shared_slice_known-in-loop-i-1.given c.loop-i.i) }
-
-pub overflow_add-i : goal.overflow_add-i
-overflow_add-i c = omega arith
-
-pub loop-i-smaller : goal.loop-i-smaller
-loop-i-smaller c = omega arith
+returns-then-not-row_extends c = grown_not _ _ _ _ c.loop-i.invariant (omega arith) c.row_extends.ensures (c.if-not-row_extends.true)
 
 pub loop-i-preserved : goal.loop-i-preserved
 loop-i-preserved c =
-    (omega arith, grown_on _ _ _ _ c.loop-i.invariant.1 (omega arith) c.row_extends.ensures (c.if-not-row_extends.false))
-
-pub returns : goal.returns
-returns c = grown_all _ _ _ _ c.loop-i.invariant.1 (omega arith)
+    grown_on _ _ _ _ c.loop-i.invariant (omega arith) c.row_extends.ensures (c.if-not-row_extends.false)

@@ -1,11 +1,6 @@
 -- The rows so far are a chain; the first that does not extend them decides.
-use Prim.Native.Nat.{◌-◌, ◌≤◌}
-use lib.ListN.{length}
 use Rattle.kplib.proofs.RowChainLaws.{Grown}
 use Rattle.kplib.proofs.checkpath.is_chain.Given as goal
 
 abbrev pub invariant-loop-i : goal.invariant-loop-i
-invariant-loop-i l = (l.i ≤ length l.rows) × Grown l.starts l.ends l.full l.rows l.i l.next
-
-abbrev pub decreases-loop-i : goal.decreases-loop-i
-decreases-loop-i l = length l.rows - l.i
+invariant-loop-i l = Grown l.starts l.ends l.full l.rows l.i l.next

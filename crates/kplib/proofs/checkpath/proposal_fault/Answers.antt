@@ -1,7 +1,8 @@
 -- The call's refusal, and then 54: its rooms suffice, so that it is given no refusal of theirs.
+use native.Mathlib.Omega.{arith}
 use Rattle.params.specs.Numbers.{Table, Parts, table_of, parts_of}
 use Rattle.kplib.specs.Proposal.{Proposal, proposal_of}
-use Rattle.kplib.proofs.ProposalLaws.{by_call, long_rows, long_positions, no_fault}
+use Rattle.kplib.proofs.ProposalLaws.{by_call, too_long, no_fault}
 use Rattle.kplib.proofs.checkpath.proposal_fault.Goals.{Start}
 use Rattle.kplib.proofs.checkpath.proposal_fault.Goals as goal
 
@@ -21,15 +22,10 @@ returns-then-fault-ne-ACCEPTED c =
 
 pub returns-then-rows-gt64 : goal.returns-then-rows-gt64
 returns-then-rows-gt64 c =
-    long_rows c.args.s (table (goal.at.returns-then-rows-gt64 c).Start) (parts (goal.at.returns-then-rows-gt64 c).Start) (proposal (goal.at.returns-then-rows-gt64 c).Start) 262145 64
-    c.call_fault-fault.ensures c.if-fault-ne-ACCEPTED.false c.if-rows-gt64.true
-
-pub returns-then-positions-gt64 : goal.returns-then-positions-gt64
-returns-then-positions-gt64 c =
-    long_positions c.args.s (table (goal.at.returns-then-positions-gt64 c).Start) (parts (goal.at.returns-then-positions-gt64 c).Start)
-    (proposal (goal.at.returns-then-positions-gt64 c).Start) 262145 64 c.call_fault-fault.ensures c.if-fault-ne-ACCEPTED.false c.if-rows-gt64.false c.if-positions-gt64.true
+    too_long c.args.s (table (goal.at.returns-then-rows-gt64 c).Start) (parts (goal.at.returns-then-rows-gt64 c).Start)
+    (proposal (goal.at.returns-then-rows-gt64 c).Start) 262145 64 c.call_fault-fault.ensures c.if-fault-ne-ACCEPTED.false c.then-rows-gt64.either
 
 pub returns : goal.returns
 returns c =
     no_fault c.args.s (table (goal.at.returns c).Start) (parts (goal.at.returns c).Start) (proposal (goal.at.returns c).Start) 262145 64 c.call_fault-fault.ensures
-    c.if-fault-ne-ACCEPTED.false c.if-rows-gt64.false c.if-positions-gt64.false
+    c.if-fault-ne-ACCEPTED.false (omega arith) (omega arith)

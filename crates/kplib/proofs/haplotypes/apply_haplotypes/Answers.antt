@@ -6,8 +6,8 @@ use lib.ListN.{length, get_or}
 use Rattle.params.specs.Several.{several_fault}
 use Rattle.params.proofs.AcceptedLaws.{as_many_ends, parts_within, features_within}
 use Rattle.kplib.specs.Promises.{several_lent}
-use Rattle.kplib.proofs.HaplotypesLaws.{none_yet, none_answered, few_haplotypes, few_rows, rows_kept, reports_kept}
-use Rattle.kplib.proofs.HaplotypesLaws.{rows_room, reports_room, still_accepted, words_length, next, all_done}
+use Rattle.kplib.proofs.HaplotypesLaws.{none_yet, none_answered, few_haplotypes, few_rows}
+use Rattle.kplib.proofs.HaplotypesLaws.{rows_room, reports_room, still_accepted, next, all_done}
 use Rattle.kplib.proofs.haplotypes.apply_haplotypes.Goals.{After-several_fault-refusal, After-shared_slice_known-in-loop-i-2-1, In-loop-i}
 use Rattle.kplib.proofs.haplotypes.apply_haplotypes.Goals as goal
 
@@ -43,29 +43,14 @@ returns-then-refusal-ne0 c =
 pub loop-i-init : goal.loop-i-init
 loop-i-init c = none_yet _ _ _ _ _ _ _ _ _ _ _ _ _ (sym (found (goal.at.loop-i-init c).After-several_fault-refusal) ∙ c.if-refusal-ne0.false) refl
 
-pub begin_of-part-requires : goal.begin_of-part-requires
-begin_of-part-requires c = omega arith
-
-pub offset_bounds-part_ends-i : goal.offset_bounds-part_ends-i
-offset_bounds-part_ends-i c = omega arith
-
-pub bounds-part_ends-i : goal.bounds-part_ends-i
-bounds-part_ends-i c = omega arith
-
 pub begin_of-feature-requires : goal.begin_of-feature-requires
 begin_of-feature-requires c = omega (arith, many (goal.at.begin_of-feature-requires c).In-loop-i)
-
-pub offset_bounds-feature_ends-i : goal.offset_bounds-feature_ends-i
-offset_bounds-feature_ends-i c = omega (arith, c.loop-i-test.true, few_haplotypes c.loop-i.invariant)
 
 pub bounds-feature_ends-i : goal.bounds-feature_ends-i
 bounds-feature_ends-i c = omega (arith, many (goal.at.bounds-feature_ends-i c).In-loop-i)
 
 pub overflow_mul-at : goal.overflow_mul-at
 overflow_mul-at c = omega (arith, rows_room c.loop-i.invariant c.loop-i-test.true, few_rows c.loop-i.invariant c.loop-i-test.true)
-
-pub overflow_mul-word : goal.overflow_mul-word
-overflow_mul-word c = omega (arith, reports_room c.loop-i.invariant c.loop-i-test.true, few_haplotypes c.loop-i.invariant)
 
 pub offset_bounds-part_sizes-part : goal.offset_bounds-part_sizes-part
 offset_bounds-part_sizes-part c = omega (
@@ -133,14 +118,6 @@ pub offset_bounds-rows-at : goal.offset_bounds-rows-at
 offset_bounds-rows-at c =
     omega (arith, rows_room c.loop-i.invariant c.loop-i-test.true, few_rows c.loop-i.invariant c.loop-i-test.true)
 
-pub slice_bounds-answer_haplotype-count-in-loop-i-2 : goal.slice_bounds-answer_haplotype-count-in-loop-i-2
-slice_bounds-answer_haplotype-count-in-loop-i-2 c =
-    omega (arith, rows_room c.loop-i.invariant c.loop-i-test.true, few_rows c.loop-i.invariant c.loop-i-test.true)
-
-pub slice_bounds-answer_haplotype-start-in-loop-i-2 : goal.slice_bounds-answer_haplotype-start-in-loop-i-2
-slice_bounds-answer_haplotype-start-in-loop-i-2 c =
-    omega (arith, rows_room c.loop-i.invariant c.loop-i-test.true, few_rows c.loop-i.invariant c.loop-i-test.true)
-
 pub slice_bounds-answer_haplotype-end-in-loop-i-2 : goal.slice_bounds-answer_haplotype-end-in-loop-i-2
 slice_bounds-answer_haplotype-end-in-loop-i-2 c =
     omega (arith, rows_room c.loop-i.invariant c.loop-i-test.true, few_rows c.loop-i.invariant c.loop-i-test.true)
@@ -149,48 +126,17 @@ pub answer_haplotype-answer-requires : goal.answer_haplotype-answer-requires
 answer_haplotype-answer-requires c =
     still_accepted c.loop-i.invariant c.loop-i-test.true
 
-pub overflow_add-word : goal.overflow_add-word
-overflow_add-word c = omega (arith, reports_room c.loop-i.invariant c.loop-i-test.true, few_haplotypes c.loop-i.invariant)
-
 pub offset_bounds-reports-word : goal.offset_bounds-reports-word
 offset_bounds-reports-word c = omega (arith, reports_room c.loop-i.invariant c.loop-i-test.true, few_haplotypes c.loop-i.invariant)
 
-pub slice_bounds-put_words-count : goal.slice_bounds-put_words-count
-slice_bounds-put_words-count c = omega (arith, reports_room c.loop-i.invariant c.loop-i-test.true, few_haplotypes c.loop-i.invariant)
-
-pub slice_bounds-put_words-start : goal.slice_bounds-put_words-start
-slice_bounds-put_words-start c = omega (arith, reports_room c.loop-i.invariant c.loop-i-test.true, few_haplotypes c.loop-i.invariant)
-
 pub slice_bounds-put_words-end : goal.slice_bounds-put_words-end
 slice_bounds-put_words-end c = omega (arith, reports_room c.loop-i.invariant c.loop-i-test.true, few_haplotypes c.loop-i.invariant)
-
-pub put_words-requires : goal.put_words-requires
-put_words-requires c = words_length c.loop-i.invariant c.loop-i-test.true
-
-pub overflow_add-i : goal.overflow_add-i
-overflow_add-i c =
-    omega (arith, c.loop-i-test.true, few_haplotypes c.loop-i.invariant)
-
-pub loop-i-smaller : goal.loop-i-smaller
-loop-i-smaller c = omega arith
 
 pub loop-i-preserved : goal.loop-i-preserved
 loop-i-preserved c =
     next c.loop-i.invariant c.loop-i-test.true c.begin_of-part.ensures c.begin_of-feature.ensures c.answer_haplotype-answer.ensures
     c.answer_haplotype-answer.auto.links c.answer_haplotype-answer.auto.keys c.answer_haplotype-answer.auto.rows
     c.put_words.ensures
-
-pub shape_of-links : goal.shape_of-links
-shape_of-links c = c.loop-i.invariant.links_kept
-
-pub shape_of-keys : goal.shape_of-keys
-shape_of-keys c = c.loop-i.invariant.keys_kept
-
-pub shape_of-rows : goal.shape_of-rows
-shape_of-rows c = rows_kept c.loop-i.invariant
-
-pub shape_of-reports : goal.shape_of-reports
-shape_of-reports c = reports_kept c.loop-i.invariant
 
 pub returns : goal.returns
 returns c = let h = all_done c.loop-i.invariant (omega arith) in (sym c.loop-i.invariant.accepted, h)

@@ -1,6 +1,4 @@
 -- The table is asked once. Each turn answers one haplotype more in its own stretches, which lie within their slices.
-use Prim.Native.Nat.{◌-◌}
-use lib.ListN.{length}
 use Rattle.kplib.proofs.HaplotypesLaws.{Turned}
 use Rattle.kplib.proofs.haplotypes.apply_haplotypes.Given as goal
 
@@ -8,7 +6,3 @@ abbrev pub invariant-loop-i : goal.invariant-loop-i
 invariant-loop-i l =
     Turned l.s l.starts l.ends l.sizes l.features l.part_ends l.feature_ends l.part_sizes l.part_features l.initial.links l.initial.keys l.initial.rows l.initial.reports l.v l.i l.links
     l.keys l.rows l.reports
-
-abbrev pub decreases-loop-i : goal.decreases-loop-i
-decreases-loop-i l =
-    length l.part_ends - l.i

@@ -11,12 +11,16 @@ use Rattle.kplib.specs.Search.{haplotype_size}
 use Rattle.kplib.specs.declared.plan.Plan.{Plan}
 use Rattle.kplib.proofs.StepLaws.{going_first}
 use Rattle.kplib.proofs.SearchedLaws.{haplotype_small, plan_is, searchable_first, searched_as}
+use Rattle.metrics.proofs.Entries.{power}
 use Rattle.kplib.proofs.steps.search.Goals.{After-whole_size-target}
 use Rattle.kplib.proofs.steps.search.Goals as goal
 
 -- the plan's width and target
+width_is : (c : After-whole_size-target) → c.entries-width.result ≡ 4 ^ c.args.s.k
+width_is c = c.entries-width.ensures ∙ power _ c.requires.checked.k_high
+
 width_few : (c : After-whole_size-target) → c.entries-width.result ≤ 4096
-width_few c = omega (arith, c.entries-width.ensures, c.requires.checked.rows.short)
+width_few c = omega (arith, width_is c, c.requires.checked.rows.short)
 
 target_is : (c : After-whole_size-target) → to_z w32 (of_z w32 c.whole_size-target.result) ≡ haplotype_size c.args.part_sizes.now
 target_is c = read_back _ c.whole_size-target.type_inv ∙ c.whole_size-target.ensures
@@ -28,38 +32,11 @@ planned : (c : After-whole_size-target) → ◌≡◌ {A = Plan} (record {
   target = to_z w32
       (of_z w32 c.whole_size-target.result);
 }) (record { s = c.args.s; width = 4 ^ c.args.s.k; m = length c.args.part_sizes.now; target = haplotype_size c.args.part_sizes.now })
-planned c = plan_is c.args.s c.args.part_sizes.now c.entries-width.ensures (target_is c)
-
-pub entries-width-requires : goal.entries-width-requires
-entries-width-requires c = c.requires.checked.k_high
-
-pub slice_bounds-lay_lists-end : goal.slice_bounds-lay_lists-end
-slice_bounds-lay_lists-end c = refl
-
-pub slice_bounds-lay_lists-end-2 : goal.slice_bounds-lay_lists-end-2
-slice_bounds-lay_lists-end-2 c = refl
-
-pub whole_size-target-requires : goal.whole_size-target-requires
-whole_size-target-requires c = c.requires.checked.part_sized
-
-pub pairs_together-together-requires : goal.pairs_together-together-requires
-pairs_together-together-requires c = let h = c.requires.checked in (h.ends_are, omega (arith, h.sized.few, h.sizes_are), c.requires.rising)
+planned c = plan_is c.args.s c.args.part_sizes.now (width_is c) (target_is c)
 
 pub key-requires : goal.key-requires
 key-requires c =
     (omega arith, rw (target_is (goal.at.key-requires c).After-whole_size-target) (haplotype_small _ c.requires.checked.part_sized), omega arith)
-
-pub slice_bounds-codes-end : goal.slice_bounds-codes-end
-slice_bounds-codes-end c = c.lay_lists-count.ensures.room
-
-pub slice_bounds-run-end : goal.slice_bounds-run-end
-slice_bounds-run-end c = sym (length-take-le _ _ c.lay_lists-count.ensures.room)
-
-pub slice_bounds-list_sizes-end : goal.slice_bounds-list_sizes-end
-slice_bounds-list_sizes-end c = c.lay_lists-count.ensures.beside
-
-pub slice_bounds-run-end-2 : goal.slice_bounds-run-end-2
-slice_bounds-run-end-2 c = sym (length-take-le _ _ c.lay_lists-count.ensures.beside)
 
 pub slice_bounds-scratch-end : goal.slice_bounds-scratch-end
 slice_bounds-scratch-end c = omega (arith, width_few (goal.at.slice_bounds-scratch-end c).After-whole_size-target)
@@ -67,21 +44,12 @@ slice_bounds-scratch-end c = omega (arith, width_few (goal.at.slice_bounds-scrat
 pub slice_bounds-run-end-3 : goal.slice_bounds-run-end-3
 slice_bounds-run-end-3 c = sym (length-take-le _ _ (omega (arith, width_few (goal.at.slice_bounds-run-end-3 c).After-whole_size-target)))
 
-pub not_begun-requires : goal.not_begun-requires
-not_begun-requires c = tt
-
 pub run-requires : goal.run-requires
 run-requires c = (
   searchable_first c.requires (planned (goal.at.run-requires c).After-whole_size-target) c.lay_lists-count.ensures _ refl (simp length-set refl)
       (length-take-le _ _ (omega (arith, width_few (goal.at.run-requires c).After-whole_size-target))),
   going_first _ _ c.args.keys.now (omega (arith, c.requires.key_room)) c.key.ensures c.not_begun.ensures,
 )
-
-pub shape_of-links : goal.shape_of-links
-shape_of-links c = c.run.auto.links
-
-pub shape_of-keys : goal.shape_of-keys
-shape_of-keys c = c.run.auto.keys ∙ simp length-set
 
 pub returns : goal.returns
 returns c =

@@ -2,19 +2,13 @@
 use mathlib.Core.Path.{◌∙◌}
 use native.Mathlib.Omega.{arith}
 use Rattle.metrics.proofs.Ints.{read_back}
-use Rattle.kplib.proofs.WeighLaws.{cut, rowed_as, scorable_as, weighed_as}
+use Rattle.kplib.proofs.WeighLaws.{cut, scorable_as, weighed_as}
 use Rattle.kplib.proofs.steps.weigh.Goals as goal
-
-pub rows_size-size-requires : goal.rows_size-size-requires
-rows_size-size-requires c = rowed_as c.requires (cut _ 64 _ (omega arith) c.read_chain-at.ensures)
 
 pub score_chain-scored-requires : goal.score_chain-scored-requires
 score_chain-scored-requires c =
     let size = c.rows_size-size in
     scorable_as c.requires (cut _ 64 _ (omega arith) c.read_chain-at.ensures) (read_back _ size.type_inv ∙ size.ensures) (omega arith)
-
-pub shape_of-scratch : goal.shape_of-scratch
-shape_of-scratch c = c.score_chain-scored.auto.scratch
 
 pub returns : goal.returns
 returns c =

@@ -1,5 +1,5 @@
 -- A refusal is answered at once with nothing written; else the call is accepted.
-use mathlib.Core.Path.{◌≡◌, refl, sym, ◌∙◌}
+use mathlib.Core.Path.{◌≡◌, refl}
 use Rattle.params.specs.Numbers.{first_fault}
 use Rattle.kplib.specs.Promises.{call_lent}
 use Rattle.kplib.proofs.FoundLaws.{refused_answers}
@@ -15,6 +15,3 @@ returns-then-refusal-ne0 c =
     let h = refused_answers ((let a = c.args in call_lent a.s a.starts.now a.ends.now a.sizes.now a.features.now a.part_sizes.now a.part_features.now a.links.now a.keys.now a.rows.now))
     (found (goal.at.returns-then-refusal-ne0 c).After-call_fault-refusal) c.if-refusal-ne0.true c.nothing.ensures c.answer_with.ensures c.args.rows.now in
     (h.0, (h.1, (λ _. refl, λ _. refl)))
-
-pub answer_accepted-requires : goal.answer_accepted-requires
-answer_accepted-requires c = sym (found (goal.at.answer_accepted-requires c).After-call_fault-refusal) ∙ c.if-refusal-ne0.false

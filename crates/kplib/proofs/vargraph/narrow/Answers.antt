@@ -3,7 +3,7 @@ use Prim.Native.Nat.{◌<◌}
 use native.Mathlib.Omega.{arith}
 use lib.ListN.{length}
 use Rattle.kplib.proofs.CappedLaws.{narrowing_begin, narrowing_room, narrowing_done, narrowing_skip, narrowing_take}
-use Rattle.kplib.proofs.vargraph.narrow.Goals.{At-loop-i}
+use Rattle.kplib.proofs.vargraph.narrow.Goals.{At-loop-i, then-together-flags, else-together-flags}
 use Rattle.kplib.proofs.vargraph.narrow.Goals as goal
 
 has_room : (l : At-loop-i) → l.loop-i.i < l.args.to → l.loop-i.end < length l.loop-i.rows
@@ -12,23 +12,14 @@ has_room l k = narrowing_room l.loop-i.invariant l.requires.1 k
 pub loop-i-init : goal.loop-i-init
 loop-i-init c = narrowing_begin _ c.requires.1
 
-pub bounds-rows-end : goal.bounds-rows-end
-bounds-rows-end c = let l = c.loop-i in omega (arith, narrowing_room l.invariant c.requires.1 (omega arith))
-
-pub overflow_cast-s : goal.overflow_cast-s
-overflow_cast-s c = let l = c.loop-i in record { fits = omega (arith, l.invariant.kept.rows l.i) }
-
-pub overflow_add-flags : goal.overflow_add-flags
-overflow_add-flags c = let l = c.loop-i in record { fits = omega (arith, l.invariant.kept.rows l.i, c.requires.0) }
-
-pub bounds-together-flags : goal.bounds-together-flags
-bounds-together-flags c = let l = c.loop-i in omega (arith, l.invariant.kept.rows l.i, c.requires.0)
-
-pub loop-i-preserved-then-together-flags : goal.loop-i-preserved-then-together-flags
-loop-i-preserved-then-together-flags c = narrowing_take c.loop-i.invariant (omega arith) (has_room (goal.at.loop-i-preserved-then-together-flags c).At-loop-i (omega arith)) c.if-together-flags.true
-
 pub loop-i-preserved : goal.loop-i-preserved
-loop-i-preserved c = narrowing_skip c.loop-i.invariant (omega arith) (has_room (goal.at.loop-i-preserved c).At-loop-i (omega arith)) c.if-together-flags.false
+loop-i-preserved c =
+    let l = c.loop-i in
+    let room = has_room (goal.at.loop-i-preserved c).At-loop-i (omega arith) in
+    elim c.if-together-flags.branch [
+      then-together-flags w ↦ rw w.end-is (narrowing_take l.invariant (omega arith) room w.if-together-flags.true)
+    | else-together-flags w ↦ rw w.end-is (narrowing_skip l.invariant (omega arith) room w.if-together-flags.false)
+    ]
 
 pub returns : goal.returns
 returns c = narrowing_done c.loop-i.invariant (omega arith)

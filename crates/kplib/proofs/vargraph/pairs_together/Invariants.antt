@@ -1,12 +1,8 @@
 -- Row by row: the flags of the rows passed are laid. Assumes nothing.
-use Prim.Native.Nat.{◌-◌, ◌≤◌}
 use lib.ListN.{length}
 use Rattle.kplib.specs.Graph.{edge}
 use Rattle.kplib.proofs.TogetherLaws.{LaidBefore}
 use Rattle.kplib.proofs.vargraph.pairs_together.Given as goal
 
 abbrev pub invariant-loop-r : goal.invariant-loop-r
-invariant-loop-r l = (l.r ≤ length l.starts) × LaidBefore (edge l.starts l.ends) (length l.starts) l.r l.together
-
-abbrev pub decreases-loop-r : goal.decreases-loop-r
-decreases-loop-r l = length l.starts - l.r
+invariant-loop-r l = LaidBefore (edge l.starts l.ends) (length l.starts) l.r l.together

@@ -1,12 +1,9 @@
 -- Row by row: those passed have both flags. Assumes nothing.
 use mathlib.Core.Bool.{false}
-use Prim.Native.Nat.{◌+◌, ◌-◌, ◌≤◌}
+use Prim.Native.Nat.{◌+◌}
 use lib.ListN.{get_or}
 use Rattle.kplib.proofs.TogetherLaws.{BothTo}
 use Rattle.kplib.proofs.vargraph.stand_with.Given as goal
 
 abbrev pub invariant-loop-s : goal.invariant-loop-s
-invariant-loop-s l = (l.s ≤ 64) × BothTo (λ j. get_or l.together (l.at + j) false) l.initial.may l.may l.s
-
-abbrev pub decreases-loop-s : goal.decreases-loop-s
-decreases-loop-s l = 64 - l.s
+invariant-loop-s l = BothTo (λ j. get_or l.together (l.at + j) false) l.initial.may l.may l.s

@@ -1,6 +1,0 @@
--- By whether it is the first. Assumes nothing.
-use Rattle.kplib.proofs.HaplotypesLaws.{end_before}
-use Rattle.kplib.proofs.haplotypes.begin_of.Goals as goal
-
-pub returns : goal.returns
-returns c = end_before _ _ c.if-i-eq0.false
