@@ -1,27 +1,26 @@
 -- What the two walks do at each record: the rest from here and what is done come to the whole. Assumes nothing.
 use Prim.Native.Nat.{ℕ, suc, ◌+◌, ◌-◌, ◌%◌, ◌/◌, ◌≤◌, ◌<◌, min}
 use native.Mathlib.Omega.{arith}
-use native.Mathlib.Numerals.{add-one}
 use mathlib.Core.Path.{◌≡◌, refl, sym, ap, ◌∙◌}
 use mathlib.Core.Bool.{Bool, true, false, cond, not, ◌&&◌, ◌||◌}
-use mathlib.Core.List.{List, [], ◌∷◌, ◌++◌}
+use mathlib.Core.List.{List, [], ◌∷◌, ◌++◌, append_assoc}
 use mathlib.Core.Logic.{⊎_elim}
 use lib.Dec.{ltb, leb, eqb}
 use lib.ListN.{length, get_or, take, drop, set, length-append, length-take, drop_of_length-le}
-use lib.Seq.{sets, sets-eq, drop-cons, drop-drop, get_or-take, length-take-le, take_all}
+use lib.Seq.{sets, sets-eq, drop-cons, drop-drop, take_all}
+use borrow.Rule.Slice.PartMut.{put_mid}
 use borrow.Author.Tests.{le-ltb, lt-ltb, leb-true, leb-false}
 use Rattle.fields.specs.Fields.{le4, bytes2, bytes4}
-use Rattle.fields.proofs.FieldLaws.{sets_append, long4}
+use Rattle.fields.proofs.FieldLaws.{sets_append}
 use Rattle.metrics.specs.Placed.{placed}
 use Rattle.form.specs.declared.records.Kind.{Kind}
 use Rattle.form.specs.declared.records.Record.{Record}
 use Rattle.form.specs.declared.records.Edition.{Edition}
-use Rattle.form.specs.declared.records.Edition.TheVariants.{One, Two}
-use Rattle.form.specs.Form.{kind_of, is_settings, is_variant, is_second, body_len, record_at}
+use Rattle.form.specs.Form.{kind_of, is_variant, is_second, body_len, record_at}
 use Rattle.form.specs.Job.{gather, number_here}
 use Rattle.form.proofs.FormLaws.{split, rest_is, record_kind, record_next}
 use Rattle.form.proofs.GatherLaws.{gather_here, gather_done}
-use Rattle.editions.specs.Moving.{settings_byte, variant_byte, byte_in, shared_len, added_in, record_in, next_row, moved_from, moved, off_row}
+use Rattle.editions.specs.Moving.{byte_in, shared_len, added_in, record_in, next_row, moved_from, moved, off_row}
 use Rattle.editions.specs.Steps.{has_number, Put}
 use Rattle.editions.proofs.MoveLaws.{move_skip}
 
@@ -98,45 +97,12 @@ module _ (s : List ℕ) (at row : ℕ) where
         → off_row next (gather number_here (drop here.next s) 0) ≡ off_row row (gather number_here (drop at s) 0)
     off_more next h e = sym (off_here ∙ rw (h, sym e))
 
--- ---- a record's first byte
-module _ (e : Edition) (byte : ℕ) (kind : Kind) (is : kind ≡ kind_of byte) where
-  pub byte_settings : (r : ℕ) → is_settings kind ≡ true → r ≡ settings_byte e → r ≡ byte_in e byte
-  unfolding byte_in
-  byte_settings r h p = p ∙ sym (rw (sym is, h))
-
-  pub byte_variant : (r : ℕ) → is_settings kind ≡ false → is_variant kind ≡ true → r ≡ variant_byte e → r ≡ byte_in e byte
-  unfolding byte_in
-  byte_variant r h g p = p ∙ sym (rw (sym is, h, g))
-
-  pub byte_common : is_settings kind ≡ false → is_variant kind ≡ false → byte ≡ byte_in e byte
-  unfolding byte_in
-  byte_common h g = sym (rw (sym is, h, g))
-
-pub row_more : (kind : Kind) (row : ℕ) → is_variant kind ≡ true → (row + 1 ≡ next_row kind row) × (row + 1 ≤ row + 1)
-unfolding next_row
-row_more kind row h = (sym (rw h), omega arith)
-
-pub row_same : (kind : Kind) (row : ℕ) → is_variant kind ≡ false → (row ≡ next_row kind row) × (row ≤ row + 1)
-unfolding next_row
-row_same kind row h = (sym (rw h), omega arith)
-
--- ---- bytes copied one by one
-module _ (b : List ℕ) (n at : ℕ) (out : List ℕ) where
-  pub copy_start : sets out (at + 0) (drop 0 (take n b)) ≡ sets out at (take n b)
-  copy_start = let h : at + 0 ≡ at = omega arith in rw h
-
-  pub copy_more : (i : ℕ) → i < n → n ≤ length b
-      → sets (set out (at + i) (get_or b i 0)) (at + (i + 1)) (drop (i + 1) (take n b)) ≡ sets out (at + i) (drop i (take n b))
-  copy_more i h l =
-      let f : at + suc i ≡ suc (at + i) = omega arith in
-      let inside : i < length (take n b) = rw (length-take-le n b l) h in
-      rw (add-one i, f) (sym (ap (λ (q : List ℕ). sets out (at + i) q) (drop-cons (take n b) i 0 inside) ∙ rw (get_or-take n b i 0 h)))
-
-  pub copy_done : (i : ℕ) → n ≤ i → n ≤ length b → sets out (at + i) (drop i (take n b)) ≡ out
-  copy_done i h l = let g : length (take n b) ≤ i = rw (length-take-le n b l) h in rw (drop_of_length-le (take n b) {i = i} g)
-
-pub copy_next : (b : List ℕ) (n at : ℕ) → n ≤ length b → at + n ≡ at + length (take n b)
-copy_next b n at l = rw (length-take-le n b l)
+-- ---- a stretch that now holds other bytes, as many
+pub part_stored : (at k : ℕ) (old : List ℕ) {part xs : List ℕ} → at + k ≤ length old → length xs ≡ k → part ≡ xs → put_mid at k old part ≡ sets old at xs
+part_stored at k old {part} {xs} room n e =
+    ap (λ (m : List ℕ). take at old ++ (m ++ drop k (drop at old))) e
+    ∙ (ap (λ (m : List ℕ). take at old ++ (xs ++ m)) (drop-drop k at old ∙ ap (λ (j : ℕ). drop (at + j) old) (sym n))
+    ∙ (sym (append_assoc (take at old) xs (drop (at + length xs) old)) ∙ sym (sets-eq xs old at (omega arith))))
 
 -- as many bytes as there are
 pub take_smaller : (m : ℕ) (b : List ℕ) → take (min m (length b)) b ≡ take m b
@@ -161,31 +127,9 @@ half_low x = omega arith
 half_high : (x : ℕ) → x % 65536 / 256 % 256 ≡ x / 256 % 256
 half_high x = omega arith
 
-word_bytes : (x : ℕ) → bytes4 (x % 4294967296) ≡ bytes4 x
+pub word_bytes : (x : ℕ) → bytes4 (x % 4294967296) ≡ bytes4 x
 unfolding bytes4 bytes2
 word_bytes x = rw (low_same x, high_low x, half_low (x / 65536), half_high (x / 65536))
-
-module _ (kind : Kind) (row : ℕ) (out : List ℕ) (at : ℕ) where
-  pub added_settings : (out' : List ℕ) → is_settings kind ≡ true → out' ≡ set out at 0 → Put out out' at (at + 1) (added_in Two kind row)
-  unfolding added_in
-  added_settings out' h e = rw h (record { is = e; next = refl })
-
-  pub added_variant : (out' : List ℕ) → is_settings kind ≡ false → is_variant kind ≡ true → out' ≡ sets out at (bytes4 (row % 4294967296))
-      → Put out out' at (at + 4) (added_in Two kind row)
-  unfolding added_in
-  added_variant out' h g e = rw (h, g) (record { is = e ∙ ap (λ (q : List ℕ). sets out at q) (word_bytes row); next = rw (long4 row) })
-
-  pub added_none : is_settings kind ≡ false → is_variant kind ≡ false → Put out out at at (added_in Two kind row)
-  unfolding added_in
-  added_none h g = rw (h, g) (record { is = refl; next = omega arith })
-
-  pub added_one : Put out out at at (added_in One kind row)
-  unfolding added_in
-  added_one = record { is = refl; next = omega arith }
-
-pub added_by : (e d : Edition) (kind : Kind) (row : ℕ) (out out' : List ℕ) (at : ℕ) {r : ℕ} → e ≡ d
-    → Put out out' at r (added_in d kind row) → Put out out' at r (added_in e kind row)
-added_by e d kind row out out' at i p = rw i p
 
 -- ---- one record, its three pieces one behind the other
 module _ (e : Edition) (byte : ℕ) (b : List ℕ) (row : ℕ) where

@@ -7,4 +7,3 @@ pub mod OrderLaws
 pub mod LetterLaws
 pub mod NumberLaws
 pub mod SettingsLaws
-pub mod Settings41Laws

@@ -93,7 +93,7 @@ module _ (st : State) (late : st.phase ≡ 2) where
     stays_late = ⊎_elim
         (λ (t : is_part kind ≡ true). rw t)
         (λ (t : is_part kind ≡ false). ⊎_elim
-        (λ (u : is_next kind ≡ true). rw (t, u))
+        (λ (u : is_next kind ≡ true). rw (t, u) cc)
         (λ (u : is_next kind ≡ false). rw (t, u, (late_kind kind (none_placed st kind b none)).0) late)
         (split (is_next kind)))
         (split (is_part kind))

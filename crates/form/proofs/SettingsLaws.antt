@@ -8,6 +8,7 @@ use lib.Dec.{eqb}
 use lib.ListN.{length}
 use lib.Seq.{sets}
 use lib.Ieee.{binary32, to_bits}
+use mir.Val.{bool_byte}
 use Rattle.params.specs.declared.Settings.{Settings}
 use Rattle.fields.specs.Fields.{bytes4, bytes2}
 use Rattle.form.specs.Settings40.{flag}
@@ -57,3 +58,7 @@ module _ (i : ℕ) (s : Settings) where
 pub flag_back : (t : Bool) → eqb (flag t) 1 ≡ t
 flag_back true = refl
 flag_back false = refl
+
+pub flag_byte : (t : Bool) → bool_byte t ≡ flag t
+flag_byte true = refl
+flag_byte false = refl

@@ -1,6 +1,6 @@
 // The form's records and their faults, front to back.
 ghost use Rattle.std.specs.Prelude.{◌≡◌, [], ◌≤◌, ◌+◌, ◌^◌, length, drop, take};
-ghost use Rattle.form.specs.Form.{is_end, is_letters, is_next, is_second, is_unknown, shape_of, body_len, in_place, are_flags, flags_ok, count_of, all_zero, pad_ok, too_many, fault_of, outset, run};
+ghost use Rattle.form.specs.Form.{shape_of, body_len, in_place, are_flags, flags_ok, count_of, all_zero, pad_ok, too_many, fault_of, outset, run};
 ghost use Rattle.form.specs.declared.records.Kind.TheVariants.{Letters};
 ghost use Rattle.form.specs.Steps.{Follows, Small};
 ghost use Rattle.form.specs.Promises.{KindOfPromise, BodyLenPromise, RecordAtPromise, EditionOfPromise};
@@ -12,6 +12,8 @@ use metrics::refusals::{
 };
 
 // What is known between two records: which kinds may follow, how many letters are owed, and the counts so far.
+// The phase is a number and the counts stand one by one because the form's definition (specs/Form.antt) has them so: 0 is before the settings, 1 and 3 are where
+// variants of edition 1 and of edition 2 may follow, and 2 is where no variant may.
 #[derive(Clone, Copy)]
 pub struct State {
     pub phase: u8,
@@ -135,21 +137,31 @@ pub struct Shape {
 }
 
 // The kind that a record's first byte says.
+#[tactic(auto, unfolding(crate::specs::Form::kind_of))]
 pub fn kind_of(byte: u8) -> Kind
     ensures { KindOfPromise byte result }
 {
     match byte {
-        0 => Kind::End,
-        1 => Kind::Settings,
-        2 => Kind::Variant,
-        3 => Kind::Part,
-        4 => Kind::Letters,
-        5 => Kind::Next,
-        17 => Kind::Settings2,
-        18 => Kind::Variant2,
+        END => Kind::End,
+        SETTINGS => Kind::Settings,
+        VARIANT => Kind::Variant,
+        PART => Kind::Part,
+        LETTERS => Kind::Letters,
+        NEXT => Kind::Next,
+        SETTINGS2 => Kind::Settings2,
+        VARIANT2 => Kind::Variant2,
         _ => Kind::Unknown,
     }
 }
+
+// of a record that is its first byte alone
+const NO_BODY: Shape = Shape {
+    body: 0,
+    flags: 0,
+    flag_count: 0,
+    count: 0,
+    late_flags: 0,
+};
 
 // The one table of kinds.
 fn shape_of(kind: Kind) -> Shape
@@ -160,208 +172,100 @@ fn shape_of(kind: Kind) -> Shape
             body: SETTINGS_BODY,
             flags: 1,
             flag_count: 3,
-            count: 0,
-            late_flags: 0,
+            ..NO_BODY
+        },
+        Kind::Settings2 => Shape {
+            body: SETTINGS2_BODY,
+            flags: 1,
+            flag_count: 3,
+            late_flags: 1,
+            ..NO_BODY
         },
         Kind::Variant => Shape {
             body: VARIANT_BODY,
             flags: VARIANT_FLAG,
             flag_count: 1,
             count: VARIANT_COUNT,
-            late_flags: 0,
-        },
-        Kind::Part => Shape {
-            body: PART_BODY,
-            flags: PART_FLAG,
-            flag_count: 1,
-            count: PART_COUNT,
-            late_flags: 0,
-        },
-        Kind::Letters => Shape {
-            body: LETTERS_BODY,
-            flags: 0,
-            flag_count: 0,
-            count: 0,
-            late_flags: 0,
-        },
-        Kind::Next => Shape {
-            body: 0,
-            flags: 0,
-            flag_count: 0,
-            count: 0,
-            late_flags: 0,
-        },
-        Kind::Settings2 => Shape {
-            body: SETTINGS2_BODY,
-            flags: 1,
-            flag_count: 3,
-            count: 0,
-            late_flags: 1,
+            ..NO_BODY
         },
         Kind::Variant2 => Shape {
             body: VARIANT2_BODY,
             flags: VARIANT_FLAG,
             flag_count: 1,
             count: VARIANT_COUNT,
-            late_flags: 0,
+            ..NO_BODY
         },
-        Kind::End => Shape {
-            body: 0,
-            flags: 0,
-            flag_count: 0,
-            count: 0,
-            late_flags: 0,
+        Kind::Part => Shape {
+            body: PART_BODY,
+            flags: PART_FLAG,
+            flag_count: 1,
+            count: PART_COUNT,
+            ..NO_BODY
         },
-        Kind::Unknown => Shape {
-            body: 0,
-            flags: 0,
-            flag_count: 0,
-            count: 0,
-            late_flags: 0,
+        Kind::Letters => Shape {
+            body: LETTERS_BODY,
+            ..NO_BODY
         },
+        Kind::Next | Kind::End | Kind::Unknown => NO_BODY,
     }
 }
 
 // How long a kind's body is; 0 where it has none or is unknown.
+#[tactic(auto, unfolding(crate::specs::Form::body_len))]
 pub fn body_len(kind: Kind) -> usize
     ensures { BodyLenPromise kind result }
 {
-    let s = shape_of(kind);
-    s.body
-}
-
-fn is_end(kind: Kind) -> bool
-    ensures { result ≡ is_end kind }
-{
-    match kind {
-        Kind::End => true,
-        Kind::Settings => false,
-        Kind::Variant => false,
-        Kind::Part => false,
-        Kind::Letters => false,
-        Kind::Next => false,
-        Kind::Settings2 => false,
-        Kind::Variant2 => false,
-        Kind::Unknown => false,
-    }
-}
-
-fn is_letters(kind: Kind) -> bool
-    ensures { result ≡ is_letters kind }
-{
-    match kind {
-        Kind::End => false,
-        Kind::Settings => false,
-        Kind::Variant => false,
-        Kind::Part => false,
-        Kind::Letters => true,
-        Kind::Next => false,
-        Kind::Settings2 => false,
-        Kind::Variant2 => false,
-        Kind::Unknown => false,
-    }
-}
-
-fn is_unknown(kind: Kind) -> bool
-    ensures { result ≡ is_unknown kind }
-{
-    match kind {
-        Kind::End => false,
-        Kind::Settings => false,
-        Kind::Variant => false,
-        Kind::Part => false,
-        Kind::Letters => false,
-        Kind::Next => false,
-        Kind::Settings2 => false,
-        Kind::Variant2 => false,
-        Kind::Unknown => true,
-    }
-}
-
-fn is_next(kind: Kind) -> bool
-    ensures { result ≡ is_next kind }
-{
-    match kind {
-        Kind::End => false,
-        Kind::Settings => false,
-        Kind::Variant => false,
-        Kind::Part => false,
-        Kind::Letters => false,
-        Kind::Next => true,
-        Kind::Settings2 => false,
-        Kind::Variant2 => false,
-        Kind::Unknown => false,
-    }
-}
-
-fn is_second(kind: Kind) -> bool
-    ensures { result ≡ is_second kind }
-{
-    match kind {
-        Kind::End => false,
-        Kind::Settings => false,
-        Kind::Variant => false,
-        Kind::Part => false,
-        Kind::Letters => false,
-        Kind::Next => false,
-        Kind::Settings2 => true,
-        Kind::Variant2 => true,
-        Kind::Unknown => false,
-    }
+    shape_of(kind).body
 }
 
 // The first record decides the edition.
 pub fn edition_of(s: &[u8]) -> Edition
     ensures { EditionOfPromise s.now result }
 {
-    if is_second(kind_of(u8_at(s, 0))) {
-        return Edition::Two;
+    match kind_of(u8_at(s, 0)) {
+        Kind::Settings2 | Kind::Variant2 => Edition::Two,
+        _ => Edition::One,
     }
-    Edition::One
 }
 
+#[tactic(auto, unfolding(crate::specs::Form::in_place))]
 fn in_place(st: State, kind: Kind) -> bool
     ensures { result ≡ in_place st kind }
 {
     match kind {
         Kind::Letters => 0 < st.left,
-        Kind::Settings => st.left == 0 && st.phase == 0,
+        Kind::Settings | Kind::Settings2 => st.left == 0 && st.phase == 0,
         Kind::Variant => st.left == 0 && st.phase == 1,
-        Kind::Part => st.left == 0 && 0 < st.phase,
-        Kind::Next => st.left == 0 && 0 < st.phase,
-        Kind::End => st.left == 0 && 0 < st.phase,
-        Kind::Settings2 => st.left == 0 && st.phase == 0,
         Kind::Variant2 => st.left == 0 && st.phase == 3,
+        Kind::Part | Kind::Next | Kind::End => st.left == 0 && 0 < st.phase,
         Kind::Unknown => false,
     }
 }
 
 // Whether n bytes from a place on are flags.
+#[tactic(auto, using(crate::proofs::FormLaws::flag_more))]
 pub(crate) fn are_flags(b: &[u8], from: usize, n: usize) -> bool
     requires { from + n ≤ 64 }
     ensures { result ≡ are_flags b.now from n }
 {
-    let mut i = 0usize;
-    while i < n {
+    for i in 0..n {
         if 2 <= u8_at(b, from + i) {
             return false;
         }
-        i += 1;
     }
     true
 }
 
+#[tactic(auto, unfolding(crate::specs::Form::flags_ok))]
 fn flags_ok(kind: Kind, b: &[u8]) -> bool
     ensures { result ≡ flags_ok kind b.now }
 {
     let s = shape_of(kind);
-    if !are_flags(b, s.flags, s.flag_count) {
-        return false;
-    }
-    are_flags(b, LETTERS_PLACE, s.late_flags)
+    are_flags(b, s.flags, s.flag_count) && are_flags(b, LETTERS_PLACE, s.late_flags)
 }
 
 // How many letters a record with b from its body on announces.
+#[tactic(auto, unfolding(crate::specs::Form::count_of))]
 fn count_of(kind: Kind, b: &[u8]) -> u32
     ensures { result ≡ count_of kind b.now }
 {
@@ -385,7 +289,7 @@ pub fn record_at(s: &[u8], at: usize) -> Record
     }
     let kind = kind_of(s[at]);
     Record {
-        kind: kind,
+        kind,
         count: count_of(kind, &s[at + 1..]),
         next: at + 1 + body_len(kind),
     }
@@ -395,39 +299,37 @@ fn all_zero(b: &[u8], from: usize, to: usize) -> bool
     requires { to ≤ length b.now }
     ensures { result ≡ all_zero (drop from (take to b.now)) }
 {
-    let mut i = from;
-    while i < to {
+    for i in from..to {
         if b[i] != 0 {
             return false;
         }
-        i += 1;
     }
     true
 }
 
+#[tactic(auto, unfolding(crate::specs::Form::pad_ok, crate::specs::Form::body_len))]
 fn pad_ok(st: State, kind: Kind, b: &[u8]) -> bool
     requires { body_len kind ≤ length b.now }
     ensures { result ≡ pad_ok st kind b.now }
 {
-    if is_letters(kind) {
-        return all_zero(b, st.left as usize, LETTERS_BODY);
+    match kind {
+        Kind::Letters => all_zero(b, st.left as usize, LETTERS_BODY),
+        _ => true,
     }
-    true
 }
 
+#[tactic(auto, unfolding(crate::specs::Form::too_many))]
 fn too_many(st: State, kind: Kind) -> bool
     ensures { result ≡ too_many st kind }
 {
-    if !is_next(kind) {
-        return false;
-    }
-    MOST_BREAKS <= st.breaks
+    matches!(kind, Kind::Next) && MOST_BREAKS <= st.breaks
 }
 
+#[tactic(auto, unfolding(crate::specs::Form::fault_of))]
 fn fault_of(st: State, kind: Kind, b: &[u8]) -> u32
     ensures { result ≡ fault_of st kind b.now }
 {
-    if is_unknown(kind) {
+    if matches!(kind, Kind::Unknown) {
         return UNKNOWN_KIND;
     }
     if b.len() < body_len(kind) {
@@ -448,110 +350,53 @@ fn fault_of(st: State, kind: Kind, b: &[u8]) -> u32
     if !pad_ok(st, kind, b) {
         return BAD_PADDING;
     }
-    if is_end(kind) {
-        if 0 < b.len() {
-            return BYTES_AFTER_END;
-        }
+    if matches!(kind, Kind::End) && !b.is_empty() {
+        return BYTES_AFTER_END;
     }
     0
 }
 
+#[tactic(auto, unfolding(crate::specs::Form::after, crate::specs::Form::body_len))]
 fn after_letters(st: State) -> State
     requires { st.letters ≤ 2 ^ 63 }
     ensures { Follows st Letters [] result }
 {
-    let left = st.left;
-    if left <= LETTERS_EACH {
-        return State {
-            phase: st.phase,
-            left: 0,
-            variants: st.variants,
-            parts: st.parts,
-            breaks: st.breaks,
-            letters: st.letters + left as usize,
-        };
-    }
+    let given = st.left.min(LETTERS_EACH);
     State {
-        phase: st.phase,
-        left: left - LETTERS_EACH,
-        variants: st.variants,
-        parts: st.parts,
-        breaks: st.breaks,
-        letters: st.letters + LETTERS_BODY,
+        left: st.left - given,
+        letters: st.letters + given as usize,
+        ..st
     }
 }
 
+#[tactic(auto, unfolding(crate::specs::Form::after, crate::specs::Form::body_len))]
 fn after_record(st: State, kind: Kind, b: &[u8]) -> State
     requires { (body_len kind ≤ length b.now) × Small st (2 ^ 63) }
     ensures { Follows st kind b.now result }
 {
-    let n = count_of(kind, b);
+    let next = State {
+        left: count_of(kind, b),
+        ..st
+    };
     match kind {
         Kind::Letters => after_letters(st),
-        Kind::Settings => State {
-            phase: 1,
-            left: n,
-            variants: st.variants,
-            parts: st.parts,
-            breaks: st.breaks,
-            letters: st.letters,
-        },
-        Kind::Variant => State {
-            phase: st.phase,
-            left: n,
+        Kind::Settings => State { phase: 1, ..next },
+        Kind::Settings2 => State { phase: 3, ..next },
+        Kind::Variant | Kind::Variant2 => State {
             variants: st.variants + 1,
-            parts: st.parts,
-            breaks: st.breaks,
-            letters: st.letters,
+            ..next
         },
         Kind::Part => State {
             phase: 2,
-            left: n,
-            variants: st.variants,
             parts: st.parts + 1,
-            breaks: st.breaks,
-            letters: st.letters,
+            ..next
         },
         Kind::Next => State {
             phase: 2,
-            left: n,
-            variants: st.variants,
-            parts: st.parts,
             breaks: st.breaks + 1,
-            letters: st.letters,
+            ..next
         },
-        Kind::Settings2 => State {
-            phase: 3,
-            left: n,
-            variants: st.variants,
-            parts: st.parts,
-            breaks: st.breaks,
-            letters: st.letters,
-        },
-        Kind::Variant2 => State {
-            phase: st.phase,
-            left: n,
-            variants: st.variants + 1,
-            parts: st.parts,
-            breaks: st.breaks,
-            letters: st.letters,
-        },
-        Kind::End => State {
-            phase: st.phase,
-            left: n,
-            variants: st.variants,
-            parts: st.parts,
-            breaks: st.breaks,
-            letters: st.letters,
-        },
-        Kind::Unknown => State {
-            phase: st.phase,
-            left: n,
-            variants: st.variants,
-            parts: st.parts,
-            breaks: st.breaks,
-            letters: st.letters,
-        },
+        Kind::End | Kind::Unknown => next,
     }
 }
 
@@ -575,7 +420,7 @@ pub(crate) fn first_fault(s: &[u8]) -> Scan
         if f != 0 {
             return Scan::Refused(f);
         }
-        if is_end(kind) {
+        if matches!(kind, Kind::End) {
             return Scan::Good(Counts {
                 variants: st.variants,
                 parts: st.parts,

@@ -1,7 +1,7 @@
 // The body of a settings record, of 40 bytes and of edition 2's 41.
 ghost use Rattle.std.specs.Prelude.{◌≡◌, ◌<◌, ◌+◌, ◌^◌};
 ghost use Rattle.std.proofs.lemmas.List.Edits.{sets};
-ghost use Rattle.form.specs.Settings40.{number_bytes, float_bytes, flag};
+ghost use Rattle.form.specs.Settings40.{number_bytes, float_bytes};
 ghost use Rattle.form.specs.Promises.{ReadSettingsPromise, WriteSettingsPromise, ReadSettings41Promise, WriteSettings41Promise, SettingsByPromise, Settings41FaultPromise};
 
 use crate::records::{Edition, LETTERS_PLACE, are_flags};
@@ -12,6 +12,7 @@ use params::Settings;
 use params::graphparams::settings_fault;
 
 // The settings that b begins with. The 40 bytes have no place for `letters`: they are 0.
+#[tactic(auto, unfolding(crate::specs::Settings40::settings_in))]
 pub fn read_settings(b: &[u8]) -> Settings
     ensures { ReadSettingsPromise b.now result }
 {
@@ -34,29 +35,18 @@ pub fn read_settings(b: &[u8]) -> Settings
 }
 
 // The settings of edition 2 that b begins with: the old 40 bytes and then `letters`.
+#[tactic(auto, unfolding(crate::specs::Settings41::settings41_in))]
 pub fn read_settings41(b: &[u8]) -> Settings
     ensures { ReadSettings41Promise b.now result }
 {
-    let old = read_settings(b);
     Settings {
-        k: old.k,
-        squish: old.squish,
-        one_to_one: old.one_to_one,
-        full: old.full,
-        maxpaths: old.maxpaths,
-        maxnodes: old.maxnodes,
-        fnmax: old.fnmax,
-        pileupmax: old.pileupmax,
-        minkfreq: old.minkfreq,
         letters: u8_at(b, LETTERS_PLACE),
-        sizesim: old.sizesim,
-        seqsim: old.seqsim,
-        fpenalty: old.fpenalty,
-        gpenalty: old.gpenalty,
+        ..read_settings(b)
     }
 }
 
 // The settings that b begins with, in an edition.
+#[tactic(auto, unfolding(crate::specs::Job::settings_by))]
 pub fn settings_by(edition: Edition, b: &[u8]) -> Settings
     ensures { SettingsByPromise edition b.now result }
 {
@@ -67,22 +57,14 @@ pub fn settings_by(edition: Edition, b: &[u8]) -> Settings
 }
 
 // The number of their first refusal: 24, then 1 to 3; 0 where they are accepted.
+#[tactic(auto, unfolding(crate::specs::Settings41::settings41_fault))]
 pub fn settings41_fault(b: &[u8]) -> u32
     ensures { Settings41FaultPromise b.now result }
 {
-    if !are_flags(b, 1, 3) {
-        return BAD_FLAG;
-    }
-    if !are_flags(b, LETTERS_PLACE, 1) {
+    if !(are_flags(b, 1, 3) && are_flags(b, LETTERS_PLACE, 1)) {
         return BAD_FLAG;
     }
     settings_fault(read_settings41(b))
-}
-
-fn flag_of(x: bool) -> u8
-    ensures { result ≡ flag x }
-{
-    if x { 1 } else { 0 }
 }
 
 fn write_numbers(out: &mut [u8], at: usize, s: Settings)
@@ -114,9 +96,9 @@ pub fn write_settings(out: &mut [u8], at: usize, s: Settings)
         return;
     }
     put_u8(out, at, s.k);
-    put_u8(out, at + 1, flag_of(s.squish));
-    put_u8(out, at + 2, flag_of(s.one_to_one));
-    put_u8(out, at + 3, flag_of(s.full));
+    put_u8(out, at + 1, s.squish as u8);
+    put_u8(out, at + 2, s.one_to_one as u8);
+    put_u8(out, at + 3, s.full as u8);
     write_numbers(out, at + 4, s);
     write_floats(out, at + 24, s);
 }

@@ -4,20 +4,19 @@ use native.Mathlib.Omega.{arith}
 use native.Mathlib.Nat.{add-zero, add-suc, suc-add}
 use mathlib.Core.Path.{◌≡◌, refl, sym, ap, ◌∙◌}
 use mathlib.Core.List.{List, [], ◌∷◌, ◌++◌}
-use mathlib.Core.Bool.{Bool, true, false}
+use mathlib.Core.Bool.{Bool, true}
 use lib.IntN.{ℤ}
 use lib.Dec.{eqb}
 use lib.ListN.{length, get_or, take, drop, set}
 use lib.Seq.{sets}
-use borrow.Author.Tests.{lt-ltb, le-ltb}
+use borrow.Author.Tests.{le-ltb}
 use Rattle.fields.specs.Fields.{le4, le8, signed_of}
 use Rattle.form.specs.declared.records.Kind.{Kind}
-use Rattle.form.specs.declared.records.Kind.TheVariants.{End, Settings, Variant, Part, Letters, Next, Settings2, Variant2, Unknown}
+use Rattle.form.specs.declared.records.Kind.TheVariants.{Variant}
 use Rattle.form.specs.declared.records.Record.{Record}
 use Rattle.form.specs.Form.{is_variant, is_part, body_len, count_of, record_at}
 use Rattle.form.specs.Job.{letters_in, letters_after, variant_of, part_of, variant_here, part_here, gather}
 use Rattle.reader.specs.Steps.{Rows, rows, put_row, PartRows, part_rows, put_part, stores, Stored}
-use Rattle.form.proofs.FormLaws.{mixed}
 use Rattle.form.proofs.GatherLaws.{gather_here, gather_done, long_letters}
 
 -- ---- storing
@@ -65,29 +64,9 @@ unfolding part_of letters_after count_of
 part_put t v b hs hz hx hn hc hw = rw (hs, hz, hx, hn, hc, hw, long_letters)
 
 -- a variant of either edition has the fields of edition 1's, and its row is that one's
-pub long_variant : (kind : Kind) {n m : ℕ} → is_variant kind ≡ true → n ≡ body_len kind → n ≤ m → 25 ≤ m
-unfolding body_len
-long_variant End h e g = mixed (sym h)
-long_variant Settings h e g = mixed (sym h)
-long_variant Variant h e g = omega arith
-long_variant Part h e g = mixed (sym h)
-long_variant Letters h e g = mixed (sym h)
-long_variant Next h e g = mixed (sym h)
-long_variant Settings2 h e g = mixed (sym h)
-long_variant Variant2 h e g = omega arith
-long_variant Unknown h e g = mixed (sym h)
-
 same_count : (kind : Kind) (b : List ℕ) → is_variant kind ≡ true → count_of Variant b ≡ count_of kind b
 unfolding count_of
-same_count End b h = mixed (sym h)
-same_count Settings b h = mixed (sym h)
-same_count Variant b h = refl
-same_count Part b h = mixed (sym h)
-same_count Letters b h = mixed (sym h)
-same_count Next b h = mixed (sym h)
-same_count Settings2 b h = mixed (sym h)
-same_count Variant2 b h = refl
-same_count Unknown b h = mixed (sym h)
+same_count kind b h = grind arith
 
 pub same_row : (t : Rows) (v : ℕ) (kind : Kind) (b : List ℕ) → is_variant kind ≡ true → put_row t v (variant_of Variant b) ≡ put_row t v (variant_of kind b)
 unfolding variant_of letters_after
@@ -108,25 +87,9 @@ module _ {T A : Type 0} (put : T → ℕ → A → T) (t : T) (v : ℕ) where
   adds_one x e w = rw e (record { is = w; next = refl; one = omega arith })
 
 module _ (kind : Kind) (b : List ℕ) where
-  pub no_variant : is_variant kind ≡ false → variant_here kind b ≡ []
-  unfolding variant_here
-  no_variant h = rw h
-
-  pub cut_variant : {n : ℕ} → is_variant kind ≡ true → n ≡ body_len kind → length b < n → variant_here kind b ≡ []
-  unfolding variant_here
-  cut_variant h e g = rw (h, sym e, lt-ltb (length b) _ g)
-
   pub one_variant : {n : ℕ} → is_variant kind ≡ true → n ≡ body_len kind → n ≤ length b → variant_here kind b ≡ variant_of kind b ∷ []
   unfolding variant_here
   one_variant h e g = rw (h, sym e, le-ltb (length b) _ g)
-
-  pub no_part : is_part kind ≡ false → part_here kind b ≡ []
-  unfolding part_here
-  no_part h = rw h
-
-  pub cut_part : is_part kind ≡ true → length b < 9 → part_here kind b ≡ []
-  unfolding part_here
-  cut_part h g = rw (h, lt-ltb (length b) 9 g)
 
   pub one_part : is_part kind ≡ true → 9 ≤ length b → part_here kind b ≡ part_of b ∷ []
   unfolding part_here

@@ -1,6 +1,5 @@
 -- Laws that several proofs cite.
 pub mod FillLaws
 pub mod WalkLaws
-pub mod RoomLaws
 pub mod ReadLaws
 pub mod NumberingLaws

@@ -4,24 +4,20 @@ use Prim.Native.Nat.{ℕ, ◌+◌, ◌≤◌, ◌<◌, ◌^◌}
 use native.Mathlib.Omega.{arith}
 use native.Mathlib.Numerals.{add-one}
 use mathlib.Core.Path.{◌≡◌, refl, sym, ap, ◌∙◌}
-use mathlib.Core.Bool.{Bool, true, false, cond, ◌&&◌}
+use mathlib.Core.Bool.{true, false, cond}
 use mathlib.Core.List.{List, [], ◌∷◌}
 use lib.ListN.{length, set}
-use borrow.Author.Tests.{lt-ltb, le-ltb, lt-leb, le-leb}
-use Rattle.fields.specs.Fields.{le4}
+use borrow.Author.Tests.{lt-leb, le-leb}
 use Rattle.metrics.specs.Placed.{placed}
-use Rattle.form.specs.declared.records.Kind.{Kind}
-use Rattle.form.specs.declared.records.Kind.TheVariants.{End, Settings, Variant, Part, Letters, Next, Settings2, Variant2, Unknown}
 use Rattle.form.specs.declared.records.Counts.{Counts}
 use Rattle.form.specs.declared.records.Scan.{Scan}
 use Rattle.form.specs.declared.records.Scan.TheVariants.{Good, Refused}
-use Rattle.form.specs.Form.{is_variant, is_second, body_len, run, outset}
-use Rattle.form.specs.Job.{variant_here, gather, job_of, number_here, row_numbers, numbers_of, read_of, read_job}
+use Rattle.form.specs.Form.{run, outset}
+use Rattle.form.specs.Job.{variant_here, gather, job_of, row_numbers, numbers_of, read_of, read_job}
 use Rattle.form.specs.Lent.{job_counts}
 use Rattle.reader.specs.declared.numbers.Numbering.TheVariants.{Refused as Unnumbered, Numbers}
 use Rattle.reader.specs.Reading.{numbers_fit, numbering_of, numbers_after}
 use Rattle.reader.specs.Steps.{stores}
-use Rattle.form.proofs.FormLaws.{mixed}
 use Rattle.form.proofs.CountLaws.{counts_are}
 use Rattle.form.proofs.NumberLaws.{long_rows, numbers_many}
 use Rattle.reader.proofs.FillLaws.{stores_append}
@@ -40,36 +36,6 @@ module _ (old : List ℕ) where
       let behind : set l i i ≡ stores set (stores set old 0 (row_numbers i)) (0 + length (row_numbers i)) (i ∷ []) =
       ap (λ (m : List ℕ). set m i i) e ∙ ap (λ (n : ℕ). set (stores set old 0 (row_numbers i)) n i) at in
       w ∙ behind ∙ sym (rw (add-one i) (stores_append set old 0 (row_numbers i) (i ∷ [])))
-
--- ---- edition 2: the number of one record
-number_kind : (kind : Kind) → is_variant kind && is_second kind ≡ true → kind ≡ Variant2
-number_kind End e = mixed (sym e)
-number_kind Settings e = mixed (sym e)
-number_kind Variant e = mixed (sym e)
-number_kind Part e = mixed (sym e)
-number_kind Letters e = mixed (sym e)
-number_kind Next e = mixed (sym e)
-number_kind Settings2 e = mixed (sym e)
-number_kind Variant2 e = refl
-number_kind Unknown e = mixed (sym e)
-
-module _ (kind : Kind) (b : List ℕ) where
-  pub no_number : is_variant kind && is_second kind ≡ false → number_here kind b ≡ []
-  unfolding number_here
-  no_number = go (is_variant kind) (is_second kind) _
-    where
-      go : (t u : Bool) (xs : List ℕ) → t && u ≡ false → cond t (cond u xs []) [] ≡ []
-      go true true xs e = mixed e
-      go true false xs e = refl
-      go false u xs e = refl
-
-  pub cut_number : is_variant kind && is_second kind ≡ true → length b < 29 → number_here kind b ≡ []
-  unfolding number_here body_len
-  cut_number h g = rw (number_kind kind h, lt-ltb (length b) 29 g)
-
-  pub one_number : is_variant kind && is_second kind ≡ true → 29 ≤ length b → number_here kind b ≡ le4 b 25 ∷ []
-  unfolding number_here body_len
-  one_number h g = rw (number_kind kind h, le-ltb (length b) 29 g)
 
 -- ---- the first pass counts them
 module _ (s : List ℕ) {c : Counts} (at : run s 0 outset ≡ Good c) where

@@ -1,54 +1,20 @@
 -- Letters, and breaks, stored record by record: what is stored plus what the rest of the walk will give is the whole. Assumes nothing.
-use Prim.Native.Nat.{ℕ, zero, suc, ◌+◌, ◌-◌, ◌≤◌, ◌<◌, ◌/◌, zero-le}
+use Prim.Native.Nat.{ℕ, zero, suc, ◌+◌, ◌-◌, ◌≤◌, ◌<◌, ◌/◌}
 use native.Mathlib.Omega.{arith}
 use native.Mathlib.Numerals.{add-one}
-use mathlib.Core.Path.{◌≡◌, refl, sym, ap, subst, ◌∙◌}
-use mathlib.Core.Bool.{true, false}
+use mathlib.Core.Path.{◌≡◌, refl, sym, ap, ◌∙◌}
 use mathlib.Core.List.{List, [], ◌∷◌, ◌++◌}
 use lib.ListN.{length, get_or, take, drop, set, drop_of_length-le}
 use lib.Seq.{drop-cons, drop-nil, drop-drop}
-use borrow.Author.Tests.{le-leb, lt-leb}
 use Rattle.form.specs.declared.records.Kind.{Kind}
 use Rattle.form.specs.declared.records.Record.{Record}
-use Rattle.form.specs.Form.{is_letters, is_next, body_len, count_of, record_at}
+use Rattle.form.specs.Form.{body_len, count_of, record_at}
 use Rattle.form.specs.Job.{letters_in, part_here}
 use Rattle.form.specs.Steps.{letters_given, letters_owed, letters_walk, break_here, breaks_walk}
-use Rattle.form.proofs.FormLaws.{letters_kind_lem, rest_is, record_kind, record_count, record_next}
+use Rattle.form.proofs.FormLaws.{rest_is, record_kind, record_count, record_next}
 use Rattle.form.proofs.GatherLaws.{long_letters}
 use Rattle.reader.specs.Steps.{stores}
 use Rattle.reader.proofs.FillLaws.{stores_append}
-
--- ---- what a record gives, and what is owed behind it
-module _ (kind : Kind) (left : ℕ) where
-  pub gives_none : is_letters kind ≡ false → (0 ≡ letters_given kind left) × ((0 ≤ 16) × (0 ≤ body_len kind))
-  unfolding letters_given
-  gives_none h = (sym (rw h), (zero-le, zero-le))
-
-  module _ (h : is_letters kind ≡ true) where
-    sixteen : {n : ℕ} → n ≤ 16 → n ≤ body_len kind
-    unfolding body_len
-    sixteen {n} g = subst (λ (k : Kind). n ≤ body_len k) (sym (letters_kind_lem kind h)) g
-
-    pub gives_all : left ≤ 16 → (left ≡ letters_given kind left) × ((left ≤ 16) × (left ≤ body_len kind))
-    unfolding letters_given
-    gives_all g = (sym (rw (h, le-leb left 16 g)), (g, sixteen g))
-
-    pub gives_sixteen : 16 < left → (16 ≡ letters_given kind left) × ((16 ≤ 16) × (16 ≤ body_len kind))
-    unfolding letters_given
-    gives_sixteen g = let s : 16 ≤ 16 = omega arith in (sym (rw (h, lt-leb left 16 g)), (s, sixteen s))
-
-  module _ (count : ℕ) where
-    pub owes_count : is_letters kind ≡ false → count ≡ letters_owed kind count left
-    unfolding letters_owed
-    owes_count h = sym (rw h)
-
-    pub owes_none : is_letters kind ≡ true → left ≤ 16 → 0 ≡ letters_owed kind count left
-    unfolding letters_owed
-    owes_none h g = sym (rw (h, le-leb left 16 g))
-
-    pub owes_rest : is_letters kind ≡ true → 16 < left → left - 16 ≡ letters_owed kind count left
-    unfolding letters_owed
-    owes_rest h g = sym (rw (h, lt-leb left 16 g))
 
 -- ---- the letters of one record, one by one
 module _ (b : List ℕ) (n at : ℕ) (out : List ℕ) where
@@ -111,14 +77,6 @@ module _ (s : List ℕ) (at : ℕ) where
     walk_more t u l r left owed o g f = rw (f, g, o, walk_here left, stores_append, long_letters)
 
 -- ---- the breaks
-pub no_break : (kind : Kind) (p : ℕ) → is_next kind ≡ false → break_here kind p ≡ []
-unfolding break_here
-no_break kind p h = rw h
-
-pub one_break : (kind : Kind) (p : ℕ) → is_next kind ≡ true → break_here kind p ≡ p ∷ []
-unfolding break_here
-one_break kind p h = rw h
-
 breaks_skip : (s : List ℕ) (n p : ℕ) → breaks_walk s n p ≡ breaks_walk (drop n s) 0 p
 unfolding breaks_walk
 breaks_skip [] n p = simp drop-nil

@@ -1,7 +1,7 @@
 // Lays a form's variants, parts, breaks and letters out in lent slices.
 ghost use Rattle.std.specs.Prelude.{◌≡◌, ◌≤◌, ◌<◌, ◌+◌, ◌^◌, ◌∷◌, length, set};
 ghost use Rattle.form.specs.Job.{variant_of, variant_here, part_of, part_here, letters_in, gather};
-ghost use Rattle.form.specs.Form.{letters_kind, is_variant, is_part, is_letters, is_next, variant_len, part_len, letters_len, body_len};
+ghost use Rattle.form.specs.Form.{letters_kind, variant_len, part_len, letters_len, body_len};
 ghost use Rattle.form.specs.declared.records.Kind.TheVariants.{Variant};
 ghost use Rattle.form.specs.Steps.{letters_given, letters_owed, letters_walk, break_here, breaks_walk};
 ghost use Rattle.reader.specs.Steps.{rows, put_row, part_rows, put_part, stores, Stored};
@@ -12,35 +12,12 @@ use form::records::{
     record_at,
 };
 
-fn set_u64(dst: &mut [u64], i: usize, x: u64)
-    ensures { dst.new ≡ set dst.old i x }
+// Stores x in row i, where the slice has one.
+pub(crate) fn store<T: Copy>(rows: &mut [T], i: usize, x: T)
+    ensures { rows.new ≡ set rows.old i x }
 {
-    if i < dst.len() {
-        dst[i] = x;
-    }
-}
-
-fn set_i32(dst: &mut [i32], i: usize, x: i32)
-    ensures { dst.new ≡ set dst.old i x }
-{
-    if i < dst.len() {
-        dst[i] = x;
-    }
-}
-
-pub(crate) fn set_u32(dst: &mut [u32], i: usize, x: u32)
-    ensures { dst.new ≡ set dst.old i x }
-{
-    if i < dst.len() {
-        dst[i] = x;
-    }
-}
-
-fn set_bool(dst: &mut [bool], i: usize, x: bool)
-    ensures { dst.new ≡ set dst.old i x }
-{
-    if i < dst.len() {
-        dst[i] = x;
+    if i < rows.len() {
+        rows[i] = x;
     }
 }
 
@@ -59,78 +36,15 @@ fn put_variant(
         ≡ put_row (rows starts.old ends.old sizes.old negatives.old counts.old)
         v (variant_of Variant b.now) }
 {
-    set_u64(starts, v, u64_at(b, 0));
-    set_u64(ends, v, u64_at(b, 8));
-    set_i32(sizes, v, i32_of(u32_at(b, 16)));
-    set_bool(negatives, v, b[VARIANT_FLAG] == 1);
-    set_u32(counts, v, u32_at(b, VARIANT_COUNT));
-}
-
-fn is_variant(kind: Kind) -> bool
-    ensures { result ≡ is_variant kind }
-{
-    match kind {
-        Kind::End => false,
-        Kind::Settings => false,
-        Kind::Variant => true,
-        Kind::Part => false,
-        Kind::Letters => false,
-        Kind::Next => false,
-        Kind::Settings2 => false,
-        Kind::Variant2 => true,
-        Kind::Unknown => false,
-    }
-}
-
-fn is_part(kind: Kind) -> bool
-    ensures { result ≡ is_part kind }
-{
-    match kind {
-        Kind::End => false,
-        Kind::Settings => false,
-        Kind::Variant => false,
-        Kind::Part => true,
-        Kind::Letters => false,
-        Kind::Next => false,
-        Kind::Settings2 => false,
-        Kind::Variant2 => false,
-        Kind::Unknown => false,
-    }
-}
-
-fn is_next(kind: Kind) -> bool
-    ensures { result ≡ is_next kind }
-{
-    match kind {
-        Kind::End => false,
-        Kind::Settings => false,
-        Kind::Variant => false,
-        Kind::Part => false,
-        Kind::Letters => false,
-        Kind::Next => true,
-        Kind::Settings2 => false,
-        Kind::Variant2 => false,
-        Kind::Unknown => false,
-    }
-}
-
-fn is_letters(kind: Kind) -> bool
-    ensures { result ≡ is_letters kind }
-{
-    match kind {
-        Kind::End => false,
-        Kind::Settings => false,
-        Kind::Variant => false,
-        Kind::Part => false,
-        Kind::Letters => true,
-        Kind::Next => false,
-        Kind::Settings2 => false,
-        Kind::Variant2 => false,
-        Kind::Unknown => false,
-    }
+    store(starts, v, u64_at(b, 0));
+    store(ends, v, u64_at(b, 8));
+    store(sizes, v, i32_of(u32_at(b, 16)));
+    store(negatives, v, b[VARIANT_FLAG] == 1);
+    store(counts, v, u32_at(b, VARIANT_COUNT));
 }
 
 // What one record adds, from row v on. Returns the next row.
+#[tactic(auto, using(crate::proofs::FillLaws::adds_none, crate::proofs::FillLaws::adds_one), unfolding(form::specs::Job::variant_here, form::specs::Form::body_len))]
 fn fill_variant(
     kind: Kind,
     b: &[u8],
@@ -146,10 +60,7 @@ fn fill_variant(
         (rows starts.new ends.new sizes.new negatives.new counts.new)
         v result (variant_here kind b.now) }
 {
-    if !is_variant(kind) {
-        return v;
-    }
-    if b.len() < body_len(kind) {
+    if !matches!(kind, Kind::Variant | Kind::Variant2) || b.len() < body_len(kind) {
         return v;
     }
     put_variant(b, v, starts, ends, sizes, negatives, counts);
@@ -161,11 +72,12 @@ fn put_part(b: &[u8], v: usize, sizes: &mut [i32], negatives: &mut [bool], count
     ensures { part_rows sizes.new negatives.new counts.new
         ≡ put_part (part_rows sizes.old negatives.old counts.old) v (part_of b.now) }
 {
-    set_i32(sizes, v, i32_of(u32_at(b, 0)));
-    set_bool(negatives, v, b[PART_FLAG] == 1);
-    set_u32(counts, v, u32_at(b, PART_COUNT));
+    store(sizes, v, i32_of(u32_at(b, 0)));
+    store(negatives, v, b[PART_FLAG] == 1);
+    store(counts, v, u32_at(b, PART_COUNT));
 }
 
+#[tactic(auto, using(crate::proofs::FillLaws::adds_none, crate::proofs::FillLaws::adds_one), unfolding(form::specs::Job::part_here))]
 fn fill_part(
     kind: Kind,
     b: &[u8],
@@ -178,10 +90,7 @@ fn fill_part(
     ensures { Stored put_part (part_rows sizes.old negatives.old counts.old)
         (part_rows sizes.new negatives.new counts.new) v result (part_here kind b.now) }
 {
-    if !is_part(kind) {
-        return v;
-    }
-    if b.len() < PART_BODY {
+    if !matches!(kind, Kind::Part) || b.len() < PART_BODY {
         return v;
     }
     put_part(b, v, sizes, negatives, counts);
@@ -189,42 +98,37 @@ fn fill_part(
 }
 
 // A record that begins a haplotype behind p parts, stored in row v. Returns the next row.
+#[tactic(auto, unfolding(form::specs::Steps::break_here, crate::specs::Steps::stores))]
 fn fill_break(kind: Kind, p: usize, v: usize, breaks: &mut [u64]) -> usize
     requires { v < 2 ^ 63 }
     ensures { Stored set breaks.old breaks.new v result (break_here kind p) }
 {
-    if !is_next(kind) {
+    if !matches!(kind, Kind::Next) {
         return v;
     }
-    set_u64(breaks, v, p as u64);
+    store(breaks, v, p as u64);
     v + 1
 }
 
 // How many letters the record gives, of those that are owed.
+#[tactic(auto, unfolding(form::specs::Steps::letters_given, form::specs::Form::body_len))]
 fn letters_given(kind: Kind, left: u32) -> u32
     ensures { (result ≡ letters_given kind left) × ((result ≤ letters_len) × (result ≤ body_len kind)) }
 {
-    if !is_letters(kind) {
-        return 0;
-    }
-    if left <= LETTERS_EACH {
-        left
-    } else {
-        LETTERS_EACH
+    match kind {
+        Kind::Letters => left.min(LETTERS_EACH),
+        _ => 0,
     }
 }
 
 // How many letters are owed behind a record that announces `count`.
+#[tactic(auto, unfolding(form::specs::Steps::letters_owed))]
 fn letters_owed(kind: Kind, count: u32, left: u32) -> u32
     ensures { result ≡ letters_owed kind count left }
 {
-    if !is_letters(kind) {
-        return count;
-    }
-    if left <= LETTERS_EACH {
-        0
-    } else {
-        left - LETTERS_EACH
+    match kind {
+        Kind::Letters => left.saturating_sub(LETTERS_EACH),
+        _ => count,
     }
 }
 
@@ -233,10 +137,8 @@ fn copy_letters(out: &mut [u8], at: usize, b: &[u8], n: usize)
     requires { (at < 2 ^ 63) × (n ≤ letters_len) }
     ensures { out.new ≡ stores set out.old at (letters_in (letters_kind ∷ b.now) 0 n) }
 {
-    let mut i = 0usize;
-    while i < n {
+    for i in 0..n {
         put_u8(out, at + i, u8_at(b, i));
-        i += 1;
     }
 }
 

@@ -21,34 +21,18 @@ pub enum Reading {
     Job(Settings, Counts),
 }
 
+#[tactic(auto, unfolding(crate::specs::Reading::five))]
 fn rows_fit(n: usize, a: usize, b: usize, c: usize, d: usize, e: usize) -> bool
     ensures { result ≡ five n a b c d e }
 {
-    if a < n {
-        return false;
-    }
-    if b < n {
-        return false;
-    }
-    if c < n {
-        return false;
-    }
-    if d < n {
-        return false;
-    }
-    n <= e
+    n <= a && n <= b && n <= c && n <= d && n <= e
 }
 
+#[tactic(auto, unfolding(crate::specs::Reading::three))]
 fn parts_fit(n: usize, a: usize, b: usize, c: usize) -> bool
     ensures { result ≡ three n a b c }
 {
-    if a < n {
-        return false;
-    }
-    if b < n {
-        return false;
-    }
-    n <= c
+    n <= a && n <= b && n <= c
 }
 
 // The first fault, 30 where a slice is too small, or the settings and the counts; then the job stands at the fronts of the slices,

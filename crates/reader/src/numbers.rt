@@ -1,11 +1,10 @@
 // The record numbers of a job, by themselves.
-ghost use Rattle.std.specs.Prelude.{◌≡◌, ◌&&◌, ◌≤◌, ◌<◌, ◌^◌, length, set};
-ghost use Rattle.form.specs.Form.{is_variant, is_second};
+ghost use Rattle.std.specs.Prelude.{◌≡◌, ◌≤◌, ◌<◌, ◌^◌, length, set};
 ghost use Rattle.form.specs.Job.{variant_here, number_here, gather, row_numbers, numbers_by};
 ghost use Rattle.reader.specs.Steps.{stores, Stored};
 ghost use Rattle.reader.specs.Promises.{ReadNumbersPromise};
 
-use crate::fill::set_u32;
+use crate::fill::store;
 use fields::u32_at;
 use form::records::{Edition, Kind, NUMBER_PLACE, Scan, VARIANT2_BODY, edition_of, record_at};
 use form::scan;
@@ -25,42 +24,21 @@ fn number_rows(n: usize, numbers: &mut [u32])
     requires { n ≤ 2 ^ 32 }
     ensures { numbers.new ≡ stores set numbers.old 0 (row_numbers n) }
 {
-    let mut i = 0usize;
-    while i < n {
-        set_u32(numbers, i, i as u32);
-        i += 1;
+    for i in 0..n {
+        store(numbers, i, i as u32);
     }
 }
 
-// Only edition 2's variant has a record number.
-fn has_number(kind: Kind) -> bool
-    ensures { result ≡ is_variant kind && is_second kind }
-{
-    match kind {
-        Kind::End => false,
-        Kind::Settings => false,
-        Kind::Variant => false,
-        Kind::Part => false,
-        Kind::Letters => false,
-        Kind::Next => false,
-        Kind::Settings2 => false,
-        Kind::Variant2 => true,
-        Kind::Unknown => false,
-    }
-}
-
-// The number that one record has, stored in row v. Returns the next row.
+// The number that one record has, stored in row v. Returns the next row. Only edition 2's variant has one.
+#[tactic(auto, unfolding(form::specs::Job::number_here, form::specs::Form::body_len, crate::specs::Steps::stores))]
 fn fill_number(kind: Kind, b: &[u8], v: usize, numbers: &mut [u32]) -> usize
     requires { v < 2 ^ 63 }
     ensures { Stored set numbers.old numbers.new v result (number_here kind b.now) }
 {
-    if !has_number(kind) {
+    if !matches!(kind, Kind::Variant2) || b.len() < VARIANT2_BODY {
         return v;
     }
-    if b.len() < VARIANT2_BODY {
-        return v;
-    }
-    set_u32(numbers, v, u32_at(b, NUMBER_PLACE));
+    store(numbers, v, u32_at(b, NUMBER_PLACE));
     v + 1
 }
 
@@ -80,6 +58,7 @@ fn fill_numbers(s: &[u8], numbers: &mut [u32])
 }
 
 // The numbers of a form of n variants, at the front of the slice.
+#[tactic(auto, unfolding(form::specs::Job::numbers_by))]
 fn number(edition: Edition, s: &[u8], n: usize, numbers: &mut [u32])
     requires { (n ≡ length (gather variant_here s.now 0)) × (n ≤ 2 ^ 32) }
     ensures { numbers.new ≡ stores set numbers.old 0 (numbers_by edition s.now) }

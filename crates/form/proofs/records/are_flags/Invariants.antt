@@ -6,6 +6,3 @@ use Rattle.form.proofs.records.are_flags.Given as goal
 
 abbrev pub invariant-loop-i : goal.invariant-loop-i
 invariant-loop-i l = are_flags l.b (l.from + l.i) (l.n - l.i) ≡ are_flags l.b l.from l.n
-
-abbrev pub decreases-loop-i : goal.decreases-loop-i
-decreases-loop-i l = l.n - l.i

@@ -3,7 +3,8 @@ use Prim.Native.Nat.{◌+◌, ◌≤◌, zero-le}
 use native.Mathlib.Omega.{arith}
 use mathlib.Core.Path.{◌≡◌, refl, sym, ◌∙◌}
 use lib.ListN.{length}
-use Rattle.form.specs.Form.{body_len}
+use Rattle.form.specs.Form.{body_len, is_end}
+use Rattle.std.proofs.Common.{rules, true, false}
 use Rattle.form.proofs.FormLaws.{record_next, room, fault_long, run_end, run_refused, run_done, run_more}
 use Rattle.form.proofs.records.first_fault.Goals.{After-after_record-st}
 use Rattle.form.proofs.records.first_fault.Goals as goal
@@ -30,9 +31,10 @@ pub returns-then-f-ne0 : goal.returns-then-f-ne0
 returns-then-f-ne0 c =
     run_refused _ _ c.loop-at.st c.loop-at-test.true _ c.record_at-here.ensures _ c.fault_of-f.ensures c.if-f-ne0.true ∙ c.loop-at.invariant.1.0
 
-pub returns-then-is_end : goal.returns-then-is_end
-returns-then-is_end c =
-    run_done _ _ c.loop-at.st c.loop-at-test.true _ c.record_at-here.ensures _ c.fault_of-f.ensures c.if-f-ne0.false (sym c.is_end.ensures ∙ c.if-is_end.true) ∙ c.loop-at.invariant.1.0
+pub returns-then-matches : goal.returns-then-matches
+returns-then-matches c =
+    let ends : is_end ((c.record_at-here.result)).kind ≡ true = search rules in
+    run_done _ _ c.loop-at.st c.loop-at-test.true _ c.record_at-here.ensures _ c.fault_of-f.ensures c.if-f-ne0.false ends ∙ c.loop-at.invariant.1.0
 
 pub after_record-st-requires : goal.after_record-st-requires
 after_record-st-requires c = (fault_long _ _ _ (sym c.fault_of-f.ensures ∙ c.if-f-ne0.false), omega arith)
@@ -42,10 +44,11 @@ loop-at-smaller c = omega (arith, whole (goal.at.loop-at-smaller c).After-after_
 
 pub loop-at-preserved : goal.loop-at-preserved
 loop-at-preserved c =
+    let ends : is_end ((c.record_at-here.result)).kind ≡ false = search rules in
     let grown = c.after_record-st.ensures in (
       whole (goal.at.loop-at-preserved c).After-after_record-st,
       (
-        run_more _ _ c.loop-at.st c.loop-at-test.true _ c.record_at-here.ensures _ c.fault_of-f.ensures c.if-f-ne0.false (sym c.is_end.ensures ∙ c.if-is_end.false) _ grown.is
+        run_more _ _ c.loop-at.st c.loop-at-test.true _ c.record_at-here.ensures _ c.fault_of-f.ensures c.if-f-ne0.false ends _ grown.is
             ∙ c.loop-at.invariant.1.0,
         omega (arith, grown.variants_grow, grown.parts_grow, grown.breaks_grow, grown.letters_grow, on (goal.at.loop-at-preserved c).After-after_record-st, c.loop-at.invariant.1.1),
       ),

@@ -9,5 +9,5 @@ use Rattle.reader.proofs.fill.put_part.Goals as goal
 pub returns : goal.returns
 returns c =
     let a = c.args in
-    part_put (part_rows a.sizes.now a.negatives.now a.counts.now) a.v a.b.now c.set_i32.ensures
-    (to_z-of_z w32 _ (record { sfits = c.i32_of.type_inv }) ∙ c.i32_of.ensures) c.u32_at.ensures c.set_bool.ensures c.set_u32.ensures c.u32_at-2.ensures
+    part_put (part_rows a.sizes.now a.negatives.now a.counts.now) a.v a.b.now c.store.ensures
+    (to_z-of_z w32 _ (record { sfits = c.i32_of.type_inv }) ∙ c.i32_of.ensures) c.u32_at.ensures c.store-2.ensures c.store-3.ensures c.u32_at-2.ensures

@@ -9,6 +9,6 @@ use Rattle.reader.proofs.fill.put_variant.Goals as goal
 pub returns : goal.returns
 returns c =
     let a = c.args in
-    variant_put (rows a.starts.now a.ends.now a.sizes.now a.negatives.now a.counts.now) a.v a.b.now c.set_u64.ensures
-    c.u64_at.ensures c.set_u64-2.ensures c.u64_at-2.ensures c.set_i32.ensures (to_z-of_z w32 _ (record { sfits = c.i32_of.type_inv }) ∙ c.i32_of.ensures)
-    c.u32_at.ensures c.set_bool.ensures c.set_u32.ensures c.u32_at-2.ensures
+    variant_put (rows a.starts.now a.ends.now a.sizes.now a.negatives.now a.counts.now) a.v a.b.now c.store.ensures
+    c.u64_at.ensures c.store-2.ensures c.u64_at-2.ensures c.store-3.ensures (to_z-of_z w32 _ (record { sfits = c.i32_of.type_inv }) ∙ c.i32_of.ensures)
+    c.u32_at.ensures c.store-4.ensures c.store-5.ensures c.u32_at-2.ensures
