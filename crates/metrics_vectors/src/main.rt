@@ -6,16 +6,18 @@ use metrics::Sim;
 use metrics::floats::bits_of;
 use metrics::kmer::Counted;
 use std::io;
-use std::str::Split;
+use std::str::{FromStr, Split};
 use streams::read_full;
 
 // The next number of a line, 0 where there is none.
-fn number(words: &mut Split<'_, char>) -> u64 {
-    words.next().and_then(|word| word.parse().ok()).unwrap_or(0)
-}
-
-fn signed(words: &mut Split<'_, char>) -> i32 {
-    words.next().and_then(|word| word.parse().ok()).unwrap_or(0)
+fn number<T: FromStr + Default + Drop>(words: &mut Split<'_, char>) -> T
+where
+    T::Err: Drop,
+{
+    words
+        .next()
+        .and_then(|word| word.parse().ok())
+        .unwrap_or_default()
 }
 
 // The letters over and over, until the room is full.
@@ -51,10 +53,10 @@ fn print_counted(
 
 // k, negative, room, number of letters, letters. The room holds sevens before the call.
 fn answer_counter(rt: &impl Print, words: &mut Split<'_, char>) -> io::Result<()> {
-    let k = number(words).min(255) as u8;
-    let negative = number(words) == 1;
-    let entries = number(words).min(4096) as usize;
-    let count = number(words).min(131073) as usize;
+    let k = number::<u64>(words).min(255) as u8;
+    let negative = number::<u64>(words) == 1;
+    let entries = number::<u64>(words).min(4096) as usize;
+    let count = number::<u64>(words).min(131073) as usize;
     let letters = repeated(words.next().unwrap_or("").as_bytes());
     let mut row = [7i32; 4096];
     print_counted(rt, &letters[..count], k, negative, &mut row[..entries])
@@ -72,16 +74,16 @@ fn print_sim(rt: &impl Print, sim: Sim) -> io::Result<()> {
 
 // minkfreq, the lengths of two rows of at most 64 entries, their entries.
 fn answer_seqsim(rt: &impl Print, words: &mut Split<'_, char>) -> io::Result<()> {
-    let minkfreq = number(words).min(4294967295) as u32;
-    let m = number(words).min(64) as usize;
-    let n = number(words).min(64) as usize;
+    let minkfreq = number::<u64>(words).min(4294967295) as u32;
+    let m = number::<u64>(words).min(64) as usize;
+    let n = number::<u64>(words).min(64) as usize;
     let mut a = [0i32; 64];
     for entry in &mut a[..m] {
-        *entry = signed(words);
+        *entry = number(words);
     }
     let mut b = [0i32; 64];
     for entry in &mut b[..n] {
-        *entry = signed(words);
+        *entry = number(words);
     }
     print_sim(rt, metrics::seqsim(&a[..m], &b[..n], minkfreq))
 }
