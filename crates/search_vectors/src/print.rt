@@ -1,52 +1,22 @@
 // Prints an answer as words of eight hexadecimal digits parted by spaces, a line for each answer.
+use crate::list::front;
 use kplib::pathscore::Target;
 use kplib::traverse::Answer;
 use metrics::floats::bits_of;
 use std::io;
 
-fn put_word(rt: &impl Print, x: u32) -> io::Result<()> {
-    print!(rt; "{x:08x}")
-}
-
-fn put_next(rt: &impl Print, x: u32) -> io::Result<()> {
-    print!(rt; " {x:08x}")
-}
-
-fn put_target(rt: &impl Print, target: Target) -> io::Result<()> {
-    match target {
-        Target::Nothing => {
-            put_next(rt, 0)?;
-            put_next(rt, 0)
-        }
-        Target::Whole => {
-            put_next(rt, 1)?;
-            put_next(rt, 0)
-        }
-        Target::Partial(left_out) => {
-            put_next(rt, 2)?;
-            put_next(rt, left_out)
-        }
-    }
-}
-
-fn put_rows(rt: &impl Print, rows: &[u32]) -> io::Result<()> {
-    for &row in rows {
-        put_next(rt, row)?;
-    }
-    Ok(())
-}
-
 pub(crate) fn print_answer(rt: &impl Print, a: Answer, rows: &[u32]) -> io::Result<()> {
-    put_word(rt, a.refusal)?;
-    put_next(rt, a.rows)?;
-    let target = a.target;
-    put_target(rt, target)?;
-    put_next(rt, bits_of(a.score))?;
-    put_next(rt, bits_of(a.sizesim))?;
-    put_next(rt, bits_of(a.seqsim))?;
-    put_next(rt, a.scored)?;
-    put_next(rt, if a.complete { 1 } else { 0 })?;
-    let count = crate::list::at_most(a.rows, rows.len());
-    put_rows(rt, &rows[0..count])?;
-    rt.write_all(b"\n")
+    let (kind, left_out) = match a.target {
+        Target::Nothing => (0, 0),
+        Target::Whole => (1, 0),
+        Target::Partial(left_out) => (2, left_out),
+    };
+    let (refusal, count, scored, complete) = (a.refusal, a.rows, a.scored, a.complete as u32);
+    let (score, sizesim, seqsim) = (bits_of(a.score), bits_of(a.sizesim), bits_of(a.seqsim));
+    print!(rt; "{refusal:08x} {count:08x} {kind:08x} {left_out:08x}")?;
+    print!(rt; " {score:08x} {sizesim:08x} {seqsim:08x} {scored:08x} {complete:08x}")?;
+    for row in front(rows, count) {
+        print!(rt; " {row:08x}")?;
+    }
+    print!(rt; "\n")
 }

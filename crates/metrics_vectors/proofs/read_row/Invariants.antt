@@ -1,6 +1,0 @@
--- The next number begins within the list.
-use Rattle.std.proofs.Common.{◌<◌, length}
-use Rattle.metrics_vectors.proofs.read_row.Given as goal
-
-abbrev pub invariant-loop-i : goal.invariant-loop-i
-invariant-loop-i l = l.next < length l.list
