@@ -7,6 +7,7 @@ use mathlib.Core.Bool.{Bool, true, false, cond, ◌&&◌}
 use mathlib.Core.List.{List, [], ◌∷◌, ◌++◌, append_assoc}
 use lib.Dec.{leb, ltb, eqb}
 use lib.ListN.{length, drop, length-append}
+use lib.Pointwise.{pointwise}
 use borrow.Author.Tests.{eq-eqb, ne_eqb, eqb-true, ltb-true, lt-ltb, leb-true}
 use Rattle.paths.proofs.BooleanLaws.{clash, and_both}
 use Rattle.text.specs.Text.{digits_within}
@@ -32,14 +33,13 @@ same_is (x ∷ a) (y ∷ b) h =
     let q = same_is a b both.1 in
     cc
 
--- the kit's test of two slices
-pub same_told : (a b : List ℕ) (r : Bool) → (r ≡ true → a ≡ b) → (a ≡ b → r ≡ true) → r ≡ same_bytes a b
-same_told a b r f g = go (same_bytes a b) refl r f g
-  where
-    go : (t : Bool) → same_bytes a b ≡ t → (r : Bool) → (r ≡ true → a ≡ b) → (a ≡ b → r ≡ true) → r ≡ t
-    go true e r f g = g (same_is a b e)
-    go false e true f g = absurd (clash (same_bytes a b) e (ap (same_bytes a) (sym (f refl)) ∙ same_self a))
-    go false e false f g = refl
+-- the library's test of two slices
+pub same_pointwise : (a b : List ℕ) → pointwise eqb a b ≡ same_bytes a b
+unfolding same_bytes
+same_pointwise [] [] = refl
+same_pointwise [] (y ∷ b) = refl
+same_pointwise (x ∷ a) [] = refl
+same_pointwise (x ∷ a) (y ∷ b) = ap (λ (t : Bool). eqb x y && t) (same_pointwise a b)
 
 -- ---- bytes that are none of b
 

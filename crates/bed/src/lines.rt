@@ -6,7 +6,6 @@ ghost use Rattle.bed.specs.Reading.{same_bytes};
 ghost use Rattle.bed.specs.Steps.{Judged};
 
 use crate::parts::{behind, first, value};
-use check::same;
 use text::pieces::{put_bytes, put_digits};
 
 // Whether a line is good, and then its numbers.
@@ -17,32 +16,13 @@ pub(crate) struct Line {
     pub(crate) end: u64,
 }
 
-fn all_printable(name: &[u8]) -> bool
-    ensures { result ≡ printable name.now }
-{
-    let mut i: usize = 0;
-    while i < name.len() {
-        if name[i] < 33 {
-            return false;
-        }
-        if name[i] > 126 {
-            return false;
-        }
-        i += 1;
-    }
-    true
-}
-
 pub(crate) fn good_name(name: &[u8]) -> bool
     ensures { result ≡ good_name name.now }
 {
-    if name.len() < 1 {
+    if name.is_empty() || name.len() > 32 {
         return false;
     }
-    if name.len() > 32 {
-        return false;
-    }
-    all_printable(name)
+    name.iter().all(|x| x.is_ascii_graphic())
 }
 
 pub(crate) fn put_line(out: &mut [u8], at: usize, name: &[u8], start: u64, end: u64) -> usize
@@ -59,7 +39,7 @@ pub(crate) fn put_line(out: &mut [u8], at: usize, name: &[u8], start: u64, end: 
 pub(crate) fn same_bytes(a: &[u8], b: &[u8]) -> bool
     ensures { result ≡ same_bytes a.now b.now }
 {
-    same(a, b)
+    a == b
 }
 
 // How long a line is. It is written to memory of its own: with a good name it has at most 75 bytes.

@@ -88,9 +88,5 @@ pub(crate) fn lay(from: &[u64], n: usize, to: &mut [u64])
     requires { (n ≤ length from.now) × (n ≤ length to.old) }
     ensures { to.new ≡ placed to.old (take n from.now) }
 {
-    let mut i: usize = 0;
-    while i < n {
-        to[i] = from[i];
-        i += 1;
-    }
+    to[..n].copy_from_slice(&from[..n]);
 }

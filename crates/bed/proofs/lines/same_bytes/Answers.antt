@@ -1,7 +1,7 @@
--- The kit's test says the same.
-use Rattle.bed.proofs.LineLaws.{same_told}
+-- The slices' test says the same.
+use mathlib.Core.Path.{◌∙◌}
+use Rattle.bed.proofs.LineLaws.{same_pointwise}
 use Rattle.bed.proofs.lines.same_bytes.Goals as goal
 
 pub returns : goal.returns
-returns c =
-    same_told c.args.a.now c.args.b.now _ c.same.ensures.0 c.same.ensures.1
+returns c = c.eq.ensures ∙ same_pointwise c.args.a.now c.args.b.now
