@@ -8,10 +8,9 @@ ghost use Rattle.bed.specs.Steps.{Judged};
 use crate::parts::{behind, first, value};
 use text::pieces::{put_bytes, put_digits};
 
-// Whether a line is good, and then its numbers.
+// The numbers of a line.
 #[derive(Clone, Copy)]
-pub(crate) struct Line {
-    pub(crate) good: bool,
+pub(crate) struct Bounds {
     pub(crate) start: u64,
     pub(crate) end: u64,
 }
@@ -36,12 +35,6 @@ pub(crate) fn put_line(out: &mut [u8], at: usize, name: &[u8], start: u64, end: 
     put_bytes(out, e, b"\n")
 }
 
-pub(crate) fn same_bytes(a: &[u8], b: &[u8]) -> bool
-    ensures { result ≡ same_bytes a.now b.now }
-{
-    a == b
-}
-
 // How long a line is. It is written to memory of its own: with a good name it has at most 75 bytes.
 pub(crate) fn line_room(name: &[u8], start: u64, end: u64) -> usize
     requires { good_name name.now ≡ true }
@@ -58,27 +51,22 @@ fn says(line: &[u8], name: &[u8], start: u64, end: u64) -> bool
 {
     let mut own = [0u8; 75];
     let n = put_line(&mut own, 0, name, start, end);
-    same_bytes(line, &own[..n])
+    line == &own[..n]
 }
 
 // A line is read freely and written again: it is good where that gives the same bytes. So no form of a number but the written one is taken, and none past 64 bits.
-pub(crate) fn line_of(line: &[u8]) -> Line
+pub(crate) fn line_of(line: &[u8]) -> Option<Bounds>
     ensures { Judged line.now result }
 {
-    let name = first(line, 9);
+    let name = first(line, b'\t');
     if !good_name(name) {
-        return Line {
-            good: false,
-            start: 0,
-            end: 0,
-        };
+        return None;
     }
-    let rest = behind(line, 9);
-    let start = value(first(rest, 9));
-    let end = value(first(behind(rest, 9), 10));
-    Line {
-        good: says(line, name, start, end),
-        start: start,
-        end: end,
+    let rest = behind(line, b'\t');
+    let start = value(first(rest, b'\t'));
+    let end = value(first(behind(rest, b'\t'), b'\n'));
+    if !says(line, name, start, end) {
+        return None;
     }
+    Some(Bounds { start, end })
 }
