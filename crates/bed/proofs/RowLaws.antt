@@ -1,9 +1,9 @@
--- The text of rows one behind the other. Assumes nothing.
+-- Rows there or not, and the text of rows one behind the other. Assumes nothing.
 use Prim.Native.Nat.{ℕ, suc, ◌+◌, ◌-◌, ◌≤◌, ◌<◌}
 use native.Mathlib.Omega.{arith}
 use native.Mathlib.Numerals.{add-one}
 use mathlib.Core.Path.{◌≡◌, refl, sym, ap, ◌∙◌}
-use mathlib.Core.Bool.{Bool, true, false, not, cond, ◌&&◌}
+use mathlib.Core.Bool.{Bool, true, false, not, cond, ◌&&◌, ◌||◌}
 use mathlib.Core.List.{List, [], ◌∷◌, ◌++◌, append-nil, append_assoc}
 use lib.Dec.{leb, ltb, eqb}
 use lib.ListN.{length, get_or, take, drop, drop_of_length-le, length-append}
@@ -17,6 +17,11 @@ use Rattle.bed.specs.Bed.{good_name, bed_line, bed_text}
 use Rattle.bed.specs.Reading.{unless_refused}
 use Rattle.bed.specs.Writing.{chosen_of, rows_text, bad_name_for, missing_row, little_text_room, write_fault, write_answer}
 use Rattle.bed.specs.declared.BedWritten.TheVariants.{Bytes, Refused}
+
+-- a row is not there where its number is not below v, or where one of the others is not
+pub missing_step : (v r : ℕ) (rows : List ℕ) → missing_row v (r ∷ rows) ≡ (leb v r || missing_row v rows)
+unfolding missing_row
+missing_step v r rows = refl
 
 -- ---- the text of rows
 
