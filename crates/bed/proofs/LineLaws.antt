@@ -7,6 +7,7 @@ use mathlib.Core.Bool.{Bool, true, false, cond, ◌&&◌}
 use mathlib.Core.List.{List, [], ◌∷◌, ◌++◌, append_assoc}
 use lib.Dec.{leb, ltb, eqb}
 use lib.ListN.{length, drop, length-append}
+use lib.Pointwise.{pointwise}
 use borrow.Author.Tests.{eq-eqb, ne_eqb, eqb-true, ltb-true, lt-ltb, leb-true}
 use Rattle.paths.proofs.BooleanLaws.{clash, and_both}
 use Rattle.text.specs.Text.{digits_within}
@@ -14,7 +15,8 @@ use Rattle.text.proofs.TextLaws.{digits_short}
 use Rattle.bed.specs.Bed.{printable, good_name, bed_line, decimal64, tab, newline}
 use Rattle.bed.specs.Reading.{same_bytes, up_to, behind_first, value_from, value_of, name_in, start_in, end_in, good_line}
 use Rattle.bed.specs.Steps.{Reads64, Judged}
-use Rattle.bed.specs.declared.lines.Line.{Line}
+use Rattle.bed.specs.declared.lines.Bounds.{Bounds}
+use Rattle.std.specs.Prelude.{Option, Some, None}
 
 pub same_self : (a : List ℕ) → same_bytes a a ≡ true
 unfolding same_bytes
@@ -32,14 +34,13 @@ same_is (x ∷ a) (y ∷ b) h =
     let q = same_is a b both.1 in
     cc
 
--- the kit's test of two slices
-pub same_told : (a b : List ℕ) (r : Bool) → (r ≡ true → a ≡ b) → (a ≡ b → r ≡ true) → r ≡ same_bytes a b
-same_told a b r f g = go (same_bytes a b) refl r f g
-  where
-    go : (t : Bool) → same_bytes a b ≡ t → (r : Bool) → (r ≡ true → a ≡ b) → (a ≡ b → r ≡ true) → r ≡ t
-    go true e r f g = g (same_is a b e)
-    go false e true f g = absurd (clash (same_bytes a b) e (ap (same_bytes a) (sym (f refl)) ∙ same_self a))
-    go false e false f g = refl
+-- the library's test of two slices
+pub same_pointwise : (a b : List ℕ) → pointwise eqb a b ≡ same_bytes a b
+unfolding same_bytes
+same_pointwise [] [] = refl
+same_pointwise [] (y ∷ b) = refl
+same_pointwise (x ∷ a) [] = refl
+same_pointwise (x ∷ a) (y ∷ b) = ap (λ (t : Bool). eqb x y && t) (same_pointwise a b)
 
 -- ---- bytes that are none of b
 
@@ -211,50 +212,42 @@ line_good name start end g p q =
 
 -- ---- what the code finds of a line
 
-pub judged_as : {xs ys : List ℕ} {r : Line} → xs ≡ ys → Judged xs r → Judged ys r
-judged_as {xs} {ys} {r} e p = subst (λ (l : List ℕ). Judged l r) e p
+pub judged_as : {xs ys : List ℕ} (r : Option Bounds) → xs ≡ ys → Judged xs r → Judged ys r
+judged_as {xs} {ys} r e p = subst (λ (l : List ℕ). Judged l r) e p
 
 pub reads_as : {xs ys : List ℕ} {r : ℕ} → xs ≡ ys → Reads64 (value_of xs) r → Reads64 (value_of ys) r
 reads_as {xs} {ys} {r} e p = subst (λ (l : List ℕ). Reads64 (value_of l) r) e p
 
-pub judged_bad : (line : List ℕ) (r : Line) → good_name (name_in line) ≡ false → r.good ≡ false → Judged line r
+pub judged_bad : (line : List ℕ) → good_name (name_in line) ≡ false → Judged line None
 unfolding good_line
-judged_bad line r h b = record { good = b ∙ sym (rw h); start = λ t. absurd (clash r.good b t); end = λ t. absurd (clash r.good b t) }
+judged_bad line h = rw h
 
-module _ (line : List ℕ) (r : Line) (good : good_name (name_in line) ≡ true) (start : Reads64 (start_in line) r.start) (end : Reads64 (end_in line) r.end)
-    (startFits : r.start < 18446744073709551616) (endFits : r.end < 18446744073709551616) (says : r.good ≡ same_bytes line (bed_line (name_in line) r.start r.end)) where
+module _ (line : List ℕ) (b : Bounds) (good : good_name (name_in line) ≡ true) (start : Reads64 (start_in line) b.start) (end : Reads64 (end_in line) b.end)
+    (startFits : b.start < 18446744073709551616) (endFits : b.end < 18446744073709551616) where
   abbrev own : List ℕ
-  own = bed_line (name_in line) r.start r.end
+  own = bed_line (name_in line) b.start b.end
 
-  is_own : r.good ≡ true → line ≡ own
-  is_own t = same_is line own (sym says ∙ t)
+  pub judged_good : same_bytes line own ≡ true → Judged line (Some b)
+  judged_good t =
+      let is : line ≡ own = same_is line own t in
+      let s : b.start ≡ start_in line = sym (ap start_in is ∙ start_said (name_in line) b.start b.end good startFits) in
+      let n : b.end ≡ end_in line = sym (ap end_in is ∙ end_said (name_in line) b.start b.end good endFits) in
+      let said : Said line = record {
+        name = good;
+        start = rw (sym s) startFits;
+        end = rw (sym n) endFits;
+        text = is ∙ ap (λ (m : ℕ). bed_line (name_in line) m b.end) s ∙ ap (bed_line (name_in line) (start_in line)) n;
+      } in
+      (said_good line said, (s, n))
 
-  starts_so : r.good ≡ true → r.start ≡ start_in line
-  starts_so t = sym (ap start_in (is_own t) ∙ start_said (name_in line) r.start r.end good startFits)
-
-  ends_so : r.good ≡ true → r.end ≡ end_in line
-  ends_so t = sym (ap end_in (is_own t) ∙ end_said (name_in line) r.start r.end good endFits)
-
-  pub judged : Judged line r
-  judged = record { good = go r.good refl (good_line line) refl; start = starts_so; end = ends_so }
+  pub judged_other : same_bytes line own ≡ false → Judged line None
+  judged_other f = go (good_line line) refl
     where
-      go : (t : Bool) → r.good ≡ t → (g : Bool) → good_line line ≡ g → t ≡ g
-      go true e true f = refl
-      go false e false f = refl
-      go true e false f =
-          let s = starts_so e in
-          let n = ends_so e in
-          let said : Said line = record {
-            name = good;
-            start = rw (sym s) startFits;
-            end = rw (sym n) endFits;
-            text = is_own e ∙ ap (λ (m : ℕ). bed_line (name_in line) m r.end) s ∙ ap
-                (bed_line (name_in line) (start_in line)) n;
-          } in
-          absurd (clash (good_line line) f (said_good line said))
-      go false e true f =
-          let said = good_said line f in
+      go : (g : Bool) → good_line line ≡ g → good_line line ≡ false
+      go false e = e
+      go true e =
+          let said = good_said line e in
           let s = start said.start in
           let n = end said.end in
-          let same : line ≡ own = said.text ∙ sym (ap (λ (m : ℕ). bed_line (name_in line) m r.end) s ∙ ap (bed_line (name_in line) (start_in line)) n) in
-          absurd (clash (same_bytes line own) (sym says ∙ e) (ap (same_bytes line) (sym same) ∙ same_self line))
+          let same : line ≡ own = said.text ∙ sym (ap (λ (m : ℕ). bed_line (name_in line) m b.end) s ∙ ap (bed_line (name_in line) (start_in line)) n) in
+          absurd (clash (same_bytes line own) f (ap (same_bytes line) (sym same) ∙ same_self line))

@@ -8,6 +8,9 @@ use mathlib.Core.List.{List, [], ◌∷◌}
 use lib.Dec.{eqb}
 use lib.ListN.{length, get_or, take, drop, length-take, length-drop}
 use lib.Seq.{drop-cons, take_all}
+use Rattle.std.specs.List.{position_or_len}
+use Rattle.std.proofs.lemmas.List.Recursion.{is_position_or_len}
+use Rattle.std.proofs.lemmas.List.Sums.{position_or_len_is}
 use lib.ListN.{drop_of_length-le}
 use borrow.Author.Tests.{eq-eqb, ne_eqb}
 use Rattle.bed.specs.Bed.{newline}
@@ -34,32 +37,19 @@ up_take b (x ∷ s) = go (eqb x b) (up_take b s)
     go true h = refl
     go false h = ap (λ (l : List ℕ). x ∷ l) h
 
-here : (b x : ℕ) (s : List ℕ) → x ≡ b → up_to b (x ∷ s) ≡ []
+-- they are as many as the place of the first b, or all
+up_place : (b : ℕ) (s : List ℕ) → length (up_to b s) ≡ position_or_len (λ x. eqb x b) s
 unfolding up_to
-here b x s e = rw (eq-eqb x b e)
+up_place b s = is_position_or_len (λ l. length (up_to b l)) (λ x. eqb x b) refl (λ x l. go (eqb x b) x (up_to b l)) s
+  where
+    go : (t : Bool) (x : ℕ) (l : List ℕ) → length (cond t [] (x ∷ l)) ≡ cond t 0 (1 + length l)
+    go true x l = refl
+    go false x l = omega arith
 
-not_here : (b x : ℕ) (s : List ℕ) → (x ≡ b → ⊥) → up_to b (x ∷ s) ≡ x ∷ up_to b s
-unfolding up_to
-not_here b x s h = rw (ne_eqb x b h)
-
--- the loop: what is passed and what is left are the whole
-module _ (b : ℕ) (s : List ℕ) (i : ℕ) (inv : i + length (up_to b (drop i s)) ≡ length (up_to b s)) where
-  pub up_found : i < length s → get_or s i 0 ≡ b → i ≡ length (up_to b s)
-  up_found h e =
-      let z : length (up_to b (drop i s)) ≡ 0 = ap (λ (l : List ℕ). length (up_to b l)) (drop-cons s i 0 h) ∙ ap length (here b (get_or s i 0) (drop (suc i) s) e) in
-      omega arith
-
-  pub up_on : i < length s → (get_or s i 0 ≡ b → ⊥) → (i + 1) + length (up_to b (drop (i + 1) s)) ≡ length (up_to b s)
-  up_on h n =
-      let z : length (up_to b (drop i s)) ≡ suc (length (up_to b (drop (suc i) s))) =
-      ap (λ (l : List ℕ). length (up_to b l)) (drop-cons s i 0 h) ∙ ap length (not_here b (get_or s i 0) (drop (suc i) s) n) in
-      rw (add-one i) (omega arith)
-
-  pub up_ended : length s ≤ i → i ≡ length (up_to b s)
-  unfolding up_to
-  up_ended h =
-      let z : length (up_to b (drop i s)) ≡ 0 = ap (λ (l : List ℕ). length (up_to b l)) (drop_of_length-le s h) in
-      omega arith
+pub up_is : (b : ℕ) (s : List ℕ) (i : ℕ) → i ≤ length s → ((k : ℕ) → k < i → get_or s k 0 ≡ b → ⊥) → (i < length s → get_or s i 0 ≡ b)
+    → i ≡ length (up_to b s)
+up_is b s i l before here =
+    sym (up_place b s ∙ position_or_len_is (λ x. eqb x b) s i 0 l (λ k m. ne_eqb (get_or s k 0) b (before k m)) (λ m. eq-eqb (get_or s i 0) b (here m)))
 
 -- what stands behind: past the end nothing
 pub behind_part : (b : ℕ) (s : List ℕ) (n : ℕ) → n ≡ length (up_to b s) → n < length s → take (length s - (n + 1)) (drop (n + 1) s) ≡ behind_first b s
@@ -73,14 +63,6 @@ unfolding behind_first
 behind_none b s n e h = let past : length s ≤ suc (length (up_to b s)) = omega arith in sym (drop_of_length-le s past)
 
 -- ---- the first line
-
-pub line_length : (s : List ℕ) (n : ℕ) → n ≡ length (up_to newline s) → n < length s → n + 1 ≡ length (first_line s)
-unfolding first_line
-line_length s n e h = simp length-take (omega arith)
-
-pub line_length_last : (s : List ℕ) (n : ℕ) → n ≡ length (up_to newline s) → length s ≤ n → n ≡ length (first_line s)
-unfolding first_line
-line_length_last s n e h = let k = up_within newline s in simp length-take (omega arith)
 
 -- the line is as long as it is
 pub first_taken : (s : List ℕ) → take (length (first_line s)) s ≡ first_line s

@@ -1,9 +1,9 @@
 -- What the private functions of the crate speak of. No public promise cites this file.
-use Rattle.std.specs.Prelude.{ℕ, suc, ◌<◌, ◌≤◌, ◌≡◌, true, List, ◌++◌, length, take}
+use Rattle.std.specs.Prelude.{ℕ, suc, ◌<◌, ◌≤◌, ◌≡◌, true, false, Option, Some, None, List, ◌++◌, length, take}
 use Rattle.params.specs.Numbers.{first_of, bound_rules}
 use Rattle.bed.specs.Bed.{newline}
 use Rattle.bed.specs.Reading.{up_to, start_in, end_in, good_line, lines_of, text_rules, starts_in, ends_in}
-use Rattle.bed.specs.declared.lines.Line.{Line}
+use Rattle.bed.specs.declared.lines.Bounds.{Bounds}
 use Rattle.bed.specs.declared.table.Found.{Found}
 
 -- the first line of a text, with its newline
@@ -14,11 +14,10 @@ first_line s = take (suc (length (up_to newline s))) s
 abbrev pub Reads64 : ℕ → ℕ → Type 0
 Reads64 value r = value < 18446744073709551616 → r ≡ value
 
--- what is found of a line: whether it is good, and then its numbers
-pub record Judged (line : List ℕ) (r : Line) : Type 0 where
-  pub good : r.good ≡ good_line line
-  pub start : r.good ≡ true → r.start ≡ start_in line
-  pub end : r.good ≡ true → r.end ≡ end_in line
+-- what is found of a line: its numbers, if it is good
+abbrev pub Judged : List ℕ → Option Bounds → Type 0
+Judged line None = good_line line ≡ false
+Judged line (Some b) = (good_line line ≡ true) × ((b.start ≡ start_in line) × (b.end ≡ end_in line))
 
 -- a text without a fault: its rows stand at the front of the two buffers
 pub record Rows (text s e : List ℕ) (rows : ℕ) : Type 0 where

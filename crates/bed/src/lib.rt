@@ -48,7 +48,7 @@ pub fn read_bed(text: &[u8], starts: &mut [u64], ends: &mut [u64], name: &mut [u
     }
     lay(&s, n, starts);
     lay(&e, n, ends);
-    let width = put_bytes(name, 0, first(text, 9));
+    let width = put_bytes(name, 0, first(text, b'\t'));
     BedRead::Table(n as u32, width as u32)
 }
 

@@ -6,43 +6,22 @@ ghost use Rattle.bed.specs.Reading.{same_bytes};
 ghost use Rattle.bed.specs.Steps.{Judged};
 
 use crate::parts::{behind, first, value};
-use check::same;
 use text::pieces::{put_bytes, put_digits};
 
-// Whether a line is good, and then its numbers.
+// The numbers of a line.
 #[derive(Clone, Copy)]
-pub(crate) struct Line {
-    pub(crate) good: bool,
+pub(crate) struct Bounds {
     pub(crate) start: u64,
     pub(crate) end: u64,
-}
-
-fn all_printable(name: &[u8]) -> bool
-    ensures { result ≡ printable name.now }
-{
-    let mut i: usize = 0;
-    while i < name.len() {
-        if name[i] < 33 {
-            return false;
-        }
-        if name[i] > 126 {
-            return false;
-        }
-        i += 1;
-    }
-    true
 }
 
 pub(crate) fn good_name(name: &[u8]) -> bool
     ensures { result ≡ good_name name.now }
 {
-    if name.len() < 1 {
+    if name.is_empty() || name.len() > 32 {
         return false;
     }
-    if name.len() > 32 {
-        return false;
-    }
-    all_printable(name)
+    name.iter().all(|x| x.is_ascii_graphic())
 }
 
 pub(crate) fn put_line(out: &mut [u8], at: usize, name: &[u8], start: u64, end: u64) -> usize
@@ -54,12 +33,6 @@ pub(crate) fn put_line(out: &mut [u8], at: usize, name: &[u8], start: u64, end: 
     let d = put_bytes(out, c, b"\t");
     let e = put_digits(out, d, end, 20);
     put_bytes(out, e, b"\n")
-}
-
-pub(crate) fn same_bytes(a: &[u8], b: &[u8]) -> bool
-    ensures { result ≡ same_bytes a.now b.now }
-{
-    same(a, b)
 }
 
 // How long a line is. It is written to memory of its own: with a good name it has at most 75 bytes.
@@ -78,27 +51,22 @@ fn says(line: &[u8], name: &[u8], start: u64, end: u64) -> bool
 {
     let mut own = [0u8; 75];
     let n = put_line(&mut own, 0, name, start, end);
-    same_bytes(line, &own[..n])
+    line == &own[..n]
 }
 
 // A line is read freely and written again: it is good where that gives the same bytes. So no form of a number but the written one is taken, and none past 64 bits.
-pub(crate) fn line_of(line: &[u8]) -> Line
+pub(crate) fn line_of(line: &[u8]) -> Option<Bounds>
     ensures { Judged line.now result }
 {
-    let name = first(line, 9);
+    let name = first(line, b'\t');
     if !good_name(name) {
-        return Line {
-            good: false,
-            start: 0,
-            end: 0,
-        };
+        return None;
     }
-    let rest = behind(line, 9);
-    let start = value(first(rest, 9));
-    let end = value(first(behind(rest, 9), 10));
-    Line {
-        good: says(line, name, start, end),
-        start: start,
-        end: end,
+    let rest = behind(line, b'\t');
+    let start = value(first(rest, b'\t'));
+    let end = value(first(behind(rest, b'\t'), b'\n'));
+    if !says(line, name, start, end) {
+        return None;
     }
+    Some(Bounds { start, end })
 }

@@ -7,21 +7,18 @@ ghost use Rattle.bed.specs.Steps.{first_line, Reads64};
 fn up_to(s: &[u8], b: u8) -> usize
     ensures { result ≡ length (up_to b s.now) }
 {
-    let mut i: usize = 0;
-    while i < s.len() {
-        if s[i] == b {
+    for (i, x) in s.iter().enumerate() {
+        if *x == b {
             return i;
         }
-        i += 1;
     }
-    i
+    s.len()
 }
 
 pub(crate) fn first(s: &[u8], b: u8) -> &[u8]
     ensures { result.now ≡ up_to b s.now }
 {
-    let n = up_to(s, b);
-    &s[..n]
+    &s[..up_to(s, b)]
 }
 
 pub(crate) fn behind(s: &[u8], b: u8) -> &[u8]
@@ -39,38 +36,23 @@ pub(crate) fn behind(s: &[u8], b: u8) -> &[u8]
 pub(crate) fn line_len(s: &[u8]) -> usize
     ensures { result ≡ length (first_line s.now) }
 {
-    let n = up_to(s, 10);
-    if n < s.len() {
-        return n + 1;
-    }
-    n
+    s.len().min(up_to(s, b'\n') + 1)
 }
 
 // One digit more. Where the number does not fit, the result is of no use.
 fn grow(v: u64, x: u8) -> u64
     ensures { Reads64 (v * 10 + (x - 48)) result }
 {
-    if x < 48 {
-        if v > 1844674407370955161 {
-            return 0;
-        }
-        return v * 10;
-    }
-    let d = x as u64 - 48;
-    if v > (18446744073709551615 - d) / 10 {
-        return 0;
-    }
-    v * 10 + d
+    let d = x.saturating_sub(b'0');
+    v.wrapping_mul(10).wrapping_add(d as u64)
 }
 
 pub(crate) fn value(digits: &[u8]) -> u64
     ensures { Reads64 (value_of digits.now) result }
 {
-    let mut i: usize = 0;
-    let mut v: u64 = 0;
-    while i < digits.len() {
-        v = grow(v, digits[i]);
-        i += 1;
+    let mut v = 0;
+    for x in digits {
+        v = grow(v, *x);
     }
     v
 }

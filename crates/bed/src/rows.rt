@@ -9,25 +9,14 @@ use crate::lines::{line_room, put_line};
 pub(crate) fn missing_row(v: usize, rows: &[u32]) -> bool
     ensures { result ≡ missing_row v rows.now }
 {
-    let mut i: usize = 0;
-    while i < rows.len() {
-        if rows[i] as usize >= v {
-            return true;
-        }
-        i += 1;
-    }
-    false
+    rows.iter().any(|row| *row as usize >= v)
 }
 
 // A row's number; 0 past the end, so that nothing is asked of the rows.
 fn number_at(numbers: &[u64], row: u32) -> u64
     ensures { result ≡ get_or numbers.now row 0 }
 {
-    let at = row as usize;
-    if at < numbers.len() {
-        return numbers[at];
-    }
-    0
+    numbers.get(row as usize).copied().unwrap_or(0)
 }
 
 // Whether there is room for the text.
@@ -36,15 +25,12 @@ pub(crate) fn fits(name: &[u8], starts: &[u64], ends: &[u64], rows: &[u32], room
     ensures { result ≡ not (little_text_room room (rows_text name.now starts.now ends.now rows.now)) }
 {
     let mut left = room;
-    let mut i: usize = 0;
-    while i < rows.len() {
-        let row = rows[i];
-        let n = line_room(name, number_at(starts, row), number_at(ends, row));
+    for row in rows {
+        let n = line_room(name, number_at(starts, *row), number_at(ends, *row));
         if left < n {
             return false;
         }
         left -= n;
-        i += 1;
     }
     true
 }
@@ -58,18 +44,15 @@ pub(crate) fn put_rows(
 ) -> usize
     ensures { Written text.old 0 (rows_text name.now starts.now ends.now rows.now) text.new result }
 {
-    let mut end: usize = 0;
-    let mut i: usize = 0;
-    while i < rows.len() {
-        let row = rows[i];
+    let mut end = 0;
+    for row in rows {
         end = put_line(
             text,
             end,
             name,
-            number_at(starts, row),
-            number_at(ends, row),
+            number_at(starts, *row),
+            number_at(ends, *row),
         );
-        i += 1;
     }
     end
 }

@@ -4,7 +4,7 @@ ghost use Rattle.params.specs.Numbers.{first_of, bound_rules};
 ghost use Rattle.metrics.specs.Placed.{placed};
 ghost use Rattle.bed.specs.Steps.{Scanned, Checked};
 
-use crate::lines::{line_of, same_bytes};
+use crate::lines::line_of;
 use crate::parts::{first, line_len};
 use metrics::refusals::{ACCEPTED, BAD_LINE, SECOND_NAME, TOO_MANY_LINES};
 use params::checks::count_fault;
@@ -20,8 +20,9 @@ fn scan(text: &[u8], s: &mut [u64], e: &mut [u64]) -> Found
     requires { (length s.old ≡ 64) × (length e.old ≡ 64) }
     ensures { Scanned text.now s.new e.new result }
 {
-    let mut at: usize = 0;
-    let mut rows: usize = 0;
+    let mut at = 0;
+    let mut rows = 0;
+    // `at` goes on by lines of differing length.
     while at < text.len() {
         if rows >= 64 {
             return refused(TOO_MANY_LINES);
@@ -29,31 +30,27 @@ fn scan(text: &[u8], s: &mut [u64], e: &mut [u64]) -> Found
         let rest = &text[at..];
         let n = line_len(rest);
         let line = &rest[..n];
-        let l = line_of(line);
-        if !l.good {
+        let Some(bounds) = line_of(line) else {
             return refused(BAD_LINE);
-        }
-        if !same_bytes(first(line, 9), first(text, 9)) {
+        };
+        if first(line, b'\t') != first(text, b'\t') {
             return refused(SECOND_NAME);
         }
-        s[rows] = l.start;
-        e[rows] = l.end;
+        s[rows] = bounds.start;
+        e[rows] = bounds.end;
         rows += 1;
         at += n;
     }
     Found {
         fault: ACCEPTED,
-        rows: rows,
+        rows,
     }
 }
 
 fn refused(fault: u32) -> Found
     ensures { (result.fault ≡ fault) × (result.rows ≡ 0) }
 {
-    Found {
-        fault: fault,
-        rows: 0,
-    }
+    Found { fault, rows: 0 }
 }
 
 // 7 and 8 of the first n rows, by the check of a table.
@@ -88,9 +85,5 @@ pub(crate) fn lay(from: &[u64], n: usize, to: &mut [u64])
     requires { (n ≤ length from.now) × (n ≤ length to.old) }
     ensures { to.new ≡ placed to.old (take n from.now) }
 {
-    let mut i: usize = 0;
-    while i < n {
-        to[i] = from[i];
-        i += 1;
-    }
+    to[..n].copy_from_slice(&from[..n]);
 }

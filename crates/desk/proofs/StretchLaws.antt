@@ -8,8 +8,8 @@ use mathlib.Core.Bool.{true, false, ◌||◌}
 use mathlib.Core.List.{List, [], ◌∷◌, ◌++◌, append_assoc, flatten, map, map-append}
 use lib.Dec.{ltb}
 use lib.IntN.{ℤ}
-use lib.ListN.{length, get_or, take, drop, length-append, length-map, drop_of_length-le, get_or-append}
-use lib.Seq.{drop-cons, get_or_at, take_at, drop_at}
+use lib.ListN.{length, get_or, take, drop, length-append, length-map, drop_of_length-le}
+use lib.Seq.{drop-cons, take_at, drop_at}
 use borrow.Author.Tests.{ltb-false, lt-ltb, le-ltb}
 use Rattle.params.specs.Numbers.{Parts, parts_of}
 use Rattle.params.proofs.CheckLaws.{or_no}
@@ -19,14 +19,6 @@ use Rattle.form.specs.Lent.{breaks_from, breaks_of}
 use Rattle.desk.specs.Desk.{part_features, parts_of_haplotype, many_parts}
 use Rattle.desk.specs.Memory.{ends_of, Rising, overlong, stretch, stretches}
 use Rattle.desk.proofs.FeatureLaws.{row_length}
-
--- where the parts of haplotype i end
-module _ (breaks : List ℕ) (all i : ℕ) where
-  pub end_before : i < length breaks → get_or breaks i 0 ≡ get_or (ends_of breaks all) i 0
-  end_before h = sym (get_or-append breaks (all ∷ []) 0 i h)
-
-  pub end_last : i ≤ length breaks → length breaks ≤ i → all ≡ get_or (ends_of breaks all) i 0
-  end_last h g = sym (get_or_at breaks all [] 0 i (let e : length breaks ≡ i = omega arith in e))
 
 pub ends_count : (breaks : List ℕ) (all : ℕ) → length (ends_of breaks all) ≡ length breaks + 1
 ends_count breaks all = length-append breaks (all ∷ [])

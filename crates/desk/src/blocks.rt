@@ -102,10 +102,9 @@ fn put_blocks(
         (stretches width 0 (ends_of breaks.now (length part_sizes.now))
         (parts_of part_sizes.now part_features.now))) out.new result }
 {
-    let mut i = 0usize;
-    let mut from = 0usize;
-    let mut end = 0usize;
-    while i <= breaks.len() {
+    let mut from = 0;
+    let mut end = 0;
+    for i in 0..=breaks.len() {
         let to = stretch_end(breaks, i, part_sizes.len());
         end = put_block(
             s,
@@ -121,7 +120,6 @@ fn put_blocks(
             end,
         );
         from = to;
-        i += 1;
     }
     end
 }

@@ -43,11 +43,10 @@ pub(crate) fn count_rows(
     requires { RowsFit reading k width negatives.now counts.now letters.now first table.old }
     ensures { RowsCounted reading k width negatives.now counts.now letters.now first result table.old table.new }
 {
-    let mut row = 0usize;
     let mut at = first;
-    let mut from = 0usize;
-    while row < counts.len() {
-        let end = at + counts[row] as usize;
+    let mut from = 0;
+    for (row, count) in counts.iter().enumerate() {
+        let end = at + *count as usize;
         count_row(
             reading,
             k,
@@ -61,7 +60,6 @@ pub(crate) fn count_rows(
         );
         at = end;
         from += width;
-        row += 1;
     }
     at
 }

@@ -7,10 +7,7 @@ pub(crate) fn stretch_end(breaks: &[u64], i: usize, all: usize) -> usize
     requires { i ≤ length breaks.now }
     ensures { result ≡ get_or (ends_of breaks.now all) i 0 }
 {
-    if i < breaks.len() {
-        return breaks[i] as usize;
-    }
-    all
+    breaks.get(i).map_or(all, |end| *end as usize)
 }
 
 // Whether a haplotype has over 8 parts.
@@ -18,15 +15,13 @@ pub(crate) fn over_parts(breaks: &[u64], all: usize) -> bool
     requires { Rising all 0 (ends_of breaks.now all) }
     ensures { result ≡ overlong 0 (ends_of breaks.now all) }
 {
-    let mut i = 0usize;
-    let mut from = 0usize;
-    while i <= breaks.len() {
+    let mut from = 0;
+    for i in 0..=breaks.len() {
         let to = stretch_end(breaks, i, all);
         if 8 < to - from {
             return true;
         }
         from = to;
-        i += 1;
     }
     false
 }

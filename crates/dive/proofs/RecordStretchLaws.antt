@@ -1,7 +1,7 @@
 -- The records of several haplotypes, stretch by stretch. Assumes nothing.
-use Prim.Native.Nat.{ℕ, suc, ◌+◌, ◌-◌, ◌*◌, ◌≤◌, ◌<◌}
+use Prim.Native.Nat.{ℕ, ◌+◌, ◌-◌, ◌*◌, ◌≤◌, ◌<◌}
 use native.Mathlib.Omega.{arith}
-use native.Mathlib.Nat.{mul-le-mul, mul-le-mul_right, suc-mul}
+use native.Mathlib.Nat.{mul-le-mul_right, suc-mul}
 use mathlib.Core.Path.{◌≡◌, refl, ap, ◌∙◌}
 use mathlib.Core.List.{List}
 use lib.ListN.{length, take, drop}
@@ -24,21 +24,14 @@ module _ {v n : ℕ} {rows reports records₀ : List ℕ} (s : Stretched v n row
   none_recorded = record { few = omega arith; kept = refl; are = none_laid v (records_in v numbers rows reports) records₀ }
 
   module _ {i : ℕ} {records : List ℕ} (h : Recorded v n numbers rows reports records₀ i records) (l : i < n) where
-    -- in small numbers
-    pub small : i * v + v ≤ 1024
-    small = let j : suc i ≤ 16 = omega (arith, s.few) in omega (arith, suc-mul i v, mul-le-mul j s.v_few)
-
     inside : i * v + v ≤ n * v
     inside = omega (arith, suc-mul i v, mul-le-mul_right v l)
 
-    pub in_rows : i * v + v ≤ length rows
+    in_rows : i * v + v ≤ length rows
     in_rows = omega (arith, inside, s.rows_room)
 
-    pub in_records : i * v + v ≤ length records
+    in_records : i * v + v ≤ length records
     in_records = omega (arith, inside, s.records_room, h.kept)
-
-    pub word_in : i * 8 + 1 < length reports
-    word_in = omega (arith, s.reports_room)
 
     pub counted_rows : (row_count reports i ≤ length (take (i * v + v - i * v) (drop (i * v) rows))) × (row_count reports i ≤ length (take (i * v + v - i * v) (drop (i * v) records)))
     counted_rows =

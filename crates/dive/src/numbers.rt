@@ -12,10 +12,8 @@ fn repeats(numbers: &[u32], s: usize) -> bool
     ensures { result ≡ any_below s (λ r. eqb (get_or numbers.now r 0) (get_or numbers.now s 0)) }
 {
     let mut found = false;
-    let mut r: usize = 0;
-    while r < s {
-        found = found | (numbers[r] == numbers[s]);
-        r += 1;
+    for number in &numbers[..s] {
+        found |= *number == numbers[s];
     }
     found
 }
@@ -23,12 +21,10 @@ fn repeats(numbers: &[u32], s: usize) -> bool
 fn repeated_number(numbers: &[u32]) -> bool
     ensures { result ≡ repeated_number numbers.now }
 {
-    let mut s: usize = 0;
-    while s < numbers.len() {
+    for s in 0..numbers.len() {
         if repeats(numbers, s) {
             return true;
         }
-        s += 1;
     }
     false
 }

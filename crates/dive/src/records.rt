@@ -5,26 +5,13 @@ ghost use Rattle.kplib.specs.Haplotypes.{laid};
 ghost use Rattle.dive.specs.Numbered.{records_at};
 ghost use Rattle.dive.specs.RecordSteps.{records_in, Stretched};
 
-// The record number of a row; 0 past the end, so that nothing is asked of the rows. An answer's rows never lie there.
-fn number_of(numbers: &[u32], row: u32) -> u32
-    ensures { result ≡ get_or numbers.now row 0 }
-{
-    let at = row as usize;
-    if at < numbers.len() {
-        return numbers[at];
-    }
-    0
-}
-
-// Writes the record numbers of the first n rows to the front of the buffer.
+// Writes the record numbers of the first n rows to the front of the buffer. A row past the end has 0, so that nothing is asked of the rows; an answer's rows never lie there.
 pub(crate) fn put_records(numbers: &[u32], rows: &[u32], n: usize, records: &mut [u32])
     requires { (n ≤ length rows.now) × (n ≤ length records.old) }
     ensures { records.new ≡ placed records.old (records_at numbers.now (take n rows.now)) }
 {
-    let mut i: usize = 0;
-    while i < n {
-        records[i] = number_of(numbers, rows[i]);
-        i += 1;
+    for (i, row) in rows[..n].iter().enumerate() {
+        records[i] = numbers.get(*row as usize).copied().unwrap_or(0);
     }
 }
 
@@ -40,11 +27,9 @@ pub(crate) fn put_all_records(
     requires { Stretched v n rows.now reports.now records.old }
     ensures { records.new ≡ laid v (records_in v numbers.now rows.now reports.now) n records.old }
 {
-    let mut i: usize = 0;
-    while i < n {
+    for i in 0..n {
         let at = i * v;
         let count = reports[i * 8 + 1] as usize;
         put_records(numbers, &rows[at..at + v], count, &mut records[at..at + v]);
-        i += 1;
     }
 }

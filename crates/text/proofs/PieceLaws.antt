@@ -69,14 +69,6 @@ written_more i src h p q =
     let e : take (i + 1) src ≡ take i src ++ (get_or src i 0 ∷ []) = rw (add-one i) (take-suc src i 0 h) in
     written_as (written_then p q) (sym e)
 
-pub digit_low : (d : ℕ) → d < 10 → 48 + d ≡ hex_digit d
-unfolding hex_digit
-digit_low d h = simp (lt-ltb _ _ h)
-
-pub digit_high : (d : ℕ) → 10 ≤ d → 87 + d ≡ hex_digit d
-unfolding hex_digit
-digit_high d h = simp (le-ltb _ _ h)
-
 pub written_hex2 : {t u w : List ℕ} {i r q a b : ℕ} (x : ℕ) → a ≡ hex_digit (x / 16) → b ≡ hex_digit (x % 16)
     → Written t i (a ∷ []) u r → Written u r (b ∷ []) w q → Written t i (hex2 x) w q
 unfolding hex2

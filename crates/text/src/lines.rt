@@ -19,11 +19,9 @@ fn put_entry(out: &mut [u8], at: usize, entry: u32) -> usize
 fn put_entries(out: &mut [u8], at: usize, entries: &[u32]) -> usize
     ensures { Written out.old at (entries_text entries.now) out.new result }
 {
-    let mut i = 0usize;
     let mut end = at;
-    while i < entries.len() {
-        end = put_entry(out, end, entries[i]);
-        i += 1;
+    for entry in entries {
+        end = put_entry(out, end, *entry);
     }
     end
 }
@@ -40,10 +38,7 @@ fn put_list_line(out: &mut [u8], at: usize, word: &[u8], entries: &[u32]) -> usi
 fn put_front_line(out: &mut [u8], at: usize, word: &[u8], entries: &[u32], n: usize) -> usize
     ensures { Written out.old at (list_line word.now (take n entries.now)) out.new result }
 {
-    if entries.len() < n {
-        return put_list_line(out, at, word, entries);
-    }
-    put_list_line(out, at, word, &entries[..n])
+    put_list_line(out, at, word, &entries[..n.min(entries.len())])
 }
 
 fn put_float_line(out: &mut [u8], at: usize, word: &[u8], x: f32) -> usize
@@ -58,10 +53,7 @@ fn put_flag_line(out: &mut [u8], at: usize, word: &[u8], flag: bool) -> usize
     ensures { Written out.old at (flag_line word.now flag) out.new result }
 {
     let a = put_bytes(out, at, word);
-    if flag {
-        return put_bytes(out, a, b"yes\n");
-    }
-    put_bytes(out, a, b"no\n")
+    put_bytes(out, a, if flag { b"yes\n" } else { b"no\n" })
 }
 
 pub(crate) fn put_number_line(out: &mut [u8], at: usize, word: &[u8], n: u32) -> usize
@@ -73,14 +65,11 @@ pub(crate) fn put_number_line(out: &mut [u8], at: usize, word: &[u8], n: u32) ->
 }
 
 // `full` is yes for the whole haplotype.
+#[tactic(auto, unfolding(crate::specs::Text::is_whole))]
 fn is_whole(t: Target) -> bool
     ensures { result ≡ is_whole t }
 {
-    match t {
-        Target::Nothing => false,
-        Target::Whole => true,
-        Target::Partial(left_out) => false,
-    }
+    matches!(t, Target::Whole)
 }
 
 // The similarities of an answer, three lines.

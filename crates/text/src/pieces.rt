@@ -4,6 +4,7 @@ ghost use Rattle.text.specs.Text.{hex_digit, hex2, hex4, hex8};
 ghost use Rattle.text.specs.Written.{Written};
 ghost use Rattle.text.specs.Promises.{PutBytesPromise, PutDigitsPromise};
 
+// A byte past the end is dropped.
 fn put_byte(out: &mut [u8], at: usize, x: u8) -> usize
     ensures { Written out.old at (x ∷ []) out.new result }
 {
@@ -17,20 +18,23 @@ fn put_byte(out: &mut [u8], at: usize, x: u8) -> usize
 pub fn put_bytes(out: &mut [u8], at: usize, src: &[u8]) -> usize
     ensures { PutBytesPromise out.old at src.now out.new result }
 {
-    let mut i = 0usize;
     let mut end = at;
-    while i < src.len() {
-        end = put_byte(out, end, src[i]);
-        i += 1;
+    for x in src {
+        end = put_byte(out, end, *x);
     }
     end
 }
 
+#[tactic(auto, unfolding(crate::specs::Text::hex_digit))]
 fn hex_digit(d: u32) -> u8
     requires { d < 16 }
     ensures { result ≡ hex_digit d }
 {
-    if d < 10 { 48 + d as u8 } else { 87 + d as u8 }
+    if d < 10 {
+        b'0' + d as u8
+    } else {
+        b'a' - 10 + d as u8
+    }
 }
 
 fn put_hex2(out: &mut [u8], at: usize, x: u32) -> usize
@@ -64,8 +68,8 @@ pub fn put_digits(out: &mut [u8], at: usize, n: u64, left: usize) -> usize
         return at;
     }
     if n < 10 {
-        return put_byte(out, at, 48 + n as u8);
+        return put_byte(out, at, b'0' + n as u8);
     }
     let a = put_digits(out, at, n / 10, left - 1);
-    put_byte(out, a, 48 + (n % 10) as u8)
+    put_byte(out, a, b'0' + (n % 10) as u8)
 }

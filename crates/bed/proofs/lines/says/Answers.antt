@@ -3,17 +3,17 @@ use mathlib.Core.Path.{sym, ap, ◌∙◌}
 use lib.Seq.{length-take-le}
 use Rattle.bed.specs.Bed.{bed_line}
 use Rattle.bed.specs.Reading.{same_bytes}
-use Rattle.bed.proofs.LineLaws.{line_short}
+use Rattle.bed.proofs.LineLaws.{line_short, same_pointwise}
 use Rattle.bed.proofs.StoredLaws.{stored_front, stored_within}
 use Rattle.bed.proofs.lines.says.Goals as goal
 
-pub slice_bounds-same_bytes-end : goal.slice_bounds-same_bytes-end
-slice_bounds-same_bytes-end c =
+pub slice_bounds-eq-end : goal.slice_bounds-eq-end
+slice_bounds-eq-end c =
     let a = c.args in
     sym (length-take-le _ _ (stored_within _ (bed_line a.name.now a.start a.end) c.put_line-n.ensures (line_short a.name.now a.start a.end c.requires)))
 
 pub returns : goal.returns
 returns c =
     let a = c.args in
-    c.same_bytes.ensures ∙ ap (same_bytes a.line.now) (stored_front _ (bed_line a.name.now a.start a.end) c.put_line-n.ensures (line_short a.name.now
+    c.eq.ensures ∙ same_pointwise _ _ ∙ ap (same_bytes a.line.now) (stored_front _ (bed_line a.name.now a.start a.end) c.put_line-n.ensures (line_short a.name.now
     a.start a.end c.requires))

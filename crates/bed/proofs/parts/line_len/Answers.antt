@@ -1,11 +1,14 @@
 -- Up to the newline, and the newline where there is one.
-use Rattle.bed.proofs.PartLaws.{line_length, line_length_last}
+use lib.ListN.{length-take}
+use Rattle.bed.specs.Bed.{newline}
+use Rattle.bed.specs.Steps.{first_line}
+use Rattle.bed.proofs.PartLaws.{up_within}
+use native.Mathlib.Omega.{arith}
 use Rattle.bed.proofs.parts.line_len.Goals as goal
 
-pub returns-then-n-s : goal.returns-then-n-s
-returns-then-n-s c =
-    line_length c.args.s.now _ c.up_to-n.ensures c.if-n-s.true
+pub overflow_add-up_to : goal.overflow_add-up_to
+overflow_add-up_to c = omega (arith, up_within newline c.args.s.now, c.up_to.ensures)
 
 pub returns : goal.returns
-returns c =
-    line_length_last c.args.s.now _ c.up_to-n.ensures c.if-n-s.false
+unfolding first_line
+returns c = simp length-take (omega arith)

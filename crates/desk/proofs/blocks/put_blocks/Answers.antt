@@ -3,7 +3,6 @@ use native.Mathlib.Omega.{arith}
 use Prim.Native.Nat.{◌*◌, ◌≤◌}
 use lib.ListN.{length}
 use Rattle.params.specs.Numbers.{table_of, parts_of}
-use Rattle.text.proofs.PieceLaws.{written_kept}
 use Rattle.desk.proofs.BlockLaws.{blocks_start, rises, parts_end, rows_rise, rows_end, blocks_next, blocks_done}
 use Rattle.desk.proofs.blocks.put_blocks.Goals.{After-stretch_end-to}
 use Rattle.desk.proofs.blocks.put_blocks.Goals as goal
@@ -16,7 +15,7 @@ loop-i-init c = blocks_start c.args.s ((table_of c.args.starts.now c.args.ends.n
 stretched : (c : After-stretch_end-to) → let l = c.loop-i in let to = c.stretch_end-to.result in ((l.from ≤ to) × (to ≤ length c.args.part_sizes.now)) ×
     ((l.from * c.args.width ≤ to * c.args.width) × (to * c.args.width ≤ length c.args.part_features.now))
 stretched c =
-    let l = c.loop-i in let m = c.loop-i-test.true in let is = c.stretch_end-to.ensures in (
+    let l = c.loop-i in let m : c.loop-i.i ≤ length c.args.breaks.now = omega arith in let is = c.stretch_end-to.ensures in (
       (
         rises _ ((table_of c.args.starts.now c.args.ends.now c.args.sizes.now c.args.features.now)) _ ((parts_of c.args.part_sizes.now c.args.part_features.now)) _ _ _ c.requires _ _ _ _
             l.invariant m _ is,
@@ -30,9 +29,6 @@ stretched c =
             ((parts_of c.args.part_sizes.now c.args.part_features.now)) _ _ _ c.requires _ _ _ _ l.invariant m _ is,
       ),
     )
-
-pub stretch_end-to-requires : goal.stretch_end-to-requires
-stretch_end-to-requires c = c.loop-i-test.true
 
 pub offset_bounds-part_sizes-from : goal.offset_bounds-part_sizes-from
 offset_bounds-part_sizes-from c = let h = stretched (goal.at.offset_bounds-part_sizes-from c).After-stretch_end-to in let f = c.requires.parts in omega arith
@@ -64,23 +60,16 @@ slice_bounds-put_block-start-in-loop-i c = let h = stretched (goal.at.slice_boun
 pub slice_bounds-put_block-end-in-loop-i : goal.slice_bounds-put_block-end-in-loop-i
 slice_bounds-put_block-end-in-loop-i c = let h = stretched (goal.at.slice_bounds-put_block-end-in-loop-i c).After-stretch_end-to in omega arith
 
-pub overflow_cast-i : goal.overflow_cast-i
-overflow_cast-i c = let m = c.loop-i-test.true in let f = c.requires.haplotypes in omega arith
-
-pub overflow_add-i : goal.overflow_add-i
-overflow_add-i c = let m = c.loop-i-test.true in let f = c.requires.haplotypes in omega arith
-
-pub loop-i-smaller : goal.loop-i-smaller
-loop-i-smaller c = let m = c.loop-i-test.true in omega arith
-
 pub loop-i-preserved : goal.loop-i-preserved
 loop-i-preserved c =
+    let m : c.loop-i.i ≤ length c.args.breaks.now = omega arith in
     blocks_next _ ((table_of c.args.starts.now c.args.ends.now c.args.sizes.now c.args.features.now)) _ ((parts_of c.args.part_sizes.now c.args.part_features.now)) _ _ _ c.requires _ _
-    _ _ c.loop-i.invariant c.loop-i-test.true _ c.stretch_end-to.ensures _ _ c.put_block-end.ensures
+    _ _ c.loop-i.invariant m _ c.stretch_end-to.ensures _ _ c.put_block-end.ensures
 
-pub shape_of-out : goal.shape_of-out
-shape_of-out c = written_kept c.loop-i.invariant.printed.written
-
-pub returns : goal.returns
-returns c = blocks_done _ ((table_of c.args.starts.now c.args.ends.now c.args.sizes.now c.args.features.now)) _ ((parts_of c.args.part_sizes.now c.args.part_features.now)) _ _ _
-    c.requires _ _ _ _ c.loop-i.invariant c.loop-i-test.false
+pub returns-2 : goal.returns-2
+returns-2 c =
+    let m : c.loop-i.i ≤ length c.args.breaks.now = omega arith in
+    let last = blocks_next _ ((table_of c.args.starts.now c.args.ends.now c.args.sizes.now c.args.features.now)) _ ((parts_of c.args.part_sizes.now c.args.part_features.now)) _ _ _ c.requires _ _
+    _ _ c.loop-i.invariant m _ c.stretch_end-to.ensures _ _ c.put_block-end.ensures in
+    blocks_done _ ((table_of c.args.starts.now c.args.ends.now c.args.sizes.now c.args.features.now)) _ ((parts_of c.args.part_sizes.now c.args.part_features.now)) _ _ _
+    c.requires _ _ _ _ last (omega arith)

@@ -1,12 +1,11 @@
 -- Up to variant s no number stands at an earlier one. Assumes nothing.
-use borrow.Author.Rules.{rules}
 use mathlib.Core.Path.{sym, ◌∙◌}
 use Rattle.params.proofs.CheckLaws.{any_none, any_more, any_here, any_end}
 use Rattle.dive.specs.Numbered.{repeated_number}
 use Rattle.dive.proofs.numbers.repeated_number.Goals as goal
 
 pub loop-s-init : goal.loop-s-init
-loop-s-init c = (search rules, any_none _)
+loop-s-init c = any_none _
 
 pub returns-then-repeats : goal.returns-then-repeats
 unfolding repeated_number
@@ -15,8 +14,8 @@ returns-then-repeats c =
 
 pub loop-s-preserved : goal.loop-s-preserved
 loop-s-preserved c =
-    (search rules, any_more _ _ c.loop-s.invariant.1 (sym c.repeats.ensures ∙ c.if-repeats.false))
+    any_more _ _ c.loop-s.invariant (sym c.repeats.ensures ∙ c.if-repeats.false)
 
 pub returns : goal.returns
 unfolding repeated_number
-returns c = sym (any_end _ _ _ c.loop-s-test.false c.loop-s.invariant.0 c.loop-s.invariant.1)
+returns c = sym (any_end _ _ _ c.loop-s-test.false c.loop-s.auto.s-end c.loop-s.invariant)

@@ -1,14 +1,10 @@
 -- Up to variant s no number stands at an earlier one. Assumes nothing.
 use mathlib.Core.Path.{◌≡◌}
 use mathlib.Core.Bool.{false}
-use Prim.Native.Nat.{◌-◌, ◌≤◌}
 use lib.Dec.{eqb}
-use lib.ListN.{length, get_or}
+use lib.ListN.{get_or}
 use Rattle.params.specs.Numbers.{any_below}
 use Rattle.dive.proofs.numbers.repeated_number.Given as goal
 
 abbrev pub invariant-loop-s : goal.invariant-loop-s
-invariant-loop-s l = (l.s ≤ length l.numbers) × (any_below l.s (λ i. any_below i (λ r. eqb (get_or l.numbers r 0) (get_or l.numbers i 0))) ≡ false)
-
-abbrev pub decreases-loop-s : goal.decreases-loop-s
-decreases-loop-s l = length l.numbers - l.s
+invariant-loop-s l = any_below l.s (λ i. any_below i (λ r. eqb (get_or l.numbers r 0) (get_or l.numbers i 0))) ≡ false

@@ -1,10 +1,10 @@
 -- What is found up to row r is whether one of these numbers is that of variant s. Assumes nothing.
-use borrow.Author.Rules.{rules}
 use mathlib.Core.Path.{◌≡◌, refl}
 use mathlib.Core.Bool.{Bool, false, ◌||◌}
 use native.Mathlib.Omega.{arith}
 use native.Mathlib.Numerals.{add-one}
-use Prim.Native.Nat.{ℕ, ◌+◌, ◌≤◌}
+use Prim.Native.Nat.{ℕ, ◌+◌, ◌<◌}
+use lib.Seq.{get_or-take, length-take-le}
 use Rattle.params.specs.Numbers.{any_below}
 use Rattle.dive.proofs.numbers.repeats.Goals as goal
 
@@ -16,14 +16,11 @@ one_more : (test : ℕ → Bool) (r : ℕ) (found : Bool) → found ≡ any_belo
 unfolding any_below
 one_more test r found e = rw (add-one r, e)
 
-all_asked : (test : ℕ → Bool) {s r : ℕ} {found : Bool} → s ≤ r → r ≤ s → found ≡ any_below r test → found ≡ any_below s test
-all_asked test {s} {r} l h e = let p : s ≡ r = omega arith in rw p e
+pub loop-number-init : goal.loop-number-init
+loop-number-init c = none_yet _
 
-pub loop-r-init : goal.loop-r-init
-loop-r-init c = (search rules, none_yet _)
-
-pub loop-r-preserved : goal.loop-r-preserved
-loop-r-preserved c = (search rules, one_more _ _ _ c.loop-r.invariant.1)
-
-pub returns : goal.returns
-returns c = all_asked _ c.loop-r-test.false c.loop-r.invariant.0 c.loop-r.invariant.1
+pub loop-number-preserved : goal.loop-number-preserved
+loop-number-preserved c =
+    let w = length-take-le c.args.s c.args.numbers.now (omega arith) in
+    let l : c.loop-number.number-index < c.args.s = omega arith in
+    rw (get_or-take c.args.s c.args.numbers.now c.loop-number.number-index 0 l) (one_more _ _ _ c.loop-number.invariant)

@@ -1,12 +1,8 @@
 -- After i turns the first i entries are a piece.
-use Prim.Native.Nat.{◌-◌, ◌≤◌}
-use lib.ListN.{length, take}
+use lib.ListN.{take}
 use Rattle.text.specs.Text.{entries_text}
 use Rattle.text.specs.Written.{Written}
 use Rattle.text.proofs.lines.put_entries.Given as goal
 
-abbrev pub invariant-loop-i : goal.invariant-loop-i
-invariant-loop-i l = Written l.initial.out l.at (entries_text (take l.i l.entries)) l.out l.end × (l.i ≤ length l.entries)
-
-abbrev pub decreases-loop-i : goal.decreases-loop-i
-decreases-loop-i l = length l.entries - l.i
+abbrev pub invariant-loop-entry : goal.invariant-loop-entry
+invariant-loop-entry l = Written l.initial.out l.at (entries_text (take l.entry-index l.entries)) l.out l.end

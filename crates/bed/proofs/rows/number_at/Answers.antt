@@ -1,8 +1,0 @@
--- Past the end there is no number.
-use mathlib.Core.Path.{sym}
-use lib.ListN.{get_or-eq_default}
-use Rattle.bed.proofs.rows.number_at.Goals as goal
-
-pub returns : goal.returns
-returns c =
-    sym (get_or-eq_default c.args.numbers.now 0 c.if-at-numbers.false)
