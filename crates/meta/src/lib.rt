@@ -10,7 +10,7 @@ ghost use Rattle.std.specs.Prelude.{◌≡◌};
 ghost use Rattle.meta.specs.Meta.{blank_of, combine_fault, combined_of};
 ghost use Rattle.meta.specs.Promises.{NewPromise, NewBlankPromise, CombinePromise};
 
-use crate::arrays::{added, kept};
+use crate::arrays::{joined_first, left_else_right};
 use crate::checks::{combine_fault, count_fault, new_fault};
 use metrics::refusals::ACCEPTED;
 
@@ -101,15 +101,9 @@ pub(crate) fn both_as_one(left: HaplotypeMeta, right: HaplotypeMeta) -> Haplotyp
     ensures { result ≡ combined_of left right }
 {
     let n = left.samples as usize;
-    let own_coverage = left.coverage;
-    let its_coverage = right.coverage;
-    let own_ps = left.ps;
-    let its_ps = right.ps;
-    let own_hp = left.hp;
-    let its_hp = right.hp;
-    let coverage = added(n, own_coverage, its_coverage);
-    let ps = kept(n, own_ps, its_ps);
-    let hp = kept(n, own_hp, its_hp);
+    let coverage = joined_first(n, left.coverage, right.coverage, |x, y| x + y);
+    let ps = joined_first(n, left.ps, right.ps, left_else_right);
+    let hp = joined_first(n, left.hp, right.hp, left_else_right);
     HaplotypeMeta {
         id: left.id,
         samples: left.samples,
