@@ -3,14 +3,13 @@ use Prim.Native.Nat.{ℕ, zero, suc, ◌+◌, ◌*◌, ◌%◌, ◌^◌, ◌≤�
 use native.Mathlib.Omega.{arith}
 use mathlib.Core.Path.{◌≡◌, refl, sym, ◌∙◌}
 use mathlib.Core.Bool.{Bool, true, false}
-use mathlib.Core.List.{List, [], ◌∷◌}
-use borrow.Author.Tests.{le-leb, lt-leb, eq-eqb, ne_eqb, leb-true, leb-false}
+use mathlib.Core.List.{List}
+use borrow.Author.Tests.{le-leb, lt-leb, eq-eqb, leb-true, leb-false}
 use lib.Dec.{leb, lit<}
 use lib.Pow.{shl_exact}
 use lib.Bits.{bit_or}
 use native.Mathlib.Nat.{one-mul}
 use Rattle.std.proofs.lemmas.Grind.{common_steps}
-use Rattle.params.specs.Numbers.{rule}
 use Rattle.params.proofs.CheckLaws.{Passed, none_given, or_no}
 use Rattle.meta.specs.Meta.{bad_samples, blank_of, count_fault, new_fault, made_unless, joined_first, left_else_right, sum_passes, combine_rules, combine_fault, combined_of, combined_unless}
 use Rattle.meta.specs.declared.HaplotypeMeta.{HaplotypeMeta}

@@ -66,12 +66,9 @@ pub fn new(sample_idx: u64, num_samples: u64) -> Made
     let mut coverage: [u64; 8] = [0; 8];
     coverage[sample_idx as usize] = 1;
     let meta = HaplotypeMeta {
-        id: 0,
-        samples: num_samples,
         samples_flag: 1 << sample_idx,
         coverage,
-        ps: [0; 8],
-        hp: [0; 8],
+        ..blank(num_samples)
     };
     Made {
         refusal: ACCEPTED,
@@ -105,12 +102,11 @@ pub(crate) fn both_as_one(left: HaplotypeMeta, right: HaplotypeMeta) -> Haplotyp
     let ps = joined_first(n, left.ps, right.ps, left_else_right);
     let hp = joined_first(n, left.hp, right.hp, left_else_right);
     HaplotypeMeta {
-        id: left.id,
-        samples: left.samples,
         samples_flag: left.samples_flag | right.samples_flag,
         coverage,
         ps,
         hp,
+        ..left
     }
 }
 

@@ -1,5 +1,5 @@
 -- What is done and what is left come to the whole list; its words are a whole number of 28. Assumes nothing.
-use Prim.Native.Nat.{◌-◌, ◌*◌, ◌≤◌}
+use Prim.Native.Nat.{◌*◌, ◌≤◌}
 use mathlib.Core.Path.{◌≡◌}
 use lib.ListN.{length}
 use Rattle.meta.specs.Grouping.{all_from, all_made, metas_in}
