@@ -127,24 +127,13 @@ pub fn together(
     Paired::Answer(sheet[64 * i + j] | sheet[64 * j + i])
 }
 
-fn one_if(flag: bool) -> u32
-    ensures { (result ≡ cond flag 1 0) × (result ≤ 1) }
-{
-    if flag { 1 } else { 0 }
-}
-
 // The flags of one row, counted.
 fn count_flags(sheet: &[bool; 4096], row: usize) -> u32
     requires { row < 64 }
     ensures { result ≡ later_of sheet.now row }
 {
-    let mut n: u32 = 0;
-    let mut s: usize = 0;
-    while s < 64 {
-        n += one_if(sheet[64 * row + s]);
-        s += 1;
-    }
-    n
+    let at = 64 * row;
+    sheet[at..at + 64].iter().filter(|flag| **flag).count() as u32
 }
 
 // How many later companions has a row?
