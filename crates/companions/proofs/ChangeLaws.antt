@@ -1,12 +1,12 @@
 -- A row added or taken away: each refusal in its place and nothing changed, or the sheet of the rows then present. Assumes nothing.
-use Prim.Native.Nat.{ℕ, zero, suc, ◌+◌, ◌-◌, ◌≤◌, ◌<◌}
+use Prim.Native.Nat.{ℕ, zero, suc, ◌+◌, ◌-◌, ◌<◌}
 use native.Mathlib.Omega.{arith}
 use mathlib.Core.Path.{◌≡◌, refl, sym, ap, ◌∙◌}
 use mathlib.Core.Bool.{Bool, true, false}
 use mathlib.Core.List.{List, [], ◌∷◌}
-use borrow.Author.Tests.{ltb-false, lt-ltb, le-ltb, lt-leb, le-leb, eq-eqb, ne_eqb}
+use borrow.Author.Tests.{ltb-false, eq-eqb, ne_eqb}
 use lib.Dec.{eqb}
-use lib.ListN.{get_or, set}
+use lib.ListN.{set}
 use lib.Seq.{get_or-set_other}
 use Rattle.params.specs.Numbers.{rule}
 use Rattle.params.proofs.CheckLaws.{Passed, none_given}
@@ -25,35 +25,6 @@ changed fault new old z = rw z
 
 -- ---- adding
 module _ (c : Companions) (start end : ℕ) where
-  pub add_not_its : not_its_sheet c ≡ true → 49 ≡ add_fault c start end
-  unfolding add_fault
-  add_not_its h = rw h
-
-  module _ (own : not_its_sheet c ≡ false) where
-    pub add_full : 64 ≤ c.rows → 5 ≡ add_fault c start end
-    unfolding add_fault
-    add_full h = rw (own, lt-ltb 64 (c.rows + 1) (omega arith))
-
-    module _ (few : c.rows < 64) where
-      pub add_crossed : end < start → 7 ≡ add_fault c start end
-      unfolding add_fault
-      add_crossed h = rw (own, le-ltb 64 (c.rows + 1) (omega arith), lt-ltb end start h)
-
-      module _ (ahead : start ≤ end) where
-        pub add_first : c.rows ≡ 0 → 0 ≡ add_fault c start end
-        unfolding add_fault
-        add_first z = rw (own, le-ltb 64 (c.rows + 1) (omega arith), le-ltb end start ahead, lt-leb 1 c.rows (omega arith))
-
-        pub add_falling : (c.rows ≡ 0 → ⊥) → start < get_or c.starts (c.rows - 1) 0 → 8 ≡ add_fault c start end
-        unfolding add_fault
-        add_falling n h =
-            rw (own, le-ltb 64 (c.rows + 1) (omega arith), le-ltb end start ahead, le-leb 1 c.rows (omega arith), lt-ltb start (get_or c.starts (c.rows - 1) 0) h)
-
-        pub add_behind : (c.rows ≡ 0 → ⊥) → get_or c.starts (c.rows - 1) 0 ≤ start → 0 ≡ add_fault c start end
-        unfolding add_fault
-        add_behind n h =
-            rw (own, le-ltb 64 (c.rows + 1) (omega arith), le-ltb end start ahead, le-leb 1 c.rows (omega arith), le-ltb start (get_or c.starts (c.rows - 1) 0) h)
-
   -- what an accepted row tells
   pub add_passed : add_fault c start end ≡ 0 → Passed (add_rules c start end)
   unfolding add_fault

@@ -31,6 +31,7 @@ pub enum Later {
     Refused(u32),
 }
 
+#[tactic(auto, unfolding(crate::specs::Changes::add_fault))]
 fn add_fault(
     starts: &[u64; 64],
     ends: &[u64; 64],
@@ -51,10 +52,7 @@ fn add_fault(
     if start > end {
         return START_AFTER_END;
     }
-    if n == 0 {
-        return ACCEPTED;
-    }
-    if start < starts[n - 1] {
+    if n > 0 && start < starts[n - 1] {
         return FALLING_START;
     }
     ACCEPTED
@@ -103,6 +101,7 @@ pub fn remove(starts: &[u64; 64], ends: &[u64; 64], sheet: &mut [bool; 4096], ro
 }
 
 // May these two rows stand together, in either order? A row with itself is a no.
+#[tactic(auto, using(crate::proofs::QuestionLaws::rows_few), unfolding(crate::specs::Questions::together_of, crate::specs::Questions::pair_of, crate::specs::Questions::pair_fault))]
 pub fn together(
     starts: &[u64; 64],
     ends: &[u64; 64],
@@ -116,10 +115,7 @@ pub fn together(
     if not_its_sheet(starts, ends, sheet, rows) {
         return Paired::Refused(NOT_ITS_SHEET);
     }
-    if a >= rows {
-        return Paired::Refused(MISSING_ROW);
-    }
-    if b >= rows {
+    if a >= rows || b >= rows {
         return Paired::Refused(MISSING_ROW);
     }
     let i = a as usize;
@@ -137,6 +133,7 @@ fn count_flags(sheet: &[bool; 4096], row: usize) -> u32
 }
 
 // How many later companions has a row?
+#[tactic(auto, using(crate::proofs::QuestionLaws::rows_few), unfolding(crate::specs::Questions::later_in, crate::specs::Questions::later_fault))]
 pub fn count(
     starts: &[u64; 64],
     ends: &[u64; 64],

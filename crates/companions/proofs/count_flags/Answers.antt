@@ -1,5 +1,5 @@
 -- The flags of the row, counted. Assumes nothing.
-use Rattle.std.proofs.Common.{rules, arith, ◌≡◌, ◌+◌, ◌-◌, ◌*◌, ℕ, length, take, drop, ◌∙◌}
+use Rattle.std.proofs.Common.{rules, arith, ◌≡◌, ◌+◌, ◌-◌, ◌*◌, ℕ, take, drop, ◌∙◌}
 use Rattle.std.specs.Prelude.{count_by}
 use Rattle.companions.specs.Questions.{later_of}
 use Rattle.companions.proofs.CountLaws.{count_flags}

@@ -1,5 +1,5 @@
 -- Row by row: the earlier rows passed have no flag with the last one. Assumes nothing.
-use Prim.Native.Nat.{◌+◌, ◌-◌, ◌≤◌}
+use Prim.Native.Nat.{◌+◌}
 use Rattle.companions.specs.Companions.{companion}
 use Rattle.companions.specs.Steps.{Passing}
 use Rattle.companions.proofs.sheet.clear_last.Given as goal

@@ -1,6 +1,5 @@
 -- Row by row: the sheet is that of the rows passed. Assumes nothing.
 use mathlib.Core.Path.{◌≡◌}
-use Prim.Native.Nat.{◌-◌, ◌≤◌}
 use Rattle.companions.specs.Companions.{sheet_of}
 use Rattle.companions.proofs.sheet.fresh.Given as goal
 

@@ -1,5 +1,5 @@
 -- Row by row: the earlier rows passed have their flag with the last one, and the sheet of one row less is that of the others. Assumes nothing.
-use Prim.Native.Nat.{◌+◌, ◌-◌, ◌≤◌}
+use Prim.Native.Nat.{◌+◌}
 use Rattle.companions.specs.Companions.{companion}
 use Rattle.companions.specs.Steps.{Passing}
 use Rattle.companions.proofs.sheet.lay_last.Given as goal
