@@ -50,16 +50,14 @@ fn save_fault(book: &[u8], settings: &[u8; 41]) -> u32
     room_fault(book)
 }
 
+#[tactic(auto, unfolding(crate::specs::Changes::read_fault))]
 fn read_fault(book: &[u8], version: u32) -> u32
     ensures { result ≡ read_fault book.now version }
 {
     if broken(book) {
         return BROKEN_BOOK;
     }
-    if version < 1 {
-        return MISSING_VERSION;
-    }
-    if version as usize > versions(book) {
+    if version < 1 || version as usize > versions(book) {
         return MISSING_VERSION;
     }
     ACCEPTED

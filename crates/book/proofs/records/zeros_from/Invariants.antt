@@ -7,6 +7,3 @@ use Rattle.book.proofs.records.zeros_from.Given as goal
 
 abbrev pub invariant-loop-i : goal.invariant-loop-i
 invariant-loop-i l = all_zero (drop l.i l.book) ≡ all_zero (drop l.at l.book)
-
-abbrev pub decreases-loop-i : goal.decreases-loop-i
-decreases-loop-i l = length l.book - l.i
