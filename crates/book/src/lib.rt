@@ -96,7 +96,7 @@ pub fn read(book: &[u8], version: u32, settings: &mut [u8; 41]) -> u32
         return fault;
     }
     let from = RECORD * (version as usize - 1) + SETTINGS_PLACE;
-    lay(settings, 0, &book[from..from + SETTINGS]);
+    settings.copy_from_slice(&book[from..from + SETTINGS]);
     ACCEPTED
 }
 

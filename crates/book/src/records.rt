@@ -15,7 +15,7 @@ pub(crate) const SETTINGS: usize = 41;
 
 pub(crate) const RECORD: usize = 43;
 
-// How many records begin one behind the other. The last may be cut short.
+// How many records begin one behind the other, each a whole record behind the one before. The last may be cut short.
 pub(crate) fn versions(book: &[u8]) -> usize
     ensures { (result ≡ versions_of book.now) × (43 * result < length book.now + 43) }
 {
@@ -86,6 +86,6 @@ pub(crate) fn record_of(version: usize, settings: &[u8]) -> [u8; 43]
     let mut record = [0u8; 43];
     record[0] = KIND;
     record[1] = version as u8;
-    lay(&mut record, SETTINGS_PLACE, settings);
+    record[SETTINGS_PLACE..].copy_from_slice(settings);
     record
 }
