@@ -5,8 +5,5 @@ use lib.ListN.{length, drop}
 use Rattle.writer.specs.Writing.{any_over}
 use Rattle.writer.proofs.any_over.Given as goal
 
-abbrev pub invariant-loop-i : goal.invariant-loop-i
-invariant-loop-i l = (any_over (drop l.i l.counts) ≡ any_over l.counts) × (l.i ≤ length l.counts)
-
-abbrev pub decreases-loop-i : goal.decreases-loop-i
-decreases-loop-i l = length l.counts - l.i
+abbrev pub invariant-loop-count : goal.invariant-loop-count
+invariant-loop-count l = any_over (drop l.count-index l.counts) ≡ any_over l.counts

@@ -5,8 +5,5 @@ use lib.ListN.{length, drop}
 use Rattle.writer.specs.Writing.{in_order}
 use Rattle.writer.proofs.breaks_agree.Given as goal
 
-abbrev pub invariant-loop-i : goal.invariant-loop-i
-invariant-loop-i l = (in_order l.m l.low (drop l.i l.breaks) ≡ in_order l.m 0 l.breaks) × (l.i ≤ length l.breaks)
-
-abbrev pub decreases-loop-i : goal.decreases-loop-i
-decreases-loop-i l = length l.breaks - l.i
+abbrev pub invariant-loop-place : goal.invariant-loop-place
+invariant-loop-place l = in_order l.m l.low (drop l.place-index l.breaks) ≡ in_order l.m 0 l.breaks
