@@ -4,15 +4,15 @@ use native.Mathlib.Omega.{arith}
 use native.Mathlib.Numerals.{add-one}
 use native.Mathlib.Nat.{add-zero}
 use mathlib.Core.Path.{◌≡◌, refl, sym, ap, ◌∙◌}
-use mathlib.Core.Bool.{Bool, true, false, ◌||◌}
+use mathlib.Core.Bool.{Bool, true, false}
 use mathlib.Core.List.{List, [], ◌∷◌, ◌++◌}
 use mathlib.Core.Logic.{◌⊎◌, inl, inr, ⊎_elim}
 use lib.IntN.{ℤ}
-use lib.Dec.{ltb, leb, eqb}
+use lib.Dec.{leb, eqb}
 use lib.ListN.{length, get_or, take, drop, set, replicate, length-append, length-take, length-replicate, drop_of_length-le}
 use lib.Seq.{sets, slice, drop-cons, drop-drop, get_or-take, get_or-drop, length-slice}
 use mir.Val.{bool_byte}
-use borrow.Author.Tests.{lt-ltb, le-ltb, eq-eqb, ne_eqb, le-leb, lt-leb, leb-true, leb-false}
+use borrow.Author.Tests.{eq-eqb, ne_eqb, le-leb, lt-leb, leb-true, leb-false}
 use Rattle.std.specs.Option.{option_eq}
 use Rattle.std.specs.declared.option.Option.{Option}
 use Rattle.std.specs.declared.option.Option.TheVariants.{None, Some}
@@ -21,28 +21,9 @@ use Rattle.form.specs.Settings40.{flag}
 use Rattle.form.specs.Form.{kind_of, body_len}
 use Rattle.form.specs.Job.{padded, letters_records, records_for, sequence_bytes, part_body}
 use Rattle.form.specs.Lent.{sum}
-use Rattle.writer.specs.Writing.{any_over}
 use Rattle.writer.specs.Steps.{cost_of, total, left_of, Put}
 use Rattle.fields.proofs.FieldLaws.{sets_append, join, join4}
 use Rattle.form.proofs.FormLaws.{split}
-use Rattle.fields.proofs.FieldLaws.{past}
-
--- ---- a count over its limit
-module _ (counts : List ℕ) (i : ℕ) where
-  pub over_done : length counts ≤ i → false ≡ any_over (drop i counts)
-  unfolding any_over
-  over_done h = ap any_over (sym (drop_of_length-le counts {i = i} h))
-
-  module _ (inside : i < length counts) where
-    over_next : any_over (drop i counts) ≡ ltb 131072 (get_or counts i 0) || any_over (drop (suc i) counts)
-    unfolding any_over
-    over_next = ap any_over (drop-cons counts i 0 inside)
-
-    pub over_here : 131072 < get_or counts i 0 → true ≡ any_over (drop i counts)
-    over_here h = sym (over_next ∙ rw (lt-ltb _ _ h))
-
-    pub over_more : get_or counts i 0 ≤ 131072 → any_over (drop (i + 1) counts) ≡ any_over (drop i counts)
-    over_more h = sym (over_next ∙ rw (le-ltb _ _ h, add-one i))
 
 -- ---- costs
 pub cost_letters : (kind n : ℕ) → kind ≡ 4 → n ≡ cost_of kind n
@@ -182,12 +163,6 @@ unfolding padded
 padded_at l j h = get_or-take 16 (l ++ replicate 16 0) j 0 h ∙ zeros_behind l 16 j
 
 module _ (letters : List ℕ) (end : ℕ) where
-  pub letter_there : (i : ℕ) → i < end → get_or letters i 0 ≡ get_or (take end letters) i 0
-  letter_there i h = sym (get_or-take end letters i 0 h)
-
-  pub letter_past : (i : ℕ) → end ≤ i → 0 ≡ get_or (take end letters) i 0
-  letter_past i h = past (take end letters) i 0 (simp length-take (omega arith))
-
   module _ (from at : ℕ) (out : List ℕ) where
     pub pad_start : sets out (at + 0) (drop 0 (padded (slice from end letters))) ≡ sets out at (padded (slice from end letters))
     pad_start = rw (add-zero at)

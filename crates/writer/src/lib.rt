@@ -112,8 +112,7 @@ fn left_after(kind: u8, counts: &[u32], have: usize) -> Option<usize>
 {
     let mut left = have;
     for count in counts {
-        let c = cost(kind, *count);
-        left = left.checked_sub(c)?;
+        left = left.checked_sub(cost(kind, *count))?;
     }
     Some(left)
 }
@@ -131,8 +130,8 @@ fn breaks_agree(m: usize, breaks: &[u64]) -> bool
     ensures { result ≡ in_order m 0 breaks.now }
 {
     let mut low = 0usize;
-    for place in breaks {
-        let b = *place as usize;
+    for parts_before in breaks {
+        let b = *parts_before as usize;
         if b < low {
             return false;
         }
@@ -145,7 +144,13 @@ fn breaks_agree(m: usize, breaks: &[u64]) -> bool
 }
 
 // What is left of the room behind the settings, the variants, the parts, the haplotypes' own records and the end.
-fn spare(edition: Edition, counts: &[u32], parts: &[u32], breaks: usize, room: usize) -> Option<usize>
+fn spare(
+    edition: Edition,
+    counts: &[u32],
+    parts: &[u32],
+    breaks: usize,
+    room: usize,
+) -> Option<usize>
     requires { breaks ≤ most_breaks }
     ensures { result ≡ left_of (settings_size edition + 1 + breaks + (total (variant_kind_by edition) counts.now + total part_kind parts.now)) room }
 {
@@ -158,12 +163,7 @@ fn spare(edition: Edition, counts: &[u32], parts: &[u32], breaks: usize, room: u
 fn any_over(counts: &[u32]) -> bool
     ensures { result ≡ any_over counts.now }
 {
-    for count in counts {
-        if *count > MOST_LETTERS {
-            return true;
-        }
-    }
-    false
+    counts.iter().any(|count| *count > MOST_LETTERS)
 }
 
 fn letter_or_zero(letters: &[u8], i: usize, end: usize) -> u8

@@ -1,7 +1,6 @@
 -- What is left against the rest is what there was against the whole.
 use mathlib.Core.Path.{◌≡◌}
-use Prim.Native.Nat.{◌-◌, ◌≤◌}
-use lib.ListN.{length, drop}
+use lib.ListN.{drop}
 use Rattle.writer.specs.Steps.{left_of, total}
 use Rattle.writer.proofs.left_after.Given as goal
 

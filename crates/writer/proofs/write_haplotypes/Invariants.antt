@@ -1,7 +1,7 @@
 -- The haplotypes written and those still to write are the whole; letters and room suffice for each because they do for the whole.
 use mathlib.Core.Path.{◌≡◌}
 use mathlib.Core.Bool.{true}
-use Prim.Native.Nat.{◌+◌, ◌-◌, ◌≤◌}
+use Prim.Native.Nat.{◌+◌, ◌≤◌}
 use lib.ListN.{length, drop}
 use lib.Seq.{sets}
 use Rattle.form.specs.Lent.{sum}

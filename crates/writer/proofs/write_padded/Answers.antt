@@ -1,7 +1,7 @@
 -- What is stored and what the rest will store is the padded body.
 use native.Mathlib.Omega.{arith}
 use mathlib.Core.Path.{refl, sym, ◌∙◌}
-use Prim.Native.Nat.{◌+◌, zero-le}
+use Prim.Native.Nat.{◌+◌}
 use lib.ListN.{length-set}
 use Rattle.writer.proofs.WriteLaws.{pad_start, pad_more, pad_done}
 use Rattle.writer.proofs.write_padded.Goals as goal

@@ -1,6 +1,6 @@
 -- What is stored and what the rest will store is the padded body.
 use mathlib.Core.Path.{◌≡◌}
-use Prim.Native.Nat.{◌+◌, ◌-◌, ◌≤◌}
+use Prim.Native.Nat.{◌+◌}
 use lib.ListN.{length, drop}
 use lib.Seq.{sets, slice}
 use Rattle.form.specs.Job.{padded}

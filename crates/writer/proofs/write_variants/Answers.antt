@@ -1,7 +1,6 @@
 -- The rows written and those still to write are the whole; letters and room suffice for each because they do for the whole.
 use native.Mathlib.Omega.{arith}
 use mathlib.Core.Path.{refl, ◌∙◌}
-use Prim.Native.Nat.{zero-le}
 use native.Mathlib.Nat.{zero-add}
 use lib.ListN.{length}
 use mir.Syntax.{w32}
