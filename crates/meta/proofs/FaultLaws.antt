@@ -4,7 +4,7 @@ use native.Mathlib.Omega.{arith}
 use mathlib.Core.Path.{◌≡◌, refl, sym, ◌∙◌}
 use mathlib.Core.Bool.{Bool, true, false}
 use mathlib.Core.List.{List}
-use borrow.Author.Tests.{le-leb, lt-leb, eq-eqb, leb-true, leb-false}
+use borrow.Author.Tests.{eq-eqb, leb-true, leb-false}
 use lib.Dec.{leb, lit<}
 use lib.Pow.{shl_exact}
 use lib.Bits.{bit_or}
@@ -19,7 +19,7 @@ use Rattle.meta.specs.declared.Combined.{Combined}
 -- ---- the count
 module _ (n : ℕ) where
   many : 8 < n → bad_samples n ≡ true
-  many h = rw (le-leb 1 n (omega arith), lt-leb n 8 h)
+  many h = grind (arith, common_steps)
 
   pub count_many : 8 < n → 50 ≡ count_fault n
   unfolding count_fault
@@ -100,6 +100,10 @@ module _ (a b : HaplotypeMeta) where
 
   pub combine_within : combine_fault a b ≡ 0 → a.samples ≤ 8
   combine_within z = count_within a.samples (count_fine a.samples (or_no (bad_samples a.samples) (bad_samples b.samples) (combine_passed z).0).0)
+
+  pub combine_equal : combine_fault a b ≡ 0 → a.samples ≡ b.samples
+  unfolding combine_fault
+  combine_equal z = grind (arith, common_steps)
 
   pub combine_fits : combine_fault a b ≡ 0 → sum_passes a.samples a.coverage b.coverage ≡ false
   unfolding combine_fault
