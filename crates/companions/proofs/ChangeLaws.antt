@@ -1,5 +1,5 @@
 -- A row added or taken away: each refusal in its place and nothing changed, or the sheet of the rows then present. Assumes nothing.
-use Prim.Native.Nat.{ℕ, zero, suc, ◌+◌, ◌-◌, ◌<◌}
+use Prim.Native.Nat.{ℕ, zero, suc, ◌+◌, ◌-◌, ◌≤◌, ◌<◌}
 use native.Mathlib.Omega.{arith}
 use mathlib.Core.Path.{◌≡◌, refl, sym, ap, ◌∙◌}
 use mathlib.Core.Bool.{Bool, true, false}
@@ -9,6 +9,7 @@ use lib.Dec.{eqb}
 use lib.ListN.{set}
 use lib.Seq.{get_or-set_other}
 use Rattle.params.specs.Numbers.{rule}
+use Rattle.std.proofs.lemmas.Grind.{common_steps}
 use Rattle.params.proofs.CheckLaws.{Passed, none_given}
 use Rattle.companions.specs.Companions.{Companions, lent_of, sheet_of, not_its_sheet}
 use Rattle.companions.specs.Changes.{add_rules, add_fault, remove_fault, added_to, taken_from, changed_unless}
@@ -25,6 +26,14 @@ changed fault new old z = rw z
 
 -- ---- adding
 module _ (c : Companions) (start end : ℕ) where
+  pub add_own : add_fault c start end ≡ 0 → not_its_sheet c ≡ false
+  unfolding add_fault
+  add_own z = grind (arith, common_steps)
+
+  pub add_ahead : add_fault c start end ≡ 0 → start ≤ end
+  unfolding add_fault
+  add_ahead z = grind (arith, common_steps)
+
   -- what an accepted row tells
   pub add_passed : add_fault c start end ≡ 0 → Passed (add_rules c start end)
   unfolding add_fault
@@ -42,7 +51,7 @@ module _ (starts ends : List ℕ) (sheet : List Bool) (rows start end : ℕ) {f 
 
   -- whatever is laid behind the last row plays no part in the sheet before
   pub add_ready : (x y : ℕ) → sheet ≡ sheet_of (set starts rows x) (set ends rows y) rows
-  add_ready x y = sound_sheet before (add_passed before start end accepted).0
+  add_ready x y = sound_sheet before (add_own before start end accepted)
       ∙ only_present starts ends (set starts rows x) (set ends rows y) rows
       (λ i l. sym (get_or-set_other starts rows i x 0 (λ q. omega arith)))
       (λ i l. sym (get_or-set_other ends rows i y 0 (λ q. omega arith)))
