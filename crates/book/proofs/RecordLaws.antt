@@ -4,16 +4,16 @@ use native.Mathlib.Omega.{arith}
 use native.Mathlib.Numerals.{add-one}
 use mathlib.Core.Path.{◌≡◌, refl, sym, ap, ◌∙◌}
 use mathlib.Core.Bool.{true, false, not, ◌&&◌}
-use mathlib.Core.List.{List, ◌++◌, append-nil}
+use mathlib.Core.List.{List}
 use lib.Dec.{eqb}
-use lib.ListN.{length, get_or, take, drop, set, replicate, length-set, drop_of_length-le, get_or-eq_default}
-use lib.Seq.{drop-cons, take_all, paste, paste-suc}
+use lib.ListN.{length, get_or, drop, drop_of_length-le, get_or-eq_default}
+use lib.Seq.{drop-cons}
 use borrow.Author.Tests.{eq-eqb, ne_eqb, le-leb, lt-leb}
 use Rattle.params.specs.Numbers.{any_below}
 use Rattle.params.proofs.CheckLaws.{any_here}
 use Rattle.form.specs.Form.{all_zero}
 use Rattle.form.specs.Settings41.{settings41_fault}
-use Rattle.book.specs.Book.{book_kind, record_len, place_of, versions_from, versions_of, saved_in, good_record, bad_version, broken, version_record}
+use Rattle.book.specs.Book.{book_kind, record_len, place_of, versions_from, versions_of, saved_in, good_record, bad_version, broken}
 
 -- ---- records counted: those before and those from here on are all
 pub from_none : (book : List ℕ) (i n : ℕ) → get_or book (place_of i) 0 ≡ 0 → versions_from book i n ≡ 0

@@ -1,5 +1,4 @@
 -- Record by record, then what is behind the last. Assumes nothing.
-use Prim.Native.Nat.{◌-◌, ◌≤◌}
 use mathlib.Core.Path.{◌≡◌}
 use mathlib.Core.Bool.{false}
 use Rattle.params.specs.Numbers.{any_below}

@@ -1,7 +1,6 @@
 -- What is left to look at decides, since all before is zero. Assumes nothing.
-use Prim.Native.Nat.{◌-◌}
 use mathlib.Core.Path.{◌≡◌}
-use lib.ListN.{length, drop}
+use lib.ListN.{drop}
 use Rattle.form.specs.Form.{all_zero}
 use Rattle.book.proofs.records.zeros_from.Given as goal
 
