@@ -11,7 +11,8 @@ use Rattle.writer.proofs.write_haplotypes.Goals as goal
 -- the next haplotype's record fits behind the parts
 room : (c : After-write_parts-done) → c.write_parts-done.result.at + 1 ≤ length c.args.out.now
 room c =
-    let t = turn_room _ _ _ _ _ _ _ _ c.requires c.loop-place.a c.loop-place.p c.loop-place.r c.loop-place.place-index c.loop-place.invariant.1 c.loop-place.invariant.2 c.loop-place.invariant.3 c.loop-place-test.true in
+    let t = turn_room _ _ _ _ _ _ _ _ c.requires c.loop-place.a c.loop-place.p c.loop-place.r c.loop-place.place-index
+    c.loop-place.invariant.1 c.loop-place.invariant.2 c.loop-place.invariant.3 c.loop-place-test.true in
     omega (arith, t, c.write_parts-done.ensures.rows.next)
 
 pub loop-place-init : goal.loop-place-init
