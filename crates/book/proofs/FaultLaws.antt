@@ -3,9 +3,9 @@ use Prim.Native.Nat.{ℕ, zero, suc, ◌+◌, ◌-◌, ◌*◌, ◌<◌, ◌≤�
 use native.Mathlib.Omega.{arith}
 use mathlib.Core.Path.{◌≡◌, refl, sym, ap, ◌∙◌}
 use mathlib.Core.Bool.{Bool, true, false, not, ◌&&◌}
-use mathlib.Core.List.{List, [], ◌∷◌, ◌++◌, append-nil}
+use mathlib.Core.List.{List, [], ◌∷◌, ◌++◌}
 use lib.Dec.{leb, eqb}
-use lib.ListN.{length, get_or, take, drop, length-drop, drop_of_length-le}
+use lib.ListN.{length, get_or, take, drop, length-drop}
 use lib.Seq.{length-take-le}
 use borrow.Author.Tests.{leb-true, leb-false, ltb-false, eqb-true, not-false, eq-eqb, le-leb, lt-leb, lt-ltb, le-ltb}
 use Rattle.paths.proofs.BooleanLaws.{and_both}
@@ -237,16 +237,8 @@ module _ (book : List ℕ) (v fault : ℕ) (e : fault ≡ restore_fault book v) 
       (ap (λ (m : ℕ). Version (m + 1)) is ∙ version_case fault _ _ e z, a ∙ laid_record book settings line n long is r' ∙ changed fault _ _ _ e z)
 
 -- settings read: they take the whole of the place that was lent
-pub read_done : (book settings : List ℕ) (v fault : ℕ) → fault ≡ read_fault book v → fault ≡ 0 → length settings ≡ 41
-    → (after : List ℕ)
-    → after ≡ take 0 settings ++ take (43 * (v - 1) + 2 + 41 - (43 * (v - 1) + 2)) (drop (43 * (v - 1) + 2) book)
-    ++ drop (0 + length (take (43 * (v - 1) + 2 + 41 - (43 * (v - 1) + 2)) (drop (43 * (v - 1) + 2) book))) settings
+pub read_done : (book settings : List ℕ) (v fault : ℕ) → fault ≡ read_fault book v → fault ≡ 0 → (after : List ℕ)
+    → after ≡ take (43 * (v - 1) + 2 + 41 - (43 * (v - 1) + 2)) (drop (43 * (v - 1) + 2) book)
     → (0 ≡ read_fault book v) × (after ≡ changed_unless (read_fault book v) (settings_at book v) settings)
 unfolding settings_at
-read_done book settings v fault e z l after a =
-    let whole = (found book v fault e z).whole in
-    let rest : drop (0 + length (saved_in book (place_of (v - 1)))) settings ≡ [] =
-    drop_of_length-le settings {i = 0 + length (saved_in book (place_of (v - 1)))} (rw (long_settings book (place_of (v - 1)) whole) (omega arith)) in
-    let read : after ≡ saved_in book (place_of (v - 1)) ++ drop (0 + length (saved_in book (place_of (v - 1)))) settings =
-    rw (slice_settings book (43 * (v - 1))) at a in
-    (sym z ∙ e, read ∙ ap (λ (r : List ℕ). saved_in book (place_of (v - 1)) ++ r) rest ∙ append-nil _ ∙ changed fault _ _ _ e z)
+read_done book settings v fault e z after a = (sym z ∙ e, a ∙ slice_settings book (43 * (v - 1)) ∙ changed fault _ _ _ e z)

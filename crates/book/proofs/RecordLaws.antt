@@ -1,19 +1,19 @@
--- Records counted one by one, one record test by test, zeros byte by byte, and bytes laid down from a place on. Assumes nothing.
+-- Records counted one by one, one record test by test, and zeros byte by byte. Assumes nothing.
 use Prim.Native.Nat.{ℕ, zero, suc, ◌+◌, ◌-◌, ◌<◌, ◌≤◌}
 use native.Mathlib.Omega.{arith}
 use native.Mathlib.Numerals.{add-one}
 use mathlib.Core.Path.{◌≡◌, refl, sym, ap, ◌∙◌}
 use mathlib.Core.Bool.{true, false, not, ◌&&◌}
-use mathlib.Core.List.{List, ◌++◌, append-nil}
+use mathlib.Core.List.{List}
 use lib.Dec.{eqb}
-use lib.ListN.{length, get_or, take, drop, set, replicate, length-set, drop_of_length-le, get_or-eq_default}
-use lib.Seq.{drop-cons, take_all, paste, paste-suc}
+use lib.ListN.{length, get_or, drop, drop_of_length-le, get_or-eq_default}
+use lib.Seq.{drop-cons}
 use borrow.Author.Tests.{eq-eqb, ne_eqb, le-leb, lt-leb}
 use Rattle.params.specs.Numbers.{any_below}
 use Rattle.params.proofs.CheckLaws.{any_here}
 use Rattle.form.specs.Form.{all_zero}
 use Rattle.form.specs.Settings41.{settings41_fault}
-use Rattle.book.specs.Book.{book_kind, record_len, place_of, versions_from, versions_of, saved_in, good_record, bad_version, broken, version_record}
+use Rattle.book.specs.Book.{book_kind, record_len, place_of, versions_from, versions_of, saved_in, good_record, bad_version, broken}
 
 -- ---- records counted: those before and those from here on are all
 pub from_none : (book : List ℕ) (i n : ℕ) → get_or book (place_of i) 0 ≡ 0 → versions_from book i n ≡ 0
@@ -96,21 +96,3 @@ module _ (book : List ℕ) (n : ℕ) (all : n ≡ versions_of book) where
       let e : i ≡ versions_of book = omega arith in
       let good : any_below (versions_of book) (bad_version book) ≡ false = rw e at none in
       rw (all, good)
-
--- ---- bytes laid down
-pub laid_on : (out at_out : List ℕ) (at : ℕ) (from : List ℕ) {i : ℕ} → i < length from → at + length from ≤ length out → at_out ≡ paste out at from i → length at_out ≡ length out
-    → (set at_out (at + i) (get_or from i 0) ≡ paste out at from (i + 1)) × ((length (set at_out (at + i) (get_or from i 0)) ≡ length out) × (i + 1 ≤ length from))
-laid_on out at_out at from {i} h room e l = (
-  ap (λ (o : List ℕ). set o (at + i) (get_or from i 0)) e ∙ paste-suc out at from i 0 (omega arith) h ∙ ap (λ (n : ℕ). paste out at from n) (sym (add-one i)),
-  (length-set at_out (at + i) (get_or from i 0) ∙ l, omega arith),
-)
-
-pub laid_whole : (out : List ℕ) (at : ℕ) (from : List ℕ) (i : ℕ) → length from ≤ i → i ≤ length from
-    → paste out at from i ≡ take at out ++ from ++ drop (at + length from) out
-laid_whole out at from i h l =
-    let e : i ≡ length from = omega arith in
-    rw (e, take_all (length from) from (omega arith))
-
-pub record_made : (v : ℕ) (settings : List ℕ) → length settings ≡ 41
-    → take 2 (set (set (replicate 43 0) 0 book_kind) 1 v) ++ settings ++ drop (2 + length settings) (set (set (replicate 43 0) 0 book_kind) 1 v) ≡ version_record v settings
-record_made v settings e = rw e (append-nil (version_record v settings))

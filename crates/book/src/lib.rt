@@ -50,16 +50,14 @@ fn save_fault(book: &[u8], settings: &[u8; 41]) -> u32
     room_fault(book)
 }
 
+#[tactic(auto, unfolding(crate::specs::Changes::read_fault))]
 fn read_fault(book: &[u8], version: u32) -> u32
     ensures { result ≡ read_fault book.now version }
 {
     if broken(book) {
         return BROKEN_BOOK;
     }
-    if version < 1 {
-        return MISSING_VERSION;
-    }
-    if version as usize > versions(book) {
+    if version < 1 || version as usize > versions(book) {
         return MISSING_VERSION;
     }
     ACCEPTED
@@ -98,7 +96,7 @@ pub fn read(book: &[u8], version: u32, settings: &mut [u8; 41]) -> u32
         return fault;
     }
     let from = RECORD * (version as usize - 1) + SETTINGS_PLACE;
-    lay(settings, 0, &book[from..from + SETTINGS]);
+    settings.copy_from_slice(&book[from..from + SETTINGS]);
     ACCEPTED
 }
 

@@ -15,7 +15,7 @@ pub(crate) const SETTINGS: usize = 41;
 
 pub(crate) const RECORD: usize = 43;
 
-// How many records begin one behind the other. The last may be cut short.
+// How many records begin one behind the other, each a whole record behind the one before. The last may be cut short.
 pub(crate) fn versions(book: &[u8]) -> usize
     ensures { (result ≡ versions_of book.now) × (43 * result < length book.now + 43) }
 {
@@ -50,12 +50,10 @@ fn good_record(book: &[u8], at: usize, version: usize) -> bool
 fn zeros_from(book: &[u8], at: usize) -> bool
     ensures { result ≡ all_zero (drop at book.now) }
 {
-    let mut i = at;
-    while i < book.len() {
+    for i in at..book.len() {
         if book[i] != 0 {
             return false;
         }
-        i += 1;
     }
     true
 }
@@ -65,12 +63,10 @@ pub(crate) fn broken(book: &[u8]) -> bool
     ensures { result ≡ broken book.now }
 {
     let n = versions(book);
-    let mut i: usize = 0;
-    while i < n {
+    for i in 0..n {
         if !good_record(book, RECORD * i, i + 1) {
             return true;
         }
-        i += 1;
     }
     !zeros_from(book, RECORD * n)
 }
@@ -80,11 +76,7 @@ pub(crate) fn lay(out: &mut [u8], at: usize, from: &[u8])
     requires { at + length from.now ≤ length out.old }
     ensures { out.new ≡ take at out.old ++ from.now ++ drop (at + length from.now) out.old }
 {
-    let mut i: usize = 0;
-    while i < from.len() {
-        out[at + i] = from[i];
-        i += 1;
-    }
+    out[at..at + from.len()].copy_from_slice(from);
 }
 
 pub(crate) fn record_of(version: usize, settings: &[u8]) -> [u8; 43]
@@ -94,6 +86,6 @@ pub(crate) fn record_of(version: usize, settings: &[u8]) -> [u8; 43]
     let mut record = [0u8; 43];
     record[0] = KIND;
     record[1] = version as u8;
-    lay(&mut record, SETTINGS_PLACE, settings);
+    record[SETTINGS_PLACE..].copy_from_slice(settings);
     record
 }

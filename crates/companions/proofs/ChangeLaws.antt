@@ -4,11 +4,12 @@ use native.Mathlib.Omega.{arith}
 use mathlib.Core.Path.{◌≡◌, refl, sym, ap, ◌∙◌}
 use mathlib.Core.Bool.{Bool, true, false}
 use mathlib.Core.List.{List, [], ◌∷◌}
-use borrow.Author.Tests.{ltb-false, lt-ltb, le-ltb, lt-leb, le-leb, eq-eqb, ne_eqb}
+use borrow.Author.Tests.{ltb-false, eq-eqb, ne_eqb}
 use lib.Dec.{eqb}
-use lib.ListN.{get_or, set}
+use lib.ListN.{set}
 use lib.Seq.{get_or-set_other}
 use Rattle.params.specs.Numbers.{rule}
+use Rattle.std.proofs.lemmas.Grind.{common_steps}
 use Rattle.params.proofs.CheckLaws.{Passed, none_given}
 use Rattle.companions.specs.Companions.{Companions, lent_of, sheet_of, not_its_sheet}
 use Rattle.companions.specs.Changes.{add_rules, add_fault, remove_fault, added_to, taken_from, changed_unless}
@@ -25,34 +26,13 @@ changed fault new old z = rw z
 
 -- ---- adding
 module _ (c : Companions) (start end : ℕ) where
-  pub add_not_its : not_its_sheet c ≡ true → 49 ≡ add_fault c start end
+  pub add_own : add_fault c start end ≡ 0 → not_its_sheet c ≡ false
   unfolding add_fault
-  add_not_its h = rw h
+  add_own z = grind (arith, common_steps)
 
-  module _ (own : not_its_sheet c ≡ false) where
-    pub add_full : 64 ≤ c.rows → 5 ≡ add_fault c start end
-    unfolding add_fault
-    add_full h = rw (own, lt-ltb 64 (c.rows + 1) (omega arith))
-
-    module _ (few : c.rows < 64) where
-      pub add_crossed : end < start → 7 ≡ add_fault c start end
-      unfolding add_fault
-      add_crossed h = rw (own, le-ltb 64 (c.rows + 1) (omega arith), lt-ltb end start h)
-
-      module _ (ahead : start ≤ end) where
-        pub add_first : c.rows ≡ 0 → 0 ≡ add_fault c start end
-        unfolding add_fault
-        add_first z = rw (own, le-ltb 64 (c.rows + 1) (omega arith), le-ltb end start ahead, lt-leb 1 c.rows (omega arith))
-
-        pub add_falling : (c.rows ≡ 0 → ⊥) → start < get_or c.starts (c.rows - 1) 0 → 8 ≡ add_fault c start end
-        unfolding add_fault
-        add_falling n h =
-            rw (own, le-ltb 64 (c.rows + 1) (omega arith), le-ltb end start ahead, le-leb 1 c.rows (omega arith), lt-ltb start (get_or c.starts (c.rows - 1) 0) h)
-
-        pub add_behind : (c.rows ≡ 0 → ⊥) → get_or c.starts (c.rows - 1) 0 ≤ start → 0 ≡ add_fault c start end
-        unfolding add_fault
-        add_behind n h =
-            rw (own, le-ltb 64 (c.rows + 1) (omega arith), le-ltb end start ahead, le-leb 1 c.rows (omega arith), le-ltb start (get_or c.starts (c.rows - 1) 0) h)
+  pub add_ahead : add_fault c start end ≡ 0 → start ≤ end
+  unfolding add_fault
+  add_ahead z = grind (arith, common_steps)
 
   -- what an accepted row tells
   pub add_passed : add_fault c start end ≡ 0 → Passed (add_rules c start end)
@@ -71,7 +51,7 @@ module _ (starts ends : List ℕ) (sheet : List Bool) (rows start end : ℕ) {f 
 
   -- whatever is laid behind the last row plays no part in the sheet before
   pub add_ready : (x y : ℕ) → sheet ≡ sheet_of (set starts rows x) (set ends rows y) rows
-  add_ready x y = sound_sheet before (add_passed before start end accepted).0
+  add_ready x y = sound_sheet before (add_own before start end accepted)
       ∙ only_present starts ends (set starts rows x) (set ends rows y) rows
       (λ i l. sym (get_or-set_other starts rows i x 0 (λ q. omega arith)))
       (λ i l. sym (get_or-set_other ends rows i y 0 (λ q. omega arith)))

@@ -1,16 +1,35 @@
--- Numbers that pass a test, counted: one more, by tests that agree, and past the last that passes. Assumes nothing.
+-- Numbers that pass a test, counted: the flags of a list, by tests that agree, and past the last that passes. Assumes nothing.
 use Prim.Native.Nat.{ℕ, zero, suc, ◌+◌, ◌≤◌, ◌<◌}
 use native.Mathlib.Numerals.{add-one}
 use native.Mathlib.Omega.{arith}
-use mathlib.Core.Path.{◌≡◌, refl}
+use mathlib.Core.Path.{◌≡◌, refl, ap, ◌∙◌}
+use mathlib.Core.List.{List}
+use lib.ListN.{length, get_or, take, drop, length-drop}
+use Rattle.std.specs.List.{count_by}
+use Rattle.std.proofs.lemmas.List.Sums.{count_by_more_yes, count_by_more_no}
+use Rattle.std.proofs.lemmas.List.{get_or-drop}
 use mathlib.Core.Bool.{Bool, true, false, cond}
 use borrow.Author.Tests.{leb-true, leb-false}
 use lib.Dec.{leb}
 use Rattle.companions.specs.Questions.{how_many_below}
 
-pub count_on : (test : ℕ → Bool) (s : ℕ) {n k : ℕ} → n ≡ how_many_below s test → k ≡ cond (test s) 1 0 → n + k ≡ how_many_below (s + 1) test
+-- the flags that stand from a place on: one more, and n of them
+flag_counted : (xs : List Bool) (at n : ℕ) → at + n < length xs
+    → count_by (λ x. x) (take (suc n) (drop at xs)) ≡ count_by (λ x. x) (take n (drop at xs)) + cond (get_or xs (at + n) false) 1 0
+flag_counted xs at n h = go (get_or xs (at + n) false) refl
+  where
+    there : n < length (drop at xs)
+    there = omega (arith, length-drop at xs)
+
+    go : (flag : Bool) → get_or xs (at + n) false ≡ flag
+        → count_by (λ x. x) (take (suc n) (drop at xs)) ≡ count_by (λ x. x) (take n (drop at xs)) + cond (get_or xs (at + n) false) 1 0
+    go true e = rw (← add-one n, e) (count_by_more_yes (λ x. x) (drop at xs) n false there (get_or-drop at xs n false ∙ e))
+    go false e = rw (← add-one n, e) (let same = count_by_more_no (λ x. x) (drop at xs) n false there (get_or-drop at xs n false ∙ e) in omega arith)
+
+pub count_flags : (xs : List Bool) (at n : ℕ) → at + n ≤ length xs → count_by (λ x. x) (take n (drop at xs)) ≡ how_many_below n (λ s. get_or xs (at + s) false)
 unfolding how_many_below
-count_on test s e f = rw (add-one s, e, f)
+count_flags xs at zero h = refl
+count_flags xs at (suc n) h = flag_counted xs at n (omega arith) ∙ ap (λ (k : ℕ). k + cond (get_or xs (at + n) false) 1 0) (count_flags xs at n (omega arith))
 
 pub count_same : (f g : ℕ → Bool) (n : ℕ) → ((s : ℕ) → s < n → f s ≡ g s) → how_many_below n f ≡ how_many_below n g
 unfolding how_many_below

@@ -17,7 +17,7 @@ use Rattle.companions.specs.Sheets.{Sound, Places, CompanionsKept}
 use Rattle.companions.proofs.SheetLaws.{sheet_entry, not_later, not_there, there, other_columns, no_rows, only_present}
 use Rattle.companions.proofs.TableLaws.{table_few, table_empty, table_within, table_bounds, sound_table, sound_sheet, sound}
 use Rattle.companions.proofs.CountLaws.{count_same, count_past}
-use Rattle.companions.proofs.ChangeLaws.{add_passed, add_ready, remove_some, remove_passed}
+use Rattle.companions.proofs.ChangeLaws.{add_own, add_ahead, add_passed, add_ready, remove_some, remove_passed}
 use Rattle.companions.proofs.GoodRowsLaws.{bounds_told, bounds_made, good_less, good_more}
 
 or_comm : (a b : Bool) → (a || b) ≡ (b || a)
@@ -80,7 +80,7 @@ begins starts ends = sound (lent_of starts ends (replicate 4096 false) 0) (sym (
 -- ---- adding
 module _ (c : Companions) (start end : ℕ) (z : add_fault c start end ≡ 0) where
   own : Sound c
-  own = (add_passed c start end z).0
+  own = add_own c start end z
 
   room : c.rows < 64
   room = let h = ltb-false 64 (c.rows + 1) (add_passed c start end z).1.0 in omega arith
@@ -107,7 +107,7 @@ module _ (c : Companions) (start end : ℕ) (z : add_fault c start end ≡ 0) wh
       let p = add_passed c start end z in
       let h = room in
       let good = bounds_told c.rows c.starts c.ends (omega (arith, places.0)) (table_bounds c.rows c.starts c.ends (sound_table c own)) in
-      let ahead = ltb-false end start p.1.1.0 in
+      let ahead = add_ahead c start end z in
       let more = good_more c.rows c.starts c.ends start end good (omega (arith, places.0)) (omega (arith, places.1)) ahead (λ some. last some p.1.1.1.0) in
       let size = length-set c.starts c.rows start in
       let bounds = bounds_made (c.rows + 1) (set c.starts c.rows start) (set c.ends c.rows end) (omega (arith, places.0)) more in

@@ -3,16 +3,16 @@
 use Prim.Native.Nat.{ℕ, zero, suc, ◌+◌, ◌*◌, ◌/◌, ◌%◌, ◌≤◌, ◌<◌}
 use native.Mathlib.Omega.{arith}
 use native.Mathlib.Nat.{add-zero}
-use native.Mathlib.Numerals.{add-one}
 use mathlib.Core.Path.{◌≡◌, refl, sym, ap, ◌∙◌}
 use mathlib.Core.Logic.{◌≢◌}
-use mathlib.Core.Bool.{Bool, true, false, not, cond, ◌&&◌}
+use mathlib.Core.Bool.{Bool, true, false, not, beq, ◌&&◌}
 use mathlib.Core.List.{List, [], ◌∷◌}
 use borrow.Author.Count.{below_more}
 use borrow.Author.Tests.{ltb-true, ltb-false, lt-ltb, le-ltb, eqb-true, eqb-false}
 use lib.Dec.{ltb, eqb}
-use lib.ListN.{length, get_or, set, drop, replicate, length-set, length-replicate, get_or-replicate, drop_of_length-le}
-use lib.Seq.{get_or-set_same, get_or-set_other, drop-cons, ext_get_or}
+use lib.ListN.{length, get_or, set, replicate, length-set, length-replicate, get_or-replicate}
+use lib.Pointwise.{pointwise}
+use lib.Seq.{get_or-set_same, get_or-set_other, ext_get_or}
 use Rattle.paths.proofs.BooleanLaws.{clash, and_false}
 use Rattle.companions.specs.Companions.{rows_overlap, companion, flags_from, sheet_by, sheet_flag, sheet_of, same_flags}
 use Rattle.companions.specs.Steps.{Passing}
@@ -184,38 +184,13 @@ same_itself [] = refl
 same_itself (true ∷ a) = same_itself a
 same_itself (false ∷ a) = same_itself a
 
--- the rest is the same exactly where the whole is
-module _ (a b : List Bool) (i : ℕ) (h : i < length a) (k : i < length b) where
-  same_step : {x y : Bool} → get_or a i false ≡ x → get_or b i false ≡ y → same_flags (drop i a) (drop i b) ≡ same_flags (x ∷ drop (suc i) a) (y ∷ drop (suc i) b)
-  same_step e f = rw (drop-cons a i false h, drop-cons b i false k, e, f)
-
-  pub same_on : cond (get_or a i false) (not (get_or b i false)) (get_or b i false) ≡ false → same_flags (drop i a) (drop i b) ≡ same_flags (drop (i + 1) a) (drop (i + 1) b)
-  unfolding same_flags
-  same_on n = rw (add-one i) (go (get_or a i false) refl (get_or b i false) refl)
-    where
-      no : (x y : Bool) → get_or a i false ≡ x → get_or b i false ≡ y → cond x (not y) y ≡ true → ⊥
-      no x y e f h = clash (cond x (not y) y) (rw (e, f) at n) h
-
-      go : (x : Bool) → get_or a i false ≡ x → (y : Bool) → get_or b i false ≡ y → same_flags (drop i a) (drop i b) ≡ same_flags (drop (suc i) a) (drop (suc i) b)
-      go true e true f = same_step e f
-      go true e false f = absurd (no true false e f refl)
-      go false e true f = absurd (no false true e f refl)
-      go false e false f = same_step e f
-
-  pub same_not : cond (get_or a i false) (not (get_or b i false)) (get_or b i false) ≡ true → same_flags (drop i a) (drop i b) ≡ false
-  unfolding same_flags
-  same_not n = go (get_or a i false) refl (get_or b i false) refl
-    where
-      no : (x : Bool) → get_or a i false ≡ x → get_or b i false ≡ x → ⊥
-      no true e f = clash false refl (rw (e, f) at n)
-      no false e f = clash false refl (rw (e, f) at n)
-
-      go : (x : Bool) → get_or a i false ≡ x → (y : Bool) → get_or b i false ≡ y → same_flags (drop i a) (drop i b) ≡ false
-      go true e true f = absurd (no true e f)
-      go true e false f = same_step e f
-      go false e true f = same_step e f
-      go false e false f = absurd (no false e f)
-
-pub same_end : (a b : List Bool) (i : ℕ) → length a ≤ i → length b ≤ i → same_flags (drop i a) (drop i b) ≡ true
+-- flags compared pair by pair
+pub same_pairs : (a b : List Bool) → pointwise beq a b ≡ same_flags a b
 unfolding same_flags
-same_end a b i h l = rw (drop_of_length-le a h, drop_of_length-le b l)
+same_pairs [] [] = refl
+same_pairs [] (y ∷ b) = refl
+same_pairs (x ∷ a) [] = refl
+same_pairs (true ∷ a) (true ∷ b) = same_pairs a b
+same_pairs (true ∷ a) (false ∷ b) = refl
+same_pairs (false ∷ a) (true ∷ b) = refl
+same_pairs (false ∷ a) (false ∷ b) = same_pairs a b

@@ -2,7 +2,7 @@
 ghost use Rattle.std.specs.Prelude.{◌≡◌, length};
 ghost use Rattle.companions.specs.Companions.{lent_of, table_fault, not_its_sheet};
 
-use crate::sheet::{fresh, same_flags};
+use crate::sheet::fresh;
 use metrics::refusals::{ACCEPTED, TOO_MANY};
 use params::checks::count_fault;
 
@@ -33,6 +33,5 @@ pub(crate) fn not_its_sheet(
     if table_fault(starts, ends, n) != ACCEPTED {
         return true;
     }
-    let own = fresh(starts, ends, n);
-    !same_flags(sheet, &own)
+    *sheet != fresh(starts, ends, n)
 }

@@ -31,6 +31,7 @@ pub enum Later {
     Refused(u32),
 }
 
+#[tactic(auto, unfolding(crate::specs::Changes::add_fault))]
 fn add_fault(
     starts: &[u64; 64],
     ends: &[u64; 64],
@@ -51,10 +52,7 @@ fn add_fault(
     if start > end {
         return START_AFTER_END;
     }
-    if n == 0 {
-        return ACCEPTED;
-    }
-    if start < starts[n - 1] {
+    if n > 0 && start < starts[n - 1] {
         return FALLING_START;
     }
     ACCEPTED
@@ -103,6 +101,7 @@ pub fn remove(starts: &[u64; 64], ends: &[u64; 64], sheet: &mut [bool; 4096], ro
 }
 
 // May these two rows stand together, in either order? A row with itself is a no.
+#[tactic(auto, using(crate::proofs::QuestionLaws::rows_few), unfolding(crate::specs::Questions::together_of, crate::specs::Questions::pair_of, crate::specs::Questions::pair_fault))]
 pub fn together(
     starts: &[u64; 64],
     ends: &[u64; 64],
@@ -116,10 +115,7 @@ pub fn together(
     if not_its_sheet(starts, ends, sheet, rows) {
         return Paired::Refused(NOT_ITS_SHEET);
     }
-    if a >= rows {
-        return Paired::Refused(MISSING_ROW);
-    }
-    if b >= rows {
+    if a >= rows || b >= rows {
         return Paired::Refused(MISSING_ROW);
     }
     let i = a as usize;
@@ -127,27 +123,17 @@ pub fn together(
     Paired::Answer(sheet[64 * i + j] | sheet[64 * j + i])
 }
 
-fn one_if(flag: bool) -> u32
-    ensures { (result ≡ cond flag 1 0) × (result ≤ 1) }
-{
-    if flag { 1 } else { 0 }
-}
-
 // The flags of one row, counted.
 fn count_flags(sheet: &[bool; 4096], row: usize) -> u32
     requires { row < 64 }
     ensures { result ≡ later_of sheet.now row }
 {
-    let mut n: u32 = 0;
-    let mut s: usize = 0;
-    while s < 64 {
-        n += one_if(sheet[64 * row + s]);
-        s += 1;
-    }
-    n
+    let at = 64 * row;
+    sheet[at..at + 64].iter().filter(|flag| **flag).count() as u32
 }
 
 // How many later companions has a row?
+#[tactic(auto, using(crate::proofs::QuestionLaws::rows_few), unfolding(crate::specs::Questions::later_in, crate::specs::Questions::later_fault))]
 pub fn count(
     starts: &[u64; 64],
     ends: &[u64; 64],

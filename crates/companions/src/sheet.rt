@@ -1,6 +1,6 @@
-// The sheet: one row's flags laid or cleared, the whole worked out afresh, and two compared.
-ghost use Rattle.std.specs.Prelude.{◌≡◌, cond, not, ◌+◌, ◌<◌, ◌≤◌, length};
-ghost use Rattle.companions.specs.Companions.{sheet_of, same_flags};
+// The sheet: one row's flags laid or cleared, and the whole worked out afresh.
+ghost use Rattle.std.specs.Prelude.{◌≡◌, ◌+◌, ◌<◌, ◌≤◌};
+ghost use Rattle.companions.specs.Companions.{sheet_of};
 
 use metrics::overlaps;
 
@@ -11,10 +11,8 @@ pub(crate) fn lay_last(starts: &[u64; 64], ends: &[u64; 64], last: usize, sheet:
 {
     let start = starts[last];
     let end = ends[last];
-    let mut r: usize = 0;
-    while r < last {
+    for r in 0..last {
         sheet[64 * r + last] = !overlaps(starts[r], ends[r], start, end);
-        r += 1;
     }
 }
 
@@ -28,10 +26,8 @@ pub(crate) fn clear_last(
     requires { (last < 64) × (sheet.old ≡ sheet_of starts.now ends.now (last + 1)) }
     ensures { sheet.new ≡ sheet_of starts.now ends.now last }
 {
-    let mut r: usize = 0;
-    while r < last {
+    for r in 0..last {
         sheet[64 * r + last] = false;
-        r += 1;
     }
 }
 
@@ -41,34 +37,8 @@ pub(crate) fn fresh(starts: &[u64; 64], ends: &[u64; 64], n: usize) -> [bool; 40
     ensures { result ≡ sheet_of starts.now ends.now n }
 {
     let mut sheet = [false; 4096];
-    let mut last: usize = 0;
-    while last < n {
+    for last in 0..n {
         lay_last(starts, ends, last, &mut sheet);
-        last += 1;
     }
     sheet
-}
-
-fn differ(x: bool, y: bool) -> bool
-    ensures { result ≡ cond x (not y) y }
-{
-    if x {
-        return !y;
-    }
-    y
-}
-
-// Whether all flags are the same.
-pub(crate) fn same_flags(a: &[bool], b: &[bool]) -> bool
-    requires { (length a.now ≡ 4096) × (length b.now ≡ 4096) }
-    ensures { result ≡ same_flags a.now b.now }
-{
-    let mut i: usize = 0;
-    while i < 4096 {
-        if differ(a[i], b[i]) {
-            return false;
-        }
-        i += 1;
-    }
-    true
 }

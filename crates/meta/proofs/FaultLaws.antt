@@ -3,13 +3,13 @@ use Prim.Native.Nat.{ℕ, zero, suc, ◌+◌, ◌*◌, ◌%◌, ◌^◌, ◌≤�
 use native.Mathlib.Omega.{arith}
 use mathlib.Core.Path.{◌≡◌, refl, sym, ◌∙◌}
 use mathlib.Core.Bool.{Bool, true, false}
-use mathlib.Core.List.{List, [], ◌∷◌}
-use borrow.Author.Tests.{le-leb, lt-leb, eq-eqb, ne_eqb, leb-true, leb-false}
+use mathlib.Core.List.{List}
+use borrow.Author.Tests.{eq-eqb, leb-true, leb-false}
 use lib.Dec.{leb, lit<}
 use lib.Pow.{shl_exact}
 use lib.Bits.{bit_or}
 use native.Mathlib.Nat.{one-mul}
-use Rattle.params.specs.Numbers.{rule}
+use Rattle.std.proofs.lemmas.Grind.{common_steps}
 use Rattle.params.proofs.CheckLaws.{Passed, none_given, or_no}
 use Rattle.meta.specs.Meta.{bad_samples, blank_of, count_fault, new_fault, made_unless, joined_first, left_else_right, sum_passes, combine_rules, combine_fault, combined_of, combined_unless}
 use Rattle.meta.specs.declared.HaplotypeMeta.{HaplotypeMeta}
@@ -18,26 +18,12 @@ use Rattle.meta.specs.declared.Combined.{Combined}
 
 -- ---- the count
 module _ (n : ℕ) where
-  none : n ≡ 0 → bad_samples n ≡ true
-  none z = rw (lt-leb 1 n (omega arith))
-
   many : 8 < n → bad_samples n ≡ true
-  many h = rw (le-leb 1 n (omega arith), lt-leb n 8 h)
-
-  few : (n ≡ 0 → ⊥) → n ≤ 8 → bad_samples n ≡ false
-  few h l = rw (le-leb 1 n (omega arith), le-leb n 8 l)
-
-  pub count_none : n ≡ 0 → 50 ≡ count_fault n
-  unfolding count_fault
-  count_none z = rw (none z)
+  many h = grind (arith, common_steps)
 
   pub count_many : 8 < n → 50 ≡ count_fault n
   unfolding count_fault
   count_many h = rw (many h)
-
-  pub count_few : (n ≡ 0 → ⊥) → n ≤ 8 → 0 ≡ count_fault n
-  unfolding count_fault
-  count_few h l = rw (few h l)
 
   count_refused : bad_samples n ≡ true → 50 ≡ count_fault n
   unfolding count_fault
@@ -72,29 +58,13 @@ module _ (n : ℕ) where
 
 -- ---- making
 module _ (i n : ℕ) where
-  pub new_count : (count_fault n ≡ 0 → ⊥) → 50 ≡ new_fault i n
-  unfolding new_fault
-  new_count h = rw (count_given n h)
-
-  pub new_index : count_fault n ≡ 0 → n ≤ i → 51 ≡ new_fault i n
-  unfolding new_fault
-  new_index z h = rw (count_passed n z, le-leb n i h)
-
-  pub new_fine : count_fault n ≡ 0 → i < n → 0 ≡ new_fault i n
-  unfolding new_fault
-  new_fine z h = rw (count_passed n z, lt-leb n i h)
-
   pub new_below : new_fault i n ≡ 0 → i < n
   unfolding new_fault
-  new_below z = leb-false n i (none_given (rule 50 (bad_samples n) ∷ (rule 51 (leb n i) ∷ [])) refl z).1.0
+  new_below z = grind (arith, common_steps)
 
   pub new_inside : new_fault i n ≡ 0 → i < 8
   unfolding new_fault
-  new_inside z =
-      let p = none_given (rule 50 (bad_samples n) ∷ (rule 51 (leb n i) ∷ [])) refl z in
-      let few = count_within n (count_fine n p.0) in
-      let under = leb-false n i p.1.0 in
-      omega arith
+  new_inside z = grind (arith, common_steps)
 
 -- the flag of a sample fits, so the shift loses nothing
 pub flag_fits : (i : ℕ) → i < 8 → (1 * 2 ^ i) % 18446744073709551616 ≡ 2 ^ i
@@ -119,14 +89,6 @@ module _ (a b : HaplotypeMeta) where
   combine_right p h = rw (count_passed a.samples p, count_given b.samples h)
 
   module _ (p : count_fault a.samples ≡ 0) (q : count_fault b.samples ≡ 0) where
-    pub combine_unequal : (a.samples ≡ b.samples → ⊥) → 52 ≡ combine_fault a b
-    unfolding combine_fault
-    combine_unequal h = rw (count_passed a.samples p, count_passed b.samples q, ne_eqb a.samples b.samples h)
-
-    pub combine_over : a.samples ≡ b.samples → sum_passes a.samples a.coverage b.coverage ≡ true → 53 ≡ combine_fault a b
-    unfolding combine_fault
-    combine_over e h = rw (count_passed a.samples p, count_passed b.samples q, eq-eqb a.samples b.samples e, h)
-
     pub combine_fine : a.samples ≡ b.samples → sum_passes a.samples a.coverage b.coverage ≡ false → 0 ≡ combine_fault a b
     unfolding combine_fault
     combine_fine e h = rw (count_passed a.samples p, count_passed b.samples q, eq-eqb a.samples b.samples e, h)
@@ -139,8 +101,13 @@ module _ (a b : HaplotypeMeta) where
   pub combine_within : combine_fault a b ≡ 0 → a.samples ≤ 8
   combine_within z = count_within a.samples (count_fine a.samples (or_no (bad_samples a.samples) (bad_samples b.samples) (combine_passed z).0).0)
 
+  pub combine_equal : combine_fault a b ≡ 0 → a.samples ≡ b.samples
+  unfolding combine_fault
+  combine_equal z = grind (arith, common_steps)
+
   pub combine_fits : combine_fault a b ≡ 0 → sum_passes a.samples a.coverage b.coverage ≡ false
-  combine_fits z = (combine_passed z).1.1.0
+  unfolding combine_fault
+  combine_fits z = grind (arith, common_steps)
 
   pub combined_refused : {f : ℕ} (fault : ℕ) → f ≡ fault → (f ≡ 0 → ⊥) → ◌≡◌ {A = Combined} (record { refusal = f; left = a; right = b }) (combined_unless fault a b)
   combined_refused zero e h = absurd (h e)

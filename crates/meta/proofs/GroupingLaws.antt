@@ -5,8 +5,8 @@ use native.Mathlib.Nat.{add_assoc, add-zero, zero-add}
 use mathlib.Core.Path.{◌≡◌, refl, sym, ap, ◌∙◌}
 use mathlib.Core.Bool.{Bool, true, false}
 use mathlib.Core.List.{List}
-use borrow.Author.Tests.{le-ltb, ltb-true, ltb-false, eqb-true, not-false}
-use lib.Dec.{ltb, eqb}
+use borrow.Author.Tests.{le-ltb, ltb-true, ltb-false}
+use lib.Dec.{ltb}
 use lib.ListN.{length, get_or}
 use lib.Bits.{or_zero_l, or_zero_r}
 use Rattle.params.specs.Numbers.{any_below}
@@ -16,7 +16,7 @@ use Rattle.meta.specs.Grouping.{Held, Tidy, Outcome, refused, is, outcome, ◌wi
 use Rattle.meta.specs.declared.HaplotypeMeta.{HaplotypeMeta}
 use Rattle.meta.proofs.OrLaws.{or_either_way}
 use Rattle.meta.proofs.JoinLaws.{sum_fits}
-use Rattle.meta.proofs.FaultLaws.{count_fine, count_passed, count_within, combine_fine, combine_passed}
+use Rattle.meta.proofs.FaultLaws.{count_fine, count_passed, count_within, combine_fine, combine_passed, combine_equal, combine_fits}
 use Rattle.meta.proofs.EntryLaws.{zero_at, joined_at, joined_behind, joined_length, joined_either_way, zeros_right, zeros_left, kept_either_way, kept_zero}
 
 -- ---- when two are accepted
@@ -44,8 +44,8 @@ module _ (a b : HaplotypeMeta) where
   accepted_fit z =
       let p = combine_passed a b z in record {
         counted = (or_no (bad_samples a.samples) (bad_samples b.samples) p.0).0;
-        equal = eqb-true a.samples b.samples (not-false (eqb a.samples b.samples) p.1.0);
-        sums = λ i l. sum_fits a.samples a.coverage b.coverage p.1.1.0 i l;
+        equal = combine_equal a b z;
+        sums = sum_fits a.samples a.coverage b.coverage (combine_fits a b z);
       }
 
   pub with_is : is a with is b ≡ outcome (combine_fault a b) (combined_of a b)

@@ -1,13 +1,16 @@
 -- Entries joined one after the other: after i turns the first i are joined, and the next turn joins the next. Assumes nothing.
-use Prim.Native.Nat.{ℕ, zero, suc, ◌+◌, ◌-◌, ◌≤◌, ◌<◌}
+use Prim.Native.Nat.{ℕ, zero, suc, ◌+◌, ◌≤◌, ◌<◌}
 use native.Mathlib.Omega.{arith}
 use native.Mathlib.Numerals.{add-one}
-use mathlib.Core.Path.{◌≡◌, refl, sym, ap}
-use mathlib.Core.Bool.{Bool, true, false}
+use mathlib.Core.Path.{◌≡◌, refl, ap}
+use mathlib.Core.Bool.{Bool, true, false, not}
 use mathlib.Core.List.{List, [], ◌∷◌}
-use borrow.Author.Tests.{lt-ltb, le-ltb, ltb-true, ltb-false}
+use borrow.Author.Tests.{lt-ltb, le-ltb, ltb-false}
 use lib.Dec.{ltb}
 use lib.ListN.{length, get_or, set}
+use Rattle.std.specs.Option.{is_some, SomeIff}
+use Rattle.std.specs.declared.option.Option.{Option}
+use Rattle.std.specs.declared.option.Option.TheVariants.{None, Some}
 use Rattle.params.proofs.CheckLaws.{any_where}
 use Rattle.meta.specs.Meta.{joined_first, sum_passes}
 
@@ -28,13 +31,12 @@ module _ (f : ℕ → ℕ → ℕ) where
       → set xs i v ≡ joined_first f (i + 1) a b
   joined_more i a b xs h l e w = rw (add-one i, e, w) (joined_suc i a b h l)
 
--- the sum of two entries passes 64 bits exactly where one is more than the other leaves room for
-pub asked_by_room : (x y : ℕ) → y ≤ 18446744073709551615 → ltb (18446744073709551615 - y) x ≡ ltb 18446744073709551615 (x + y)
-asked_by_room x y h = go (ltb (18446744073709551615 - y) x) refl
-  where
-    go : (t : Bool) → ltb (18446744073709551615 - y) x ≡ t → t ≡ ltb 18446744073709551615 (x + y)
-    go true e = let l = ltb-true (18446744073709551615 - y) x e in sym (lt-ltb 18446744073709551615 (x + y) (omega arith))
-    go false e = let l = ltb-false (18446744073709551615 - y) x e in sym (le-ltb 18446744073709551615 (x + y) (omega arith))
+-- a checked sum is absent exactly where it passes 64 bits
+pub absent_sum : (r : Option ℕ) (s : ℕ) (absent : Bool) → SomeIff r (s < 18446744073709551616) s → is_some r ≡ not absent → ltb 18446744073709551615 s ≡ absent
+absent_sum None s true none e = lt-ltb 18446744073709551615 s (omega arith)
+absent_sum None s false none e = cc
+absent_sum (Some x) s true some e = cc
+absent_sum (Some x) s false some e = le-ltb 18446744073709551615 s (omega (arith, some.0))
 
 -- where no sum passes, each fits
 pub sum_fits : (n : ℕ) (a b : List ℕ) → sum_passes n a b ≡ false → (i : ℕ) → i < n → get_or a i 0 + get_or b i 0 ≤ 18446744073709551615

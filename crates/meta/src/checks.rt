@@ -8,18 +8,17 @@ use metrics::refusals::{
     ACCEPTED, BAD_SAMPLES, COVERAGE_OVERFLOW, NO_SUCH_SAMPLE, UNEQUAL_SAMPLES,
 };
 
+#[tactic(auto, unfolding(crate::specs::Meta::count_fault))]
 pub(crate) fn count_fault(samples: u64) -> u32
     ensures { result ≡ count_fault samples }
 {
-    if samples == 0 {
-        return BAD_SAMPLES;
+    match samples {
+        1..=8 => ACCEPTED,
+        _ => BAD_SAMPLES,
     }
-    if samples > 8 {
-        return BAD_SAMPLES;
-    }
-    ACCEPTED
 }
 
+#[tactic(auto, unfolding(crate::specs::Meta::count_fault, crate::specs::Meta::new_fault))]
 pub(crate) fn new_fault(index: u64, samples: u64) -> u32
     ensures { result ≡ new_fault index samples }
 {
@@ -32,21 +31,17 @@ pub(crate) fn new_fault(index: u64, samples: u64) -> u32
     ACCEPTED
 }
 
+#[tactic(auto, unfolding(crate::specs::Meta::count_fault, crate::specs::Meta::combine_fault))]
 pub(crate) fn combine_fault(left: HaplotypeMeta, right: HaplotypeMeta) -> u32
     ensures { result ≡ combine_fault left right }
 {
-    if count_fault(left.samples) != ACCEPTED {
-        return BAD_SAMPLES;
-    }
-    if count_fault(right.samples) != ACCEPTED {
+    if count_fault(left.samples) != ACCEPTED || count_fault(right.samples) != ACCEPTED {
         return BAD_SAMPLES;
     }
     if left.samples != right.samples {
         return UNEQUAL_SAMPLES;
     }
-    let own = left.coverage;
-    let its = right.coverage;
-    if sum_passes(left.samples as usize, &own, &its) {
+    if sum_passes(left.samples as usize, &left.coverage, &right.coverage) {
         return COVERAGE_OVERFLOW;
     }
     ACCEPTED

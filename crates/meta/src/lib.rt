@@ -10,7 +10,7 @@ ghost use Rattle.std.specs.Prelude.{◌≡◌};
 ghost use Rattle.meta.specs.Meta.{blank_of, combine_fault, combined_of};
 ghost use Rattle.meta.specs.Promises.{NewPromise, NewBlankPromise, CombinePromise};
 
-use crate::arrays::{added, kept};
+use crate::arrays::{joined_first, left_else_right};
 use crate::checks::{combine_fault, count_fault, new_fault};
 use metrics::refusals::ACCEPTED;
 
@@ -66,12 +66,9 @@ pub fn new(sample_idx: u64, num_samples: u64) -> Made
     let mut coverage: [u64; 8] = [0; 8];
     coverage[sample_idx as usize] = 1;
     let meta = HaplotypeMeta {
-        id: 0,
-        samples: num_samples,
         samples_flag: 1 << sample_idx,
         coverage,
-        ps: [0; 8],
-        hp: [0; 8],
+        ..blank(num_samples)
     };
     Made {
         refusal: ACCEPTED,
@@ -101,22 +98,15 @@ pub(crate) fn both_as_one(left: HaplotypeMeta, right: HaplotypeMeta) -> Haplotyp
     ensures { result ≡ combined_of left right }
 {
     let n = left.samples as usize;
-    let own_coverage = left.coverage;
-    let its_coverage = right.coverage;
-    let own_ps = left.ps;
-    let its_ps = right.ps;
-    let own_hp = left.hp;
-    let its_hp = right.hp;
-    let coverage = added(n, own_coverage, its_coverage);
-    let ps = kept(n, own_ps, its_ps);
-    let hp = kept(n, own_hp, its_hp);
+    let coverage = joined_first(n, left.coverage, right.coverage, |x, y| x + y);
+    let ps = joined_first(n, left.ps, right.ps, left_else_right);
+    let hp = joined_first(n, left.hp, right.hp, left_else_right);
     HaplotypeMeta {
-        id: left.id,
-        samples: left.samples,
         samples_flag: left.samples_flag | right.samples_flag,
         coverage,
         ps,
         hp,
+        ..left
     }
 }
 

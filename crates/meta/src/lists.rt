@@ -66,12 +66,10 @@ pub fn combine_all(metas: &[u64]) -> Made
     }
     let first = meta_of_slice(&metas[..28]);
     let mut made = alone(first);
-    let mut i: usize = 1;
-    while i < n {
+    for i in 1..n {
         let at = 28 * i;
         let other = meta_of_slice(&metas[at..at + 28]);
         made = next(made, other);
-        i += 1;
     }
     made
 }

@@ -1,31 +1,32 @@
 // The data as 28 words for C and for lists of data: id, samples, flags, 8 coverages, 8 phase sets, 8 tags, and a 0.
-ghost use Rattle.std.specs.Prelude.{◌≡◌, length};
-ghost use Rattle.meta.specs.Words.{meta_of_words};
+ghost use Rattle.std.specs.Prelude.{◌≡◌, ◌+◌, ◌≤◌, length};
+ghost use Rattle.meta.specs.Words.{eight_at, meta_of_words};
 ghost use Rattle.meta.specs.Promises.{MetaOfWordsPromise, WordsOfMetaPromise};
 
 use crate::HaplotypeMeta;
+
+// The eight from a place on.
+fn eight_at(words: &[u64], at: usize) -> [u64; 8]
+    requires { at + 8 ≤ length words.now }
+    ensures { result ≡ eight_at words.now at }
+{
+    let mut eight = [0; 8];
+    eight.copy_from_slice(&words[at..at + 8]);
+    eight
+}
 
 // The last word is not looked at.
 pub(crate) fn meta_of_slice(words: &[u64]) -> HaplotypeMeta
     requires { length words.now ≡ 28 }
     ensures { result ≡ meta_of_words words.now }
 {
-    let coverage = [
-        words[3], words[4], words[5], words[6], words[7], words[8], words[9], words[10],
-    ];
-    let ps = [
-        words[11], words[12], words[13], words[14], words[15], words[16], words[17], words[18],
-    ];
-    let hp = [
-        words[19], words[20], words[21], words[22], words[23], words[24], words[25], words[26],
-    ];
     HaplotypeMeta {
         id: words[0],
         samples: words[1],
         samples_flag: words[2],
-        coverage,
-        ps,
-        hp,
+        coverage: eight_at(words, 3),
+        ps: eight_at(words, 11),
+        hp: eight_at(words, 19),
     }
 }
 
@@ -38,37 +39,10 @@ pub fn meta_of_words(words: &[u64; 28]) -> HaplotypeMeta
 pub fn words_of_meta(meta: HaplotypeMeta) -> [u64; 28]
     ensures { WordsOfMetaPromise meta result }
 {
-    let c = meta.coverage;
-    let p = meta.ps;
-    let h = meta.hp;
-    [
-        meta.id,
-        meta.samples,
-        meta.samples_flag,
-        c[0],
-        c[1],
-        c[2],
-        c[3],
-        c[4],
-        c[5],
-        c[6],
-        c[7],
-        p[0],
-        p[1],
-        p[2],
-        p[3],
-        p[4],
-        p[5],
-        p[6],
-        p[7],
-        h[0],
-        h[1],
-        h[2],
-        h[3],
-        h[4],
-        h[5],
-        h[6],
-        h[7],
-        0,
-    ]
+    let mut words = [0; 28];
+    words[19..27].copy_from_slice(&meta.hp);
+    words[11..19].copy_from_slice(&meta.ps);
+    words[3..11].copy_from_slice(&meta.coverage);
+    words[..3].copy_from_slice(&[meta.id, meta.samples, meta.samples_flag]);
+    words
 }

@@ -10,7 +10,7 @@ use lib.ListN.{length, get_or, drop, length-append, drop_of_length-le}
 use lib.Seq.{sets, slice, drop-cons, sets-eq}
 use borrow.Author.Tests.{lt-ltb, le-ltb, ltb-false, eqb-true, ne_eqb}
 use Rattle.params.specs.declared.Settings.{Settings}
-use Rattle.writer.specs.declared.Left.TheVariants.{Short, Enough}
+use Rattle.std.specs.declared.option.Option.TheVariants.{None, Some}
 use Rattle.writer.specs.declared.Writing.{Writing}
 use Rattle.writer.specs.declared.Writing.TheVariants.{Refused, Wrote}
 use Rattle.fields.specs.Fields.{bytes2, bytes4}
@@ -332,7 +332,7 @@ module _ (e : Edition) (numbers : List ℕ) (s : Settings) (t : Lent) (out : Lis
   write_fault_lem n f some = (sym (rw (sym f, ne_eqb n 0 some)), refl)
 
   module _ (none : 0 ≡ writing_fault e numbers s t) where
-    pub write_short : Short ≡ left_of least (length out) → Answered (Refused 30) out
+    pub write_short : None ≡ left_of least (length out) → Answered (Refused 30) out
     unfolding writing_of out_after
     write_short short =
         let h = short_had _ _ short in
@@ -340,7 +340,7 @@ module _ (e : Edition) (numbers : List ℕ) (s : Settings) (t : Lent) (out : Lis
         let g : length out < length bytes = omega (arith, h, k) in
         (sym (rw (sym none, lt-ltb _ _ g)), refl)
 
-    pub write_fits : {n : ℕ} → Enough n ≡ left_of least (length out) → JobFits e numbers s t (length out)
+    pub write_fits : {n : ℕ} → Some n ≡ left_of least (length out) → JobFits e numbers s t (length out)
     write_fits enough =
         let h = enough_had _ _ _ enough in
         let ok = sound e numbers s t (sym none) in

@@ -4,44 +4,26 @@ use native.Mathlib.Omega.{arith}
 use native.Mathlib.Numerals.{add-one}
 use native.Mathlib.Nat.{add-zero}
 use mathlib.Core.Path.{◌≡◌, refl, sym, ap, ◌∙◌}
-use mathlib.Core.Bool.{Bool, true, false, ◌||◌}
+use mathlib.Core.Bool.{Bool, true, false}
 use mathlib.Core.List.{List, [], ◌∷◌, ◌++◌}
 use mathlib.Core.Logic.{◌⊎◌, inl, inr, ⊎_elim}
 use lib.IntN.{ℤ}
-use lib.Dec.{ltb, leb, eqb}
+use lib.Dec.{leb, eqb}
 use lib.ListN.{length, get_or, take, drop, set, replicate, length-append, length-take, length-replicate, drop_of_length-le}
 use lib.Seq.{sets, slice, drop-cons, drop-drop, get_or-take, get_or-drop, length-slice}
 use mir.Val.{bool_byte}
-use borrow.Author.Tests.{lt-ltb, le-ltb, eq-eqb, ne_eqb, le-leb, lt-leb, leb-true, leb-false}
-use Rattle.writer.specs.declared.Left.{Left}
-use Rattle.writer.specs.declared.Left.TheVariants.{Short, Enough}
+use borrow.Author.Tests.{eq-eqb, ne_eqb, le-leb, lt-leb, leb-true, leb-false}
+use Rattle.std.specs.Option.{option_eq}
+use Rattle.std.specs.declared.option.Option.{Option}
+use Rattle.std.specs.declared.option.Option.TheVariants.{None, Some}
 use Rattle.fields.specs.Fields.{bytes4, word_of}
 use Rattle.form.specs.Settings40.{flag}
 use Rattle.form.specs.Form.{kind_of, body_len}
 use Rattle.form.specs.Job.{padded, letters_records, records_for, sequence_bytes, part_body}
 use Rattle.form.specs.Lent.{sum}
-use Rattle.writer.specs.Writing.{any_over}
 use Rattle.writer.specs.Steps.{cost_of, total, left_of, Put}
 use Rattle.fields.proofs.FieldLaws.{sets_append, join, join4}
 use Rattle.form.proofs.FormLaws.{split}
-use Rattle.fields.proofs.FieldLaws.{past}
-
--- ---- a count over its limit
-module _ (counts : List ℕ) (i : ℕ) where
-  pub over_done : length counts ≤ i → false ≡ any_over (drop i counts)
-  unfolding any_over
-  over_done h = ap any_over (sym (drop_of_length-le counts {i = i} h))
-
-  module _ (inside : i < length counts) where
-    over_next : any_over (drop i counts) ≡ ltb 131072 (get_or counts i 0) || any_over (drop (suc i) counts)
-    unfolding any_over
-    over_next = ap any_over (drop-cons counts i 0 inside)
-
-    pub over_here : 131072 < get_or counts i 0 → true ≡ any_over (drop i counts)
-    over_here h = sym (over_next ∙ rw (lt-ltb _ _ h))
-
-    pub over_more : get_or counts i 0 ≤ 131072 → any_over (drop (i + 1) counts) ≡ any_over (drop i counts)
-    over_more h = sym (over_next ∙ rw (le-ltb _ _ h, add-one i))
 
 -- ---- costs
 pub cost_letters : (kind n : ℕ) → kind ≡ 4 → n ≡ cost_of kind n
@@ -58,7 +40,7 @@ total_letters [] = refl
 total_letters (n ∷ ns) = ap (λ (m : ℕ). n + m) (total_letters ns)
 
 module _ (c r left : ℕ) where
-  pub left_less : left < c → Short ≡ left_of (c + r) left
+  pub left_less : left < c → None ≡ left_of (c + r) left
   unfolding left_of
   left_less h = let g : left < c + r = omega arith in sym (rw (lt-leb _ _ g))
 
@@ -76,7 +58,7 @@ module _ (c r left : ℕ) where
       rw (t, lt-leb _ _ g'))
       (split (leb r (left - c)))
 
-left_zero : (left : ℕ) → Enough left ≡ left_of 0 left
+left_zero : (left : ℕ) → Some left ≡ left_of 0 left
 unfolding left_of
 left_zero left =
     let h : 0 ≤ left = omega arith in
@@ -88,25 +70,25 @@ pub record Had (c have n : ℕ) : Type 0 where
   pub fits : c ≤ have
   pub is : n ≡ have - c
 
-pub enough_had : (c have n : ℕ) → Enough n ≡ left_of c have → Had c have n
+pub enough_had : (c have n : ℕ) → Some n ≡ left_of c have → Had c have n
 unfolding left_of
 enough_had c have n e = ⊎_elim
-    (λ (t : leb c have ≡ true). let w : Enough n ≡ Enough (have - c) = simp t at e in record { fits = leb-true _ _ t; is = cc })
-    (λ (t : leb c have ≡ false). let w : Enough n ≡ Short = simp t at e in let z : ◌≡◌ {A = ℕ} 1 0 = cc in absurd (no z))
+    (λ (t : leb c have ≡ true). let w : Some n ≡ Some (have - c) = simp t at e in record { fits = leb-true _ _ t; is = cc })
+    (λ (t : leb c have ≡ false). let w : Some n ≡ None = simp t at e in let z : ◌≡◌ {A = ℕ} 1 0 = cc in absurd (no z))
     (split (leb c have))
   where
     no : {n : ℕ} → suc n ≡ 0 → ⊥
     no e = omega arith
 
-pub short_had : (c have : ℕ) → Short ≡ left_of c have → have < c
+pub short_had : (c have : ℕ) → None ≡ left_of c have → have < c
 unfolding left_of
 short_had c have e = ⊎_elim
-    (λ (t : leb c have ≡ true). let w : Short ≡ Enough (have - c) = simp t at e in let z : ◌≡◌ {A = ℕ} 1 0 = cc in omega arith)
+    (λ (t : leb c have ≡ true). let w : None ≡ Some (have - c) = simp t at e in let z : ◌≡◌ {A = ℕ} 1 0 = cc in omega arith)
     (λ (t : leb c have ≡ false). leb-false c have t)
     (split (leb c have))
 
 module _ (kind : ℕ) (counts : List ℕ) (i left : ℕ) where
-  pub left_done : length counts ≤ i → Enough left ≡ left_of (total kind (drop i counts)) left
+  pub left_done : length counts ≤ i → Some left ≡ left_of (total kind (drop i counts)) left
   unfolding total
   left_done h = rw (drop_of_length-le counts {i = i} h) (left_zero left)
 
@@ -115,7 +97,7 @@ module _ (kind : ℕ) (counts : List ℕ) (i left : ℕ) where
     unfolding total
     total_next = ap (total kind) (drop-cons counts i 0 inside) ∙ ap (λ (n : ℕ). n + total kind (drop (suc i) counts)) (sym c-is)
 
-    pub left_short : left < c → Short ≡ left_of (total kind (drop i counts)) left
+    pub left_short : left < c → None ≡ left_of (total kind (drop i counts)) left
     left_short h = left_less c (total kind (drop (suc i) counts)) left h ∙ ap (λ (n : ℕ). left_of n left) (sym total_next)
 
     pub left_more : c ≤ left → left_of (total kind (drop (i + 1) counts)) (left - c) ≡ left_of (total kind (drop i counts)) left
@@ -123,18 +105,18 @@ module _ (kind : ℕ) (counts : List ℕ) (i left : ℕ) where
 
 -- ---- two sums against one number
 module _ (xs ys : List ℕ) (have : ℕ) where
-  pub agree_short : Short ≡ left_of (total 4 xs) have → false ≡ eqb (sum xs + sum ys) have
+  pub agree_short : None ≡ left_of (total 4 xs) have → false ≡ eqb (sum xs + sum ys) have
   agree_short e =
       let h = short_had _ _ e in let t = total_letters xs in
       sym (ne_eqb _ _ (λ (g : sum xs + sum ys ≡ have). omega (arith, h, t, g)))
 
-  module _ (n : ℕ) (first : Enough n ≡ left_of (total 4 xs) have) where
-    pub agree_short_2 : Short ≡ left_of (total 4 ys) n → false ≡ eqb (sum xs + sum ys) have
+  module _ (n : ℕ) (first : Some n ≡ left_of (total 4 xs) have) where
+    pub agree_short_2 : None ≡ left_of (total 4 ys) n → false ≡ eqb (sum xs + sum ys) have
     agree_short_2 e =
         let f = enough_had _ _ _ first in let h = short_had _ _ e in let t = total_letters xs in let u = total_letters ys in
         sym (ne_eqb _ _ (λ (g : sum xs + sum ys ≡ have). omega (arith, f.fits, f.is, h, t, u, g)))
 
-    pub agree_enough : (m : ℕ) → Enough m ≡ left_of (total 4 ys) n → eqb m 0 ≡ eqb (sum xs + sum ys) have
+    pub agree_enough : (m : ℕ) → Some m ≡ left_of (total 4 ys) n → eqb m 0 ≡ eqb (sum xs + sum ys) have
     agree_enough m e =
         let f = enough_had _ _ _ first in let h = enough_had _ _ _ e in let t = total_letters xs in let u = total_letters ys in
         ⊎_elim
@@ -146,16 +128,20 @@ module _ (xs ys : List ℕ) (have : ℕ) where
         zero_or zero = inl refl
         zero_or (suc m) = inr (omega arith)
 
+    pub agree_rest : (r : Option ℕ) → r ≡ left_of (total 4 ys) n → option_eq eqb r (Some 0) ≡ eqb (sum xs + sum ys) have
+    agree_rest None e = agree_short_2 e
+    agree_rest (Some m) e = agree_enough m e
+
 -- ---- the room behind variants and parts, and the least that a job takes without them
 module _ (least a b room : ℕ) where
-  pub spare_none : room < least → Short ≡ left_of (least + (a + b)) room
+  pub spare_none : room < least → None ≡ left_of (least + (a + b)) room
   spare_none h = left_less least (a + b) room h
 
   module _ (h : least ≤ room) where
-    pub spare_short : Short ≡ left_of a (room - least) → Short ≡ left_of (least + (a + b)) room
+    pub spare_short : None ≡ left_of a (room - least) → None ≡ left_of (least + (a + b)) room
     spare_short e = left_less a b (room - least) (short_had _ _ e) ∙ left_take least (a + b) room h
 
-    pub spare_enough : (n : ℕ) (r : Left) → Enough n ≡ left_of a (room - least) → r ≡ left_of b n → r ≡ left_of (least + (a + b)) room
+    pub spare_enough : (n : ℕ) (r : Option ℕ) → Some n ≡ left_of a (room - least) → r ≡ left_of b n → r ≡ left_of (least + (a + b)) room
     spare_enough n r e g =
         let f = enough_had _ _ _ e in
         g ∙ ap (left_of b) f.is ∙ left_take a b (room - least) f.fits ∙ left_take least (a + b) room h
@@ -177,12 +163,6 @@ unfolding padded
 padded_at l j h = get_or-take 16 (l ++ replicate 16 0) j 0 h ∙ zeros_behind l 16 j
 
 module _ (letters : List ℕ) (end : ℕ) where
-  pub letter_there : (i : ℕ) → i < end → get_or letters i 0 ≡ get_or (take end letters) i 0
-  letter_there i h = sym (get_or-take end letters i 0 h)
-
-  pub letter_past : (i : ℕ) → end ≤ i → 0 ≡ get_or (take end letters) i 0
-  letter_past i h = past (take end letters) i 0 (simp length-take (omega arith))
-
   module _ (from at : ℕ) (out : List ℕ) where
     pub pad_start : sets out (at + 0) (drop 0 (padded (slice from end letters))) ≡ sets out at (padded (slice from end letters))
     pad_start = rw (add-zero at)

@@ -8,8 +8,8 @@ use Rattle.form.specs.Job.{records_for, variants_bytes, parts_bytes, haplotypes_
 use Rattle.form.specs.declared.records.Edition.{Edition}
 use Rattle.form.specs.Lent.{Lent, sum}
 use Rattle.writer.specs.Writing.{by_edition, variants_from, parts_from, cut_at, in_order, agree, job_from}
-use Rattle.writer.specs.declared.Left.{Left}
-use Rattle.writer.specs.declared.Left.TheVariants.{Short, Enough}
+use Rattle.std.specs.declared.option.Option.{Option}
+use Rattle.std.specs.declared.option.Option.TheVariants.{None, Some}
 
 -- the byte that begins an edition's variant
 abbrev pub variant_kind_by : Edition → ℕ
@@ -35,8 +35,8 @@ total kind [] = 0
 total kind (n ∷ ns) = cost_of kind n + total kind ns
 
 -- what is left of some room
-unfoldable pub left_of : ℕ → ℕ → Left
-left_of cost have = cond (leb cost have) (Enough (have - cost)) Short
+unfoldable pub left_of : ℕ → ℕ → Option ℕ
+left_of cost have = cond (leb cost have) (Some (have - cost)) None
 
 -- rows that agree, with letters and room enough
 pub record VariantsFit (e : Edition) (numbers starts ends : List ℕ) (sizes : List ℤ) (negatives : List Bool) (counts letters : List ℕ) (at room : ℕ) : Type 0 where

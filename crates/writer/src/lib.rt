@@ -29,13 +29,6 @@ pub enum Writing {
     Wrote(usize),
 }
 
-// What is left of some room, where there is enough.
-#[derive(Clone, Copy)]
-enum Left {
-    Short,
-    Enough(usize),
-}
-
 // How far the writing has come: the next byte, and the next letter.
 #[derive(Clone, Copy)]
 struct Reached {
@@ -89,28 +82,18 @@ fn letters_lost(edition: Edition, letters: u8) -> bool
     }
 }
 
+#[tactic(auto, unfolding(crate::specs::Writing::four_agree))]
 fn rows_agree(n: usize, a: usize, b: usize, c: usize, d: usize) -> bool
     ensures { result ≡ four_agree n a b c d }
 {
-    if a != n {
-        return false;
-    }
-    if b != n {
-        return false;
-    }
-    if c != n {
-        return false;
-    }
-    d == n
+    a == n && b == n && c == n && d == n
 }
 
+#[tactic(auto, unfolding(crate::specs::Writing::two_agree))]
 fn parts_agree(n: usize, a: usize, b: usize) -> bool
     ensures { result ≡ two_agree n a b }
 {
-    if a != n {
-        return false;
-    }
-    b == n
+    a == n && b == n
 }
 
 fn cost(kind: u8, count: u32) -> usize
@@ -124,35 +107,22 @@ fn cost(kind: u8, count: u32) -> usize
 }
 
 // Takes the sequences' costs away one by one: their sum may be past 64 bits.
-fn left_after(kind: u8, counts: &[u32], have: usize) -> Left
+fn left_after(kind: u8, counts: &[u32], have: usize) -> Option<usize>
     ensures { result ≡ left_of (total kind counts.now) have }
 {
     let mut left = have;
-    let mut i = 0usize;
-    while i < counts.len() {
-        let c = cost(kind, counts[i]);
-        if left < c {
-            return Left::Short;
-        }
-        left = left - c;
-        i += 1;
+    for count in counts {
+        left = left.checked_sub(cost(kind, *count))?;
     }
-    Left::Enough(left)
+    Some(left)
 }
 
 fn letters_agree(counts: &[u32], parts: &[u32], have: usize) -> bool
     ensures { result ≡ eqb (sum counts.now + sum parts.now) have }
 {
-    let first = left_after(LETTERS, counts, have);
-    match first {
-        Left::Short => false,
-        Left::Enough(n) => {
-            let second = left_after(LETTERS, parts, n);
-            match second {
-                Left::Short => false,
-                Left::Enough(m) => m == 0,
-            }
-        }
+    match left_after(LETTERS, counts, have) {
+        None => false,
+        Some(n) => left_after(LETTERS, parts, n) == Some(0),
     }
 }
 
@@ -160,9 +130,8 @@ fn breaks_agree(m: usize, breaks: &[u64]) -> bool
     ensures { result ≡ in_order m 0 breaks.now }
 {
     let mut low = 0usize;
-    let mut i = 0usize;
-    while i < breaks.len() {
-        let b = breaks[i] as usize;
+    for parts_before in breaks {
+        let b = *parts_before as usize;
         if b < low {
             return false;
         }
@@ -170,45 +139,38 @@ fn breaks_agree(m: usize, breaks: &[u64]) -> bool
             return false;
         }
         low = b;
-        i += 1;
     }
     true
 }
 
 // What is left of the room behind the settings, the variants, the parts, the haplotypes' own records and the end.
-fn spare(edition: Edition, counts: &[u32], parts: &[u32], breaks: usize, room: usize) -> Left
+fn spare(
+    edition: Edition,
+    counts: &[u32],
+    parts: &[u32],
+    breaks: usize,
+    room: usize,
+) -> Option<usize>
     requires { breaks ≤ most_breaks }
     ensures { result ≡ left_of (settings_size edition + 1 + breaks + (total (variant_kind_by edition) counts.now + total part_kind parts.now)) room }
 {
     let least = settings_size(edition) + 1 + breaks;
-    if room < least {
-        return Left::Short;
-    }
-    let first = left_after(variant_kind(edition), counts, room - least);
-    match first {
-        Left::Short => Left::Short,
-        Left::Enough(n) => left_after(PART, parts, n),
-    }
+    let behind = room.checked_sub(least)?;
+    let n = left_after(variant_kind(edition), counts, behind)?;
+    left_after(PART, parts, n)
 }
 
 fn any_over(counts: &[u32]) -> bool
     ensures { result ≡ any_over counts.now }
 {
-    let mut i = 0usize;
-    while i < counts.len() {
-        if MOST_LETTERS < counts[i] {
-            return true;
-        }
-        i += 1;
-    }
-    false
+    counts.iter().any(|count| *count > MOST_LETTERS)
 }
 
 fn letter_or_zero(letters: &[u8], i: usize, end: usize) -> u8
     requires { end ≤ length letters.now }
     ensures { result ≡ get_or (take end letters.now) i 0 }
 {
-    if i < end { letters[i] } else { 0 }
+    letters[..end].get(i).copied().unwrap_or(0)
 }
 
 // One letters record: the next sixteen, with zeros from `end` on.
@@ -224,10 +186,8 @@ fn write_padded(out: &mut [u8], at: usize, letters: &[u8], from: usize, end: usi
     requires { (end ≤ length letters.now) × ((from < end) × (at + letters_len ≤ length out.old)) }
     ensures { out.new ≡ sets out.old at (padded (slice from end letters.now)) }
 {
-    let mut j = 0usize;
-    while j < LETTERS_BODY {
+    for j in 0..LETTERS_BODY {
         out[at + j] = letter_or_zero(letters, from + j, end);
-        j += 1;
     }
 }
 
@@ -238,6 +198,7 @@ fn write_sequence(out: &mut [u8], at: usize, letters: &[u8], from: usize, end: u
 {
     let mut p = from;
     let mut a = at;
+    // steps by whole records
     while p < end {
         write_letters(out, a, letters, p, end);
         a += LETTERS_RECORD;
@@ -275,7 +236,7 @@ fn write_settings_record(out: &mut [u8], edition: Edition, s: Settings)
 fn number_at(numbers: &[u32], r: usize) -> u32
     ensures { result ≡ get_or numbers.now r 0 }
 {
-    if r < numbers.len() { numbers[r] } else { 0 }
+    numbers.get(r).copied().unwrap_or(0)
 }
 
 fn write_number(out: &mut [u8], at: usize, edition: Edition, number: u32)
@@ -337,8 +298,7 @@ fn write_variants(
     let head = variant_size(edition);
     let mut a = at;
     let mut p = 0usize;
-    let mut r = 0usize;
-    while r < starts.len() {
+    for r in 0..starts.len() {
         let count = counts[r];
         let end = p + count as usize;
         let number = number_at(numbers, r);
@@ -355,7 +315,6 @@ fn write_variants(
         );
         a = write_sequence(out, a + head, letters, p, end);
         p = end;
-        r += 1;
     }
     Reached { at: a, letter: p }
 }
@@ -379,14 +338,12 @@ fn write_parts(
 {
     let mut a = at;
     let mut p = from;
-    let mut r = first;
-    while r < end {
+    for r in first..end {
         let count = counts[r];
         let stop = p + count as usize;
         write_part(out, a, sizes[r], negatives[r], count);
         a = write_sequence(out, a + PART_RECORD, letters, p, stop);
         p = stop;
-        r += 1;
     }
     Reached { at: a, letter: p }
 }
@@ -409,15 +366,13 @@ fn write_haplotypes(
     let mut a = at;
     let mut p = from;
     let mut r = 0usize;
-    let mut h = 0usize;
-    while h < breaks.len() {
-        let end = breaks[h] as usize;
+    for place in breaks {
+        let end = *place as usize;
         let done = write_parts(out, a, sizes, negatives, counts, letters, p, r, end);
         put_u8(out, done.at, NEXT);
         a = done.at + 1;
         p = done.letter;
         r = end;
-        h += 1;
     }
     let last = write_parts(out, a, sizes, negatives, counts, letters, p, r, sizes.len());
     last.at
@@ -582,8 +537,8 @@ fn write_by(
         out.len(),
     );
     match room {
-        Left::Short => Writing::Refused(LITTLE_ROOM),
-        Left::Enough(n) => Writing::Wrote(lay_job(
+        None => Writing::Refused(LITTLE_ROOM),
+        Some(_) => Writing::Wrote(lay_job(
             edition,
             settings,
             numbers,

@@ -26,7 +26,8 @@ overflow_shl-meta c = let h = inside (goal.at.overflow_shl-meta c).Else-refusal-
 pub returns : goal.returns
 returns c =
     let a = c.args in
-    made _ c.new_fault-refusal.ensures c.if-refusal-ne-ACCEPTED.false (ap (λ (flag : ℕ). flagged a.sample_idx a.num_samples flag) (flag_fits _ (inside (goal.at.returns c).Else-refusal-ne-ACCEPTED)))
+    let below = inside (goal.at.returns c).Else-refusal-ne-ACCEPTED in
+    rw c.blank.ensures (made _ c.new_fault-refusal.ensures c.if-refusal-ne-ACCEPTED.false (ap (λ (flag : ℕ). flagged a.sample_idx a.num_samples flag) (flag_fits _ below)))
   where
     flagged : ℕ → ℕ → ℕ → HaplotypeMeta
     flagged i n flag = record { id = 0; samples = n; samples_flag = flag; coverage = set (replicate 8 0) i 1; ps = replicate 8 0; hp = replicate 8 0 }

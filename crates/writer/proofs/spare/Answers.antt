@@ -1,22 +1,12 @@
 -- What every job of so many haplotypes has in its edition, the variants and the parts are taken away one after the other.
 use native.Mathlib.Omega.{arith}
-use mathlib.Core.Path.{◌≡◌, sym, ◌∙◌}
-use Prim.Native.Nat.{◌+◌, ◌-◌, ◌≤◌, ◌<◌}
+use mathlib.Core.Path.{◌≡◌, ◌∙◌}
+use Prim.Native.Nat.{◌+◌, ◌-◌, ◌≤◌}
+use Rattle.std.specs.declared.option.Option.TheVariants.{None, Some}
 use Rattle.writer.specs.Steps.{variant_kind_by, settings_size, total, left_of}
 use Rattle.writer.proofs.EditionLaws.{short_settings}
 use Rattle.writer.proofs.WriteLaws.{spare_none, spare_short, spare_enough}
-use Rattle.writer.proofs.spare.Goals.{After-left_after-first}
 use Rattle.writer.proofs.spare.Goals as goal
-
-least_fits : (c : After-left_after-first) → let a = c.args in settings_size a.edition + 1 + a.breaks ≤ a.room
-least_fits c = omega (arith, c.if-room-least.false, c.settings_size.ensures)
-
--- what is left behind the variants
-variants_left : (c : After-left_after-first) → let a = c.args in c.left_after-first.result ≡ left_of (total (variant_kind_by a.edition) a.counts.now)
-    (a.room - (settings_size a.edition + 1 + a.breaks))
-variants_left c =
-    let a = c.args in
-    c.left_after-first.ensures ∙ (λ i. left_of (total (c.variant_kind.ensures i) a.counts.now) (a.room - (c.settings_size.ensures i + 1 + a.breaks)))
 
 pub overflow_add-least : goal.overflow_add-least
 overflow_add-least c = omega (arith, c.settings_size.ensures, short_settings c.args.edition)
@@ -24,16 +14,24 @@ overflow_add-least c = omega (arith, c.settings_size.ensures, short_settings c.a
 pub overflow_add-least-2 : goal.overflow_add-least-2
 overflow_add-least-2 c = omega (arith, c.settings_size.ensures, short_settings c.args.edition, c.requires)
 
-pub returns-then-room-least : goal.returns-then-room-least
-returns-then-room-least c =
+pub returns-in_err-behind : goal.returns-in_err-behind
+returns-in_err-behind c =
+    let size = c.settings_size.ensures in
+    let short : c.settings_size.result + 1 + c.args.breaks ≤ c.args.room → ⊥ = c.in_err-behind.ensures in
+    c.from_residual.ensures ∙ spare_none _ _ _ _ (omega arith)
+
+pub returns-in_err-n : goal.returns-in_err-n
+returns-in_err-n c =
     let a = c.args in
-    let h : a.room < settings_size a.edition + 1 + a.breaks = omega (arith, c.if-room-least.true, c.settings_size.ensures) in
-    spare_none _ _ _ _ h
+    let enough = c.in_ok-behind.ensures in
+    let least : settings_size a.edition + 1 + a.breaks ≤ a.room = omega (arith, enough.0, c.settings_size.ensures) in
+    let left : None ≡ left_of (total (variant_kind_by a.edition) a.counts.now) (a.room - (settings_size a.edition + 1 + a.breaks)) = cc (c.in_err-n.ensures, enough.1) in
+    c.from_residual-in_err-n.ensures ∙ spare_short _ _ _ _ least left
 
-pub returns-in-Short : goal.returns-in-Short
-returns-in-Short c = spare_short _ _ _ _ (least_fits (goal.at.returns-in-Short c).After-left_after-first) (sym c.in-Short.is ∙ variants_left (goal.at.returns-in-Short c).After-left_after-first)
-
-pub returns-in-Enough : goal.returns-in-Enough
-returns-in-Enough c =
-    spare_enough _ _ _ _ (least_fits (goal.at.returns-in-Enough c).After-left_after-first) _ _ (sym c.in-Enough.is ∙ variants_left (goal.at.returns-in-Enough c).After-left_after-first)
-    c.left_after.ensures
+pub returns : goal.returns
+returns c =
+    let a = c.args in
+    let enough = c.in_ok-behind.ensures in
+    let least : settings_size a.edition + 1 + a.breaks ≤ a.room = omega (arith, enough.0, c.settings_size.ensures) in
+    let left : Some c.in_ok-n.n ≡ left_of (total (variant_kind_by a.edition) a.counts.now) (a.room - (settings_size a.edition + 1 + a.breaks)) = cc (c.in_ok-n.ensures, enough.1) in
+    spare_enough _ _ _ _ least _ _ left c.left_after-2.ensures

@@ -1,6 +1,6 @@
 -- What is stored and what the rest will store is the padded body.
 use mathlib.Core.Path.{◌≡◌}
-use Prim.Native.Nat.{◌+◌, ◌-◌, ◌≤◌}
+use Prim.Native.Nat.{◌+◌}
 use lib.ListN.{length, drop}
 use lib.Seq.{sets, slice}
 use Rattle.form.specs.Job.{padded}
@@ -8,7 +8,4 @@ use Rattle.writer.proofs.write_padded.Given as goal
 
 abbrev pub invariant-loop-j : goal.invariant-loop-j
 invariant-loop-j l =
-    (sets l.out (l.at + l.j) (drop l.j (padded (slice l.from l.end l.letters))) ≡ sets l.initial.out l.at (padded (slice l.from l.end l.letters))) × (l.j ≤ 16) × (length l.out ≡ length l.initial.out)
-
-abbrev pub decreases-loop-j : goal.decreases-loop-j
-decreases-loop-j l = 16 - l.j
+    (sets l.out (l.at + l.j) (drop l.j (padded (slice l.from l.end l.letters))) ≡ sets l.initial.out l.at (padded (slice l.from l.end l.letters))) × (length l.out ≡ length l.initial.out)

@@ -17,7 +17,7 @@ turn c =
     parts_turn _ _ _ _ _ _ _ _ _ c.loop-r.a c.loop-r.p c.loop-r.r c.requires c.loop-r-test.true c.loop-r.invariant.1 c.loop-r.invariant.2
 
 pub loop-r-init : goal.loop-r-init
-loop-r-init c = (refl, refl, c.requires.letters_are, c.requires.first_in, refl)
+loop-r-init c = (refl, refl, c.requires.letters_are, refl)
 
 pub offset_bounds-counts-r : goal.offset_bounds-counts-r
 offset_bounds-counts-r c = omega (arith, c.requires.counts_are)
@@ -41,7 +41,7 @@ pub bounds-negatives-r : goal.bounds-negatives-r
 bounds-negatives-r c = omega (arith, c.requires.negatives_are)
 
 pub write_part-requires : goal.write_part-requires
-write_part-requires c = omega (arith, (turn (goal.at.write_part-requires c).In-loop-r).room_there, c.loop-r.invariant.4)
+write_part-requires c = omega (arith, (turn (goal.at.write_part-requires c).In-loop-r).room_there, c.loop-r.invariant.3)
 
 pub overflow_add-a : goal.overflow_add-a
 overflow_add-a c = omega (arith, (turn (goal.at.overflow_add-a c).In-loop-r).room_there)
@@ -53,15 +53,9 @@ write_sequence-a-requires c = (
     arith,
     (turn (goal.at.write_sequence-a-requires c).In-loop-r).room_again,
     c.write_part.auto.out ∙
-        c.loop-r.invariant.4,
+        c.loop-r.invariant.3,
   ),
 )
-
-pub overflow_add-r : goal.overflow_add-r
-overflow_add-r c = omega arith
-
-pub loop-r-smaller : goal.loop-r-smaller
-loop-r-smaller c = omega (arith, c.loop-r-test.true)
 
 pub loop-r-preserved : goal.loop-r-preserved
 loop-r-preserved c =
@@ -71,16 +65,15 @@ loop-r-preserved c =
       m.0 ∙ c.loop-r.invariant.0,
       m.1 ∙ c.loop-r.invariant.1,
       t.sums_are,
-      omega (arith, c.loop-r-test.true),
-      c.write_sequence-a.auto.out ∙ c.write_part.auto.out ∙ c.loop-r.invariant.4,
+      c.write_sequence-a.auto.out ∙ c.write_part.auto.out ∙ c.loop-r.invariant.3,
     )
 
 pub shape_of-out : goal.shape_of-out
-shape_of-out c = c.loop-r.invariant.4
+shape_of-out c = c.loop-r.invariant.3
 
 pub returns : goal.returns
 returns c =
-    let e : c.loop-r.r ≡ c.args.end = omega (arith, c.loop-r-test.false, c.loop-r.invariant.3) in record {
+    let e : c.loop-r.r ≡ c.args.end = omega (arith, c.loop-r-test.false, c.requires.first_in) in record {
       rows = rows_put (parts_none _ _ _ _ _ c.loop-r.r c.loop-r.p c.loop-r-test.false) refl c.loop-r.invariant.0 c.loop-r.invariant.1;
       letter = ap (λ (r : ℕ). c.loop-r.p + sum (drop r c.args.counts.now)) (sym e) ∙ c.loop-r.invariant.2;
     }

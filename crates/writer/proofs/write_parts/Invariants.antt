@@ -1,6 +1,6 @@
 -- The rows written and those still to write are the whole; letters and room suffice for each because they do for the whole.
 use mathlib.Core.Path.{◌≡◌}
-use Prim.Native.Nat.{◌+◌, ◌-◌, ◌≤◌}
+use Prim.Native.Nat.{◌+◌}
 use lib.ListN.{length, drop}
 use lib.Seq.{sets}
 use Rattle.form.specs.Lent.{sum}
@@ -11,7 +11,4 @@ abbrev pub invariant-loop-r : goal.invariant-loop-r
 invariant-loop-r l =
     (sets l.out l.a (parts_at l.sizes l.negatives l.counts l.letters l.end l.r l.p) ≡ sets l.initial.out l.at (parts_at l.sizes l.negatives l.counts l.letters l.end l.first l.from))
     × (l.a + length (parts_at l.sizes l.negatives l.counts l.letters l.end l.r l.p) ≡ l.at + length (parts_at l.sizes l.negatives l.counts l.letters l.end l.first l.from))
-    × (l.p + sum (drop l.r l.counts) ≡ length l.letters) × (l.r ≤ l.end) × (length l.out ≡ length l.initial.out)
-
-abbrev pub decreases-loop-r : goal.decreases-loop-r
-decreases-loop-r l = l.end - l.r
+    × (l.p + sum (drop l.r l.counts) ≡ length l.letters) × (length l.out ≡ length l.initial.out)

@@ -1,7 +1,6 @@
 -- The rows written and those still to write are the whole; letters and room suffice for each because they do for the whole.
 use native.Mathlib.Omega.{arith}
 use mathlib.Core.Path.{refl, ◌∙◌}
-use Prim.Native.Nat.{zero-le}
 use native.Mathlib.Nat.{zero-add}
 use lib.ListN.{length}
 use mir.Syntax.{w32}
@@ -18,7 +17,7 @@ turn c =
     variants_turn _ _ _ _ _ _ _ _ _ _ c.loop-r.a c.loop-r.p c.loop-r.r _ c.variant_size-head.ensures c.requires c.loop-r-test.true c.loop-r.invariant.1 c.loop-r.invariant.2
 
 pub loop-r-init : goal.loop-r-init
-loop-r-init c = (refl, refl, zero-add _, zero-le, refl)
+loop-r-init c = (refl, refl, zero-add _, refl)
 
 pub offset_bounds-counts-r : goal.offset_bounds-counts-r
 offset_bounds-counts-r c = omega (arith, c.requires.counts_are)
@@ -55,7 +54,7 @@ bounds-negatives-r c = omega (arith, c.requires.negatives_are)
 
 pub write_variant-requires : goal.write_variant-requires
 write_variant-requires c =
-    omega (arith, (turn (goal.at.write_variant-requires c).In-loop-r).room_there, c.variant_size-head.ensures, c.loop-r.invariant.4)
+    omega (arith, (turn (goal.at.write_variant-requires c).In-loop-r).room_there, c.variant_size-head.ensures, c.loop-r.invariant.3)
 
 pub overflow_add-a : goal.overflow_add-a
 overflow_add-a c = omega (arith, (turn (goal.at.overflow_add-a c).In-loop-r).room_there)
@@ -67,15 +66,9 @@ write_sequence-a-requires c = (
     arith,
     (turn (goal.at.write_sequence-a-requires c).In-loop-r).room_again,
     c.write_variant.auto.out ∙
-        c.loop-r.invariant.4,
+        c.loop-r.invariant.3,
   ),
 )
-
-pub overflow_add-r : goal.overflow_add-r
-overflow_add-r c = omega arith
-
-pub loop-r-smaller : goal.loop-r-smaller
-loop-r-smaller c = omega (arith, c.loop-r-test.true)
 
 pub loop-r-preserved : goal.loop-r-preserved
 loop-r-preserved c =
@@ -86,12 +79,11 @@ loop-r-preserved c =
       m.0 ∙ c.loop-r.invariant.0,
       m.1 ∙ c.loop-r.invariant.1,
       t.sums_are,
-      omega (arith, c.loop-r-test.true),
-      c.write_sequence-a.auto.out ∙ c.write_variant.auto.out ∙ c.loop-r.invariant.4,
+      c.write_sequence-a.auto.out ∙ c.write_variant.auto.out ∙ c.loop-r.invariant.3,
     )
 
 pub shape_of-out : goal.shape_of-out
-shape_of-out c = c.loop-r.invariant.4
+shape_of-out c = c.loop-r.invariant.3
 
 pub returns : goal.returns
 returns c =

@@ -1,6 +1,6 @@
 -- The rows written and those still to write are the whole; letters and room suffice for each because they do for the whole.
 use mathlib.Core.Path.{◌≡◌}
-use Prim.Native.Nat.{◌+◌, ◌-◌, ◌≤◌}
+use Prim.Native.Nat.{◌+◌}
 use lib.ListN.{length, drop}
 use lib.Seq.{sets}
 use Rattle.form.specs.Lent.{sum}
@@ -13,7 +13,4 @@ invariant-loop-r l =
     (variants_at l.edition l.numbers l.starts l.ends l.sizes l.negatives l.counts l.letters 0 0))
     × (l.a + length (variants_at l.edition l.numbers l.starts l.ends l.sizes l.negatives l.counts l.letters l.r l.p) ≡ l.at + length
     (variants_at l.edition l.numbers l.starts l.ends l.sizes l.negatives l.counts l.letters 0 0))
-    × (l.p + sum (drop l.r l.counts) ≡ sum l.counts) × (l.r ≤ length l.starts) × (length l.out ≡ length l.initial.out)
-
-abbrev pub decreases-loop-r : goal.decreases-loop-r
-decreases-loop-r l = length l.starts - l.r
+    × (l.p + sum (drop l.r l.counts) ≡ sum l.counts) × (length l.out ≡ length l.initial.out)

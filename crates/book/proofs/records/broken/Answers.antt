@@ -7,13 +7,10 @@ use Rattle.book.proofs.RecordLaws.{bad_found, by_rest}
 use Rattle.book.proofs.records.broken.Goals as goal
 
 pub loop-i-init : goal.loop-i-init
-loop-i-init c = (any_none _, omega arith)
+loop-i-init c = any_none _
 
 pub overflow_mul-i : goal.overflow_mul-i
 overflow_mul-i c = let v = c.versions-n.ensures.1 in omega arith
-
-pub overflow_add-i : goal.overflow_add-i
-overflow_add-i c = omega arith
 
 pub good_record-requires : goal.good_record-requires
 good_record-requires c = let v = c.versions-n.ensures.1 in omega arith
@@ -22,15 +19,9 @@ pub returns-then-not-good_record : goal.returns-then-not-good_record
 returns-then-not-good_record c =
     bad_found _ _ c.versions-n.ensures.0 _ c.loop-i-test.true (sym c.good_record.ensures ∙ c.if-not-good_record.true)
 
-pub overflow_add-i-in-loop-i : goal.overflow_add-i-in-loop-i
-overflow_add-i-in-loop-i c = omega arith
-
-pub loop-i-smaller : goal.loop-i-smaller
-loop-i-smaller c = omega arith
-
 pub loop-i-preserved : goal.loop-i-preserved
 loop-i-preserved c =
-    (any_more _ _ c.loop-i.invariant.0 (ap not (sym c.good_record.ensures ∙ c.if-not-good_record.false)), omega arith)
+    any_more _ _ c.loop-i.invariant (ap not (sym c.good_record.ensures ∙ c.if-not-good_record.false))
 
 pub overflow_mul-n : goal.overflow_mul-n
 overflow_mul-n c = let v = c.versions-n.ensures.1 in omega arith
@@ -38,4 +29,4 @@ overflow_mul-n c = let v = c.versions-n.ensures.1 in omega arith
 pub returns : goal.returns
 returns c =
     ap not c.zeros_from.ensures
-    ∙ by_rest _ _ c.versions-n.ensures.0 _ c.loop-i-test.false c.loop-i.invariant.1 c.loop-i.invariant.0
+    ∙ by_rest _ _ c.versions-n.ensures.0 _ c.loop-i-test.false (omega arith) c.loop-i.invariant

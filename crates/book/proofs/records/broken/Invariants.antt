@@ -1,5 +1,4 @@
 -- Record by record, then what is behind the last. Assumes nothing.
-use Prim.Native.Nat.{◌-◌, ◌≤◌}
 use mathlib.Core.Path.{◌≡◌}
 use mathlib.Core.Bool.{false}
 use Rattle.params.specs.Numbers.{any_below}
@@ -7,7 +6,4 @@ use Rattle.book.specs.Book.{bad_version}
 use Rattle.book.proofs.records.broken.Given as goal
 
 abbrev pub invariant-loop-i : goal.invariant-loop-i
-invariant-loop-i l = (any_below l.i (bad_version l.book) ≡ false) × (l.i ≤ l.n)
-
-abbrev pub decreases-loop-i : goal.decreases-loop-i
-decreases-loop-i l = l.n - l.i
+invariant-loop-i l = any_below l.i (bad_version l.book) ≡ false

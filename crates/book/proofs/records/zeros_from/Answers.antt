@@ -7,17 +7,8 @@ use Rattle.book.proofs.records.zeros_from.Goals as goal
 pub loop-i-init : goal.loop-i-init
 loop-i-init c = refl
 
-pub bounds-book-i : goal.bounds-book-i
-bounds-book-i c = omega arith
-
 pub returns-then-book-i-ne0 : goal.returns-then-book-i-ne0
 returns-then-book-i-ne0 c = zero_broken _ _ c.loop-i-test.true c.if-book-i-ne0.true ∙ c.loop-i.invariant
-
-pub overflow_add-i : goal.overflow_add-i
-overflow_add-i c = omega arith
-
-pub loop-i-smaller : goal.loop-i-smaller
-loop-i-smaller c = omega arith
 
 pub loop-i-preserved : goal.loop-i-preserved
 loop-i-preserved c = zero_more _ _ c.loop-i-test.true (omega arith) ∙ c.loop-i.invariant

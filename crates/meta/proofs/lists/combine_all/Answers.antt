@@ -27,16 +27,16 @@ meta_of_slice-first-requires c = front_length c.args.metas.now c.if-n-eq0.false
 pub loop-i-init : goal.loop-i-init
 loop-i-init c =
     let some = some_words _ c.if-n-eq0.false in
-    (omega arith, (whole_words _, begin _ _ c.if-n-eq0.false c.meta_of_slice-first.ensures c.alone-made.ensures))
+    (whole_words _, begin _ _ c.if-n-eq0.false c.meta_of_slice-first.ensures c.alone-made.ensures)
 
 pub overflow_mul-at : goal.overflow_mul-at
-overflow_mul-at c = let l = c.loop-i in record { fits = omega (arith, l.invariant.1.0) }
+overflow_mul-at c = let l = c.loop-i in record { fits = omega (arith, l.invariant.0) }
 
 pub overflow_add-at : goal.overflow_add-at
-overflow_add-at c = let l = c.loop-i in record { fits = omega (arith, l.invariant.1.0) }
+overflow_add-at c = let l = c.loop-i in record { fits = omega (arith, l.invariant.0) }
 
 pub offset_bounds-metas-at : goal.offset_bounds-metas-at
-offset_bounds-metas-at c = let l = c.loop-i in record { fits = omega (arith, l.invariant.1.0) }
+offset_bounds-metas-at c = let l = c.loop-i in record { fits = omega (arith, l.invariant.0) }
 
 pub slice_bounds-meta_of_slice-count : goal.slice_bounds-meta_of_slice-count
 slice_bounds-meta_of_slice-count c = omega arith
@@ -45,16 +45,16 @@ pub meta_of_slice-other-requires : goal.meta_of_slice-other-requires
 meta_of_slice-other-requires c =
     let l = c.loop-i in
     let w = c.args.metas.now in
-    let h = l.invariant.1.0 in
+    let h = l.invariant.0 in
     part_length w l.i (omega arith)
 
 pub loop-i-preserved : goal.loop-i-preserved
 loop-i-preserved c =
     let l = c.loop-i in
     let k : 28 * l.i + 28 - 28 * l.i ≡ 28 = omega arith in
-    (omega arith, (l.invariant.1.0, on _ _ _ _ l.made c.loop-i-test.true k c.meta_of_slice-other.ensures c.next-made.ensures l.invariant.1.1))
+    (l.invariant.0, on _ _ _ _ l.made c.loop-i-test.true k c.meta_of_slice-other.ensures c.next-made.ensures l.invariant.1)
 
 pub returns : goal.returns
 returns c =
     let l = c.loop-i in
-    even_length _ c.if-metas-ne0.false (end _ _ _ c.loop-i-test.false l.invariant.1.1)
+    even_length _ c.if-metas-ne0.false (end _ _ _ c.loop-i-test.false l.invariant.1)

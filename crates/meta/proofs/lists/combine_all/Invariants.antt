@@ -1,5 +1,5 @@
 -- What is done and what is left come to the whole list; its words are a whole number of 28. Assumes nothing.
-use Prim.Native.Nat.{◌-◌, ◌*◌, ◌≤◌}
+use Prim.Native.Nat.{◌*◌, ◌≤◌}
 use mathlib.Core.Path.{◌≡◌}
 use lib.ListN.{length}
 use Rattle.meta.specs.Grouping.{all_from, all_made, metas_in}
@@ -7,7 +7,4 @@ use Rattle.meta.proofs.WordListLaws.{later}
 use Rattle.meta.proofs.lists.combine_all.Given as goal
 
 abbrev pub invariant-loop-i : goal.invariant-loop-i
-invariant-loop-i l = (l.i ≤ l.n) × ((28 * l.n ≤ length l.metas) × (all_from l.made (later l.metas l.n l.i) ≡ all_made (metas_in l.n l.metas)))
-
-abbrev pub decreases-loop-i : goal.decreases-loop-i
-decreases-loop-i l = l.n - l.i
+invariant-loop-i l = (28 * l.n ≤ length l.metas) × (all_from l.made (later l.metas l.n l.i) ≡ all_made (metas_in l.n l.metas))

@@ -1,9 +1,0 @@
--- 0 is an absent tag. Assumes nothing.
-use borrow.Author.Tests.{eq-eqb, ne_eqb}
-use Rattle.meta.proofs.arrays.left_else_right.Goals as goal
-
-pub returns-then-x-eq0 : goal.returns-then-x-eq0
-returns-then-x-eq0 c = rw (eq-eqb _ 0 c.if-x-eq0.true)
-
-pub returns : goal.returns
-returns c = rw (ne_eqb _ 0 c.if-x-eq0.false)
