@@ -21,7 +21,7 @@ use Rattle.kplib.specs.declared.pathscore.Best.{Best}
 use Rattle.kplib.specs.declared.pathscore.Terms.{Terms}
 use Rattle.kplib.specs.declared.plan.Plan.{Plan}
 use Rattle.kplib.proofs.RowSumLaws.{summable, features_length, features_sum}
-use Rattle.kplib.proofs.VerdictLaws.{chain_as_read, list_as_read, as_read, terms_read, judged_stands, lost, won}
+use Rattle.kplib.proofs.VerdictLaws.{chain_as_read, list_as_read, terms_read, judged_stands, lost, won}
 
 module _ {plan : Plan} {features : List ℤ} {chain : List ℕ} {chainSize : ℤ} {part_features : List ℤ} {code : ℕ} {size : ℤ} {chosen : List ℕ} {scratch : List ℤ}
     {weight : Option ℕ} (y : Attempt plan features chain chainSize part_features code size chosen scratch weight) where
@@ -46,9 +46,6 @@ module _ {plan : Plan} {features : List ℤ} {chain : List ℕ} {chainSize : ℤ
     partial_few = omega (arith, y.planned.few);
   }
 
-  pub may_ok : Testable (to_z w32 (of_z w32 chainSize)) (length chain) (to_z w32 (of_z w32 size)) (code / 65536) (plan.m - code / 65536)
-  may_ok = as_read tests
-
   pub attempt_lost : (floor : Float) (best : Best) {t : Bool}
       → t ≡ may_win plan.s (to_z w32 (of_z w32 chainSize)) (length chain) (to_z w32 (of_z w32 size)) (code / 65536) (plan.m - code / 65536) floor best.scored.score
       → t ≡ false → Ready best.weight scratch (features_of plan.width features chain)
@@ -62,9 +59,6 @@ module _ {plan : Plan} {features : List ℤ} {chain : List ℕ} {chainSize : ℤ
   }
 
   -- ---- the chain's row, and the list's rows
-  pub ready_ok : (Summable (length scratch) features chain) × (Ready weight scratch (features_of (length scratch) features chain))
-  ready_ok = rw y.scratch_is (y.chained, y.ready)
-
   list_sum : Summable width part_features list
   list_sum = summable plan.m width part_features list y.part_rows y.listed.within list_few
 

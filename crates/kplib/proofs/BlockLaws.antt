@@ -2,13 +2,13 @@
 -- the last one the sums are seqsim's own. Assumes nothing.
 use Rattle.std.specs.Prelude.{Option, None}
 use mathlib.Core.Path.{◌≡◌, refl, sym, ap, ◌∙◌}
-use mathlib.Core.Bool.{Bool, true, false, cond}
+use mathlib.Core.Bool.{Bool, true, false}
 use mathlib.Core.List.{List, [], ◌∷◌, ◌++◌}
-use Prim.Native.Nat.{ℕ, zero, suc, ◌+◌, ◌-◌, ◌*◌, ◌≤◌, ◌<◌, min, zero-le}
+use Prim.Native.Nat.{ℕ, zero, suc, ◌+◌, ◌-◌, ◌*◌, ◌≤◌, ◌<◌, min}
 use native.Mathlib.Omega.{arith}
-use lib.Dec.{T, leb}
-use lib.IntN.{ℤ, pos, nat_abs, ◌-ℤ◌}
-use lib.ListN.{length, get_or, take, drop, length-drop, length-append}
+use lib.Dec.{T}
+use lib.IntN.{ℤ, pos, nat_abs}
+use lib.ListN.{length, get_or, take, drop, length-drop}
 use lib.Seq.{drop-drop, length-take-le, take_at}
 use mir.Syntax.{w32}
 use mir.Val.{to_z, of_z}
@@ -20,7 +20,7 @@ use Rattle.metrics.proofs.FloatOrder.{le_lt_trans}
 use Rattle.kplib.specs.Sums.{zeros, features_of}
 use Rattle.kplib.specs.Score.{seqsim_of_rows}
 use Rattle.kplib.specs.Scoring.{Summable, verdict_of, Judgeable, Judged, own, idle, may_score}
-use Rattle.kplib.specs.Blocks.{parts_from, pair_on, sums_on, no_sums, Addable, Passable, Blockable}
+use Rattle.kplib.specs.Blocks.{parts_from, pair_on, sums_on, Addable, Passable, Blockable}
 use Rattle.params.specs.declared.Settings.{Settings}
 use Rattle.kplib.specs.declared.sums.Sums.{Sums}
 use Rattle.kplib.specs.declared.pathscore.Terms.{Terms}
@@ -58,9 +58,6 @@ pub record Passed (m : ℕ) (a b : List ℤ) (i : ℕ) (s : Sums) : Type 0 where
   pub some_d : s.d + sum_d m (drop i a) (drop i b) ≡ sum_d m a b
   pub some_n : s.n + sum_n m (drop i a) (drop i b) ≡ sum_n m a b
 
-pub none_passed : (m : ℕ) (a b : List ℤ) → Passed m a b 0 no_sums
-none_passed m a b = record { inside = zero-le; some_d = omega arith; some_n = omega arith }
-
 pub block_passed : {m : ℕ} {a b : List ℤ} {i e : ℕ} {s r : Sums} → Passed m a b i s → i < e → e ≤ length a
     → r ≡ sums_on m (take (e - i) (drop i a)) (take (e - i) (drop i b)) s → Passed m a b e r
 block_passed {m} {a} {b} {i} {e} {s} {r} w h l t =
@@ -73,17 +70,6 @@ block_passed {m} {a} {b} {i} {e} {s} {r} w h l t =
     }
 
 -- ---- the loop over the entries of two rows, from the sums z on
-part_of : (t : Bool) (v : ℕ) {k : ℕ} → k ≡ cond t v 0 → k ≤ v
-part_of true v e = omega arith
-part_of false v e = omega arith
-
-pub kept_le : (m t v : ℕ) {k : ℕ} → k ≡ cond (leb m t) v 0 → k ≤ v
-kept_le m t v e = part_of (leb m t) v e
-
-pub pair_is : (m : ℕ) (x y : ℤ) (z : Sums) {p q w k l : ℕ} → p ≡ nat_abs x → q ≡ nat_abs y → w ≡ nat_abs (x -ℤ y) → k ≡ cond (leb m (p + q)) (p + q) 0 → l ≡ cond (leb m (p + q)) w 0
-    → ◌≡◌ {A = Sums} (record { d = z.d + k; n = z.n + l }) (pair_on m x y z)
-pair_is m x y z e f g h i = rw (h, i, e, f, g)
-
 pub record Passing (m : ℕ) (a b : List ℤ) (z : Sums) (i : ℕ) (s : Sums) : Type 0 where
   pub some_d : s.d + sum_d m (drop i a) (drop i b) ≡ z.d + sum_d m a b
   pub some_n : s.n + sum_n m (drop i a) (drop i b) ≡ z.n + sum_n m a b
@@ -212,14 +198,8 @@ module _ {z : Sums} {table : List ℤ} {rows : List ℕ} {chainRow : List ℤ} {
     part_is g = parts_are (length chainRow) from table rows (omega (arith, y.some, y.inside)) (sym cleared_long) cleared g
 
   module _ {x : List ℤ} (e : x ≡ take (to - from) (drop from (features_of (length chainRow) table rows))) (rest : List ℤ) where
-    pub front_in : to - from ≤ length (x ++ rest)
-    front_in = omega (arith, length-append x rest, ap length e, part_long)
-
     front_is : take (to - from) (x ++ rest) ≡ part
     front_is = take_at x rest len (ap length e ∙ part_long) ∙ e
-
-    pub front_long : to - from ≡ length (take (to - from) (x ++ rest))
-    front_long = sym (ap length front_is ∙ part_long)
 
     pub rows_pass : Passable z (take (to - from) (drop from chainRow)) (take (to - from) (x ++ rest)) m
     rows_pass = rw front_is (record {

@@ -1,5 +1,4 @@
 -- The loop over the laid lists: the best so far, after the lists that are left, stands for the chain's score. Assumes nothing.
-use Rattle.std.specs.Prelude.{Option}
 use mathlib.Core.Path.{◌≡◌, refl, sym, ap, ◌∙◌, subst}
 use mathlib.Core.List.{List}
 use Prim.Native.Nat.{ℕ, ◌+◌, ◌≤◌, ◌<◌}
@@ -13,7 +12,7 @@ use mir.Syntax.{w32}
 use mir.Val.{to_z, of_z}
 use Rattle.kplib.specs.Sums.{features_of}
 use Rattle.kplib.specs.Score.{start}
-use Rattle.kplib.specs.Scoring.{Ready, StandsFor, same, chain_total, after_code, after_codes, coded_score, Attempt, Attempted, none_tried, Scorable}
+use Rattle.kplib.specs.Scoring.{Ready, StandsFor, same, chain_total, after_code, after_codes, coded_score, Attempted, none_tried, Scorable}
 use Rattle.kplib.specs.declared.pathscore.Scored.{Scored}
 use Rattle.kplib.specs.declared.pathscore.Best.{Best}
 use Rattle.kplib.specs.declared.plan.Plan.{Plan}
@@ -59,20 +58,6 @@ module _ {plan : Plan} {features : List ℤ} {chain : List ℕ} {chainSize : ℤ
   module _ {i : ℕ} (h : i < length codes) where
     s_back : to_z w32 (of_z w32 (get_or sizes i (pos 0))) ≡ get_or sizes i (pos 0)
     s_back = back (get_or sizes i (pos 0)) (omega (arith, (y.coded.each i h).size_small))
-
-    pub attempt : {chosen' : List ℕ} {scratch' : List ℤ} {w : Option ℕ} → length chosen' ≡ length chosen → length scratch' ≡ length scratch
-        → Ready w scratch' (features_of plan.width features chain)
-        → Attempt plan features chain (to_z w32 (of_z w32 chainSize)) part_features (get_or codes i 0) (to_z w32 (of_z w32 (get_or sizes i (pos 0)))) chosen' scratch' w
-    attempt lc ls r = rw (c_back, s_back) (record {
-      planned = y.planned;
-      chained = y.chained;
-      chain_size = y.chain_size;
-      part_rows = y.part_rows;
-      listed = y.coded.each i h;
-      room = omega (arith, y.room, lc);
-      scratch_is = ls ∙ y.scratch_is;
-      ready = r;
-    })
 
     pub one_more : (floor : Float) (best : Best) {r : Best} (scratch' : List ℤ) {scratch'' : List ℤ}
         → Tried plan features chain (to_z w32 (of_z w32 chainSize)) part_features codes sizes floor best scratch' i

@@ -23,7 +23,6 @@ pub mod AttemptLaws
 pub mod ChainScoreLaws
 pub mod AnchorLaws
 pub mod ScoreFloorLaws
-mod ApartLaws
 mod ExtensionLaws
 mod WeighLaws
 mod StepLaws

@@ -6,7 +6,6 @@ use mathlib.Core.Bool.{Bool, true, false, cond, not, ◌&&◌}
 use mathlib.Core.List.{List}
 use Prim.Native.Nat.{ℕ, zero, suc, ◌+◌, ◌-◌, ◌*◌, ◌^◌, ◌≤◌, ◌<◌}
 use native.Mathlib.Omega.{arith}
-use native.Mathlib.Nat.{mul-le-mul_right}
 use native.Mathlib.Numerals.{add-one}
 use borrow.Author.Tests.{lt-ltb, le-ltb}
 use lib.Dec.{eqb}
@@ -24,7 +23,7 @@ use Rattle.kplib.specs.Sums.{zeros, size_of, features_of, Total}
 use Rattle.kplib.specs.Score.{sign, gap_of, score_value, seqsim_of_rows, list_score, greater_of, after_list, start, scores_of}
 use Rattle.kplib.specs.Graph.{node_of}
 use Rattle.kplib.specs.OneToOne.{anchor_total, row_total, node_total, alone_score, row_numbered, is_candidate, latest_of, over_nodes, no_lone, one_to_one}
-use Rattle.kplib.specs.Scoring.{Tables, Summable, Comparable, total, score_alone, best_alone, Matching, Matchable}
+use Rattle.kplib.specs.Scoring.{Tables, Summable, total, score_alone, best_alone, Matching, Matchable}
 use Rattle.params.specs.declared.Settings.{Settings}
 use Rattle.kplib.specs.declared.pathscore.Scored.{Scored}
 use Rattle.kplib.specs.declared.pathscore.Scores.{Scores}
@@ -34,7 +33,7 @@ use Rattle.kplib.specs.declared.plan.Plan.{Plan}
 use Rattle.kplib.proofs.WordLaws.{back}
 use Rattle.kplib.proofs.CodeLaws.{whole_below, whole_length}
 use Rattle.kplib.proofs.SizeSumLaws.{size_le}
-use Rattle.kplib.proofs.RowSumLaws.{summable, features_length, features_sum, zeros_sum, row_fits, row_length, slice_is}
+use Rattle.kplib.proofs.RowSumLaws.{summable, features_length, features_sum, zeros_sum, slice_is}
 use Rattle.kplib.proofs.AnchorLaws.{anchor_seqsim}
 
 -- ---- which way `latest_of` goes
@@ -163,30 +162,8 @@ module _ {plan : Plan} {sizes features wholeRow : List ℤ} (y : Matching plan s
         ∙ sym (nodes_step step best (r + 1) (length sizes - r) (length sizes - (r + 1)) n) ∙ v
 
     -- one row against the whole haplotype
-    pub row_room : (r * plan.width + plan.width ≤ length features) × (length features ≤ 262144)
-    row_room = (
-      omega (arith, row_fits (length sizes) width r h, y.rows.flat),
-      omega (arith, y.rows.flat, mul-le-mul_right width y.rows.few, y.rows.short),
-    )
-
     r_back : to_z w32 (of_z w32 (get_or sizes r (pos 0))) ≡ get_or sizes r (pos 0)
     r_back = back (get_or sizes r (pos 0)) (omega (arith, y.sized.sized r))
-
-    pub row_comparable : Comparable plan.s (to_z w32 (of_z w32 (get_or sizes r (pos 0)))) (take (r * plan.width + plan.width - r * plan.width) (drop (r * plan.width) features)) 1
-        (to_z w32 (of_z w32 plan.target)) wholeRow plan.m 0
-    row_comparable = rw (r_back, t_back, slice_is (r * width) width features) (record {
-      minkfreq = y.planned.minkfreq;
-      widths = row_length width features r row_room.0 ∙ sym y.width_is;
-      chain_row = omega (arith, y.rows.rowed r);
-      list_row = y.whole_sum;
-      tests = record {
-        chain_size = omega (arith, y.sized.sized r);
-        list_size = y.target_small;
-        chain_few = omega arith;
-        list_few = y.planned.few;
-        partial_few = omega arith;
-      };
-    })
 
     pub row_scored : {x none : Scored} {v : Option Scores} → none ≡ start
         → v ≡ list_score plan.s (total (to_z w32 (of_z w32 (get_or sizes r (pos 0)))) (take (r * plan.width + plan.width - r * plan.width) (drop (r * plan.width) features)) 1)

@@ -33,9 +33,6 @@ module _ {c : ℤ} {chainLen : ℕ} {l : ℤ} {listLen partial : ℕ} (y : Testa
   pub list_as_read : to_z w32 (of_z w32 l) ≡ l
   list_as_read = back l (omega (arith, y.list_size))
 
-  pub as_read : Testable (to_z w32 (of_z w32 c)) chainLen (to_z w32 (of_z w32 l)) listLen partial
-  as_read = rw (chain_as_read, list_as_read) y
-
   module _ {a b : ℤ} (f : a ≡ int_signum (to_z w32 (of_z w32 c))) (g : b ≡ int_signum (to_z w32 (of_z w32 l))) where
     alike : of_z w32 a ≡ of_z w32 b → eqb (sign c) (sign l) ≡ true
     alike h = eq-eqb (sign c) (sign l) (same_sign c l (rw chain_as_read at f) (rw list_as_read at g) h)

@@ -37,7 +37,8 @@ key-k-requires c =
 pub loop-r-preserved-then-may-r : goal.loop-r-preserved-then-may-r
 loop-r-preserved-then-may-r c =
     let l = c.loop-r in
-    (omega arith, queueing_row c.requires l.links l.invariant.1 (omega arith) (omega arith) (omega arith) (extending (goal.at.loop-r-preserved-then-may-r c).Then-may-r) c.key-k.ensures c.put_key.ensures)
+    let follows = extending (goal.at.loop-r-preserved-then-may-r c).Then-may-r in
+    (omega arith, queueing_row c.requires l.links l.invariant.1 (omega arith) (omega arith) (omega arith) follows c.key-k.ensures c.put_key.ensures)
 
 pub loop-r-preserved : goal.loop-r-preserved
 loop-r-preserved c =
