@@ -28,7 +28,6 @@ mod ExtensionLaws
 mod WeighLaws
 mod StepLaws
 mod SearchedLaws
-pub mod PlaceLaws
 pub mod FoundLaws
 mod CountedLaws
 pub mod RowChainLaws
