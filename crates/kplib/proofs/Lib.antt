@@ -28,6 +28,7 @@ mod ExtensionLaws
 mod WeighLaws
 mod StepLaws
 mod SearchedLaws
+pub mod PlaceLaws
 pub mod FoundLaws
 mod CountedLaws
 pub mod RowChainLaws
