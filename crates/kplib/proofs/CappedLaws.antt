@@ -134,21 +134,6 @@ module _ {p : ℕ → Bool} {from to : ℕ} {old new : List ℕ} {i end : ℕ} (
     }
 
 -- ---- the walk
-module _ {rows : List ℕ} {from to : ℕ} (h : Counting rows from to) where
-  -- the rows without the first
-  pub next_counting : from < to → {new : List ℕ} → Kept to rows new → Counting new (from + 1) to
-  next_counting l k = record { long = k.long ∙ h.long; small = k.rows; in_order = omega arith; few = omega (arith, h.few); room = omega (arith, h.room) }
-
-  -- those that the first row leaves
-  pub longer_counting : {p : ℕ → Bool} {new : List ℕ} {end : ℕ} → from < to → Narrowed p (from + 1) to rows new end → Counting new to end
-  longer_counting l n = record {
-    long = n.kept.long ∙ h.long;
-    small = n.kept.rows;
-    in_order = n.low;
-    few = omega (arith, n.high, h.few);
-    room = omega (arith, n.high, n.low, h.few, h.room);
-  }
-
 module _ (joins : ℕ → ℕ → Bool) where
   pub none_left : (rows : List ℕ) {from to : ℕ} (cap : ℕ) → to ≤ from → cap ≡ cap - onward joins [] (span_of rows (to - from) from)
   unfolding onward

@@ -26,7 +26,6 @@ use Rattle.kplib.specs.declared.steps.Progress.{Progress}
 use Rattle.params.proofs.CheckLaws.{none_given}
 use Rattle.params.proofs.CheckedLaws.{accepted, queue_suffices}
 use Rattle.params.proofs.AcceptedLaws.{own_fault}
-use Rattle.kplib.proofs.ExtensionLaws.{reverse_length}
 
 pub rows_few : (t : Target) (l : List ℕ) → length (rows_for t l) ≤ length l
 rows_few Nothing l = omega arith
@@ -57,11 +56,6 @@ module _ {s : Settings} {t : Table} {p : Parts} {links : List ℕ} {at : Progres
   unfolding searched
   search_answers rows h k =
       rw (← g.ended.best_is, ← g.ended.count_is, ← g.ended.complete_is) (k ∙ ap (λ (m : ℕ). answer_parts 0 m at.best.scored at.count (eqb at.queued 0)) h.0, h.1)
-
-  pub search_few : {n : ℕ} → n ≡ length found → (n ≤ 64) × (at.count ≤ 4096)
-  search_few e =
-      let c = chain_of links at.best.entry in
-      (omega (arith, e, rows_few at.best.scored.target (reverse c), reverse_length c, g.read.walk.fits), g.read.few)
 
 -- ---- by the checks
 

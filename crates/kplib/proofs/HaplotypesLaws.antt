@@ -142,9 +142,6 @@ module _ {s : Settings} {starts ends : List ℕ} {sizes features : List ℤ} {pa
     pub stretch_length : length stretch_at_lem ≡ v
     stretch_length = let z : i * v + v - i * v ≡ v = omega arith in rw z (lent_length (i * v) v rows rows_room)
 
-    pub words_length : length words_at ≡ 8
-    words_length = let z : i * 8 + 8 - i * 8 ≡ 8 = omega arith in rw z (lent_length (i * 8) 8 reports reports_room)
-
     -- the table is accepted with these slices too
     pub still_accepted : first_fault (call_lent s starts ends sizes features [] [] links keys stretch_at_lem) ≡ 0
     still_accepted = rw (h.links_kept, h.keys_kept, stretch_length ∙ h.v_is) (table_accepted call h.accepted)

@@ -6,9 +6,9 @@ use Prim.Native.Nat.{ℕ, zero, suc, ◌+◌, ◌-◌, ◌*◌, ◌^◌, ◌≤�
 use native.Mathlib.Omega.{arith}
 use native.Mathlib.Nat.{mul-le-mul_right}
 use mathlib.Core.Logic.{◌⊎◌, inl, inr}
-use mathlib.Core.Bool.{Bool, true, false, ◌&&◌}
+use mathlib.Core.Bool.{Bool, true, false}
 use mathlib.Core.List.{List, [], ◌∷◌, ◌++◌, reverse}
-use lib.Dec.{leb, ltb}
+use lib.Dec.{leb, ltb, eqb}
 use lib.IntN.{ℤ}
 use lib.ListN.{length, get_or, drop, drop_of_length-le}
 use lib.Seq.{drop-cons}
@@ -119,28 +119,6 @@ fewest_left m fnmax pileupmax h e = rw (lt-leb pileupmax m h) e
 -- the positions from place i on decide
 pub record Rising (m : ℕ) (positions : List ℕ) (next i : ℕ) : Type 0 where
   pub rest : rises_below m next (drop i positions) ≡ rises_below m 0 positions
-
-pub none_risen : (m : ℕ) (positions : List ℕ) → Rising m positions 0 0
-none_risen m positions = record { rest = refl }
-
-module _ {m next i : ℕ} {positions : List ℕ} (h : Rising m positions next i) where
-  position_first : i < length positions
-      → (leb next (get_or positions i 0) && (ltb (get_or positions i 0) m && rises_below m (suc (get_or positions i 0)) (drop (suc i) positions))) ≡ rises_below m 0 positions
-  position_first k = sym (ap (λ (l : List ℕ). rises_below m next l) (drop-cons positions i 0 k)) ∙ h.rest
-
-  -- a position that is not above the last one, or not below m
-  pub falls : i < length positions → (get_or positions i 0 < next) ⊎ ((next ≤ get_or positions i 0) × (m ≤ get_or positions i 0)) → false ≡ rises_below m 0 positions
-  falls k (inl l) = rw (lt-leb next (get_or positions i 0) l) at (position_first k)
-  falls k (inr l) = rw (le-leb next (get_or positions i 0) l.0, le-ltb (get_or positions i 0) m l.1) at (position_first k)
-
-  pub rises_on : i < length positions → next ≤ get_or positions i 0 → get_or positions i 0 < m → Rising m positions (get_or positions i 0 + 1) (i + 1)
-  rises_on k l n =
-      let a : i + 1 ≡ suc i = omega arith in
-      let b : get_or positions i 0 + 1 ≡ suc (get_or positions i 0) = omega arith in
-      record { rest = rw (a, b) (rw (le-leb next (get_or positions i 0) l, lt-ltb (get_or positions i 0) m n) at (position_first k)) }
-
-  pub rises_all : length positions ≤ i → true ≡ rises_below m 0 positions
-  rises_all k = rw (drop_of_length-le positions k) at h.rest
 
 module _ (m fnmax pileupmax : ℕ) (positions : List ℕ) {least : ℕ} (e : least ≡ fewest_of m fnmax pileupmax) where
   pub too_few : length positions < least → false ≡ one_of positions (part_lists m fnmax pileupmax)

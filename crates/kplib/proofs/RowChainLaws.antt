@@ -8,7 +8,7 @@ use mathlib.Core.Bool.{Bool, true, false, not, ◌&&◌}
 use mathlib.Core.List.{List, [], ◌∷◌, ◌++◌, reverse, reverse-cons, reverse-append, reverse-reverse}
 use lib.Dec.{leb, ltb}
 use lib.ListN.{length, get_or, take, drop, take-append-drop, drop_of_length-le}
-use lib.Seq.{take-suc, drop-cons, take_all}
+use lib.Seq.{take-suc, drop-cons}
 use borrow.Author.Tests.{lt-leb, lt-ltb, le-ltb, le-leb}
 use Rattle.metrics.specs.Similarity.{overlaps_of}
 use Rattle.paths.specs.Best.{All}
@@ -124,6 +124,3 @@ module _ (starts ends : List ℕ) (full : Bool) (rows : List ℕ) where
     grown_not k e f =
         sym (ap (λ (l : List ℕ). is_chain_in starts ends full (reverse l)) (sym (take-append-drop (i + 1) rows))
         ∙ rw (reverse-append (take (i + 1) rows) (drop (i + 1) rows)) (never (reverse (drop (i + 1) rows)) (reverse (take (i + 1) rows)) (grown_is k ∙ sym e ∙ f)))
-
-    pub grown_all : length rows ≤ i → true ≡ is_chain_in starts ends full (reverse rows)
-    grown_all k = sym (rw (take_all i rows k) at h.chain)

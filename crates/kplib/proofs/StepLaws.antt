@@ -178,15 +178,8 @@ module _ {q : Told} {room : ℕ} {links keys : List ℕ} {at : Progress} (h : Se
   pub gone_steps : (at.queued ≡ 0 → ⊥) → at.count ≡ q.plan.s.maxpaths + 1 → Gone q links at
   gone_steps z e = ends false (ne_eqb at.queued 0 z) (end_steps g.run e (omega (arith, g.heap.many)))
 
-pub pos_of : {n : ℕ} → (n ≡ 0 → ⊥) → 0 < n
-pos_of h = omega arith
-
 pub lt_of_ne : {a b : ℕ} → a ≤ b → (a ≡ b → ⊥) → a < b
 lt_of_ne h f = omega arith
-
--- a step more leaves fewer
-pub less_left : {a b n : ℕ} → a ≤ b → (a ≡ b → ⊥) → n ≡ a + 1 → b - n < b - a
-less_left h f e = omega (arith, lt_of_ne h f)
 
 -- the search begins with the empty chain queued
 pub going_first : (q : Told) (links keys : List ℕ) {k : ℕ} {at : Progress} → 0 < length keys → k ≡ key_of (nat_abs (pos 0 -ℤ q.plan.target)) 0 → at ≡ not_begun → Going q links (set keys 0 k) at

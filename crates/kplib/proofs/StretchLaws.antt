@@ -3,8 +3,8 @@ use Prim.Native.Nat.{ℕ, zero, suc, ◌+◌, ◌*◌, ◌≤◌}
 use native.Mathlib.Omega.{arith}
 use native.Mathlib.Numerals.{add-one}
 use mathlib.Core.Path.{◌≡◌, refl, sym, ap, ◌∙◌}
-use mathlib.Core.List.{List, [], ◌∷◌, ◌++◌, append-nil, append_assoc}
-use lib.ListN.{length, take, drop, length-append, length-drop, take-append-drop, drop_of_length-le}
+use mathlib.Core.List.{List, [], ◌∷◌, ◌++◌, append_assoc}
+use lib.ListN.{length, take, drop, length-append, length-drop, take-append-drop}
 use lib.Seq.{sets, sets-eq, length-sets, length-take-le, drop-drop}
 use borrow.Rule.Slice.PartMut.{put_mid}
 use Rattle.metrics.specs.Placed.{placed}
@@ -37,12 +37,6 @@ module _ (at k : ℕ) (old xs : List ℕ) (room : at + k ≤ length old) where
       ∙ (ap (λ (m : List ℕ). take at old ++ m) (append_assoc xs behind (drop k (drop at old)))
       ∙ (ap (λ (m : List ℕ). take at old ++ (xs ++ m)) (rest_joined (length xs) k (drop at old) (omega arith) ∙ drop-drop (length xs) at old)
       ∙ (sym (append_assoc (take at old) xs (drop (at + length xs) old)) ∙ sym (sets-eq xs old at (omega arith)))))
-
--- a list as long as its buffer is all that the buffer holds
-pub placed_whole : (old : List ℕ) {n : ℕ} → length old ≡ n → {new words stored : List ℕ} → new ≡ words → stored ≡ placed old new → length words ≡ n → stored ≡ words
-placed_whole old l {new} {words} e h k =
-    let nothing-behind : length old ≤ length words → drop (length words) old ≡ [] = λ z. drop_of_length-le old z in
-    h ∙ (ap (λ (m : List ℕ). m ++ drop (length m) old) e ∙ (ap (λ (m : List ℕ). words ++ m) (nothing-behind (omega arith)) ∙ append-nil words))
 
 module _ (width : ℕ) (each : ℕ → List ℕ) (buffer : List ℕ) where
   pub none_laid : buffer ≡ laid width each 0 buffer

@@ -22,7 +22,7 @@ use Rattle.paths.proofs.RuleLaws.{scored_same, left_same, extends_same, chain_co
 use Rattle.params.specs.Numbers.{falling_start}
 use Rattle.params.proofs.CheckLaws.{any_where}
 use Rattle.kplib.specs.Graph.{edge, may_follow_in, chains_of}
-use Rattle.kplib.specs.GraphWalk.{flag_of, Together, SetFrom, RowLaid, Flagged}
+use Rattle.kplib.specs.GraphWalk.{flag_of, Together, SetFrom, RowLaid}
 
 -- ---- how they are laid
 module _ (joins : ℕ → ℕ → Bool) (r : ℕ) (t : List Bool) where
@@ -100,38 +100,11 @@ pairs_begin joins v = record {
   others = record { long = length-replicate 4096 true; are_set = λ j l m. get_or-replicate 4096 j true false m };
 }
 
-module _ {joins : ℕ → ℕ → Bool} {v r : ℕ} {t : List Bool} (h : LaidBefore joins v r t) where
-  -- one row more: what is laid stands before it
-  pub pairs_on : {u : List Bool} → v ≤ 64 → RowLaid joins v r t u → LaidBefore joins v (r + 1) u
-  pairs_on {u} few k = record {
-    flags = below_more (λ i. (s : ℕ) → i < s → s < v → flag_of u i s ≡ joins i s) r (λ i l s q m. k.kept (64 * i + s) (omega arith) ∙ h.flags i l s q m) (λ s q m. k.laid s q m);
-    others = record { long = k.long ∙ h.others.long; are_set = λ j l m. k.ahead j (omega arith) ∙ h.others.are_set j (omega arith) m };
-  }
-
-  pub pairs_done : v ≤ r → Together joins v t
-  pairs_done e i s q l = h.flags i (omega arith) s q l
-
 -- ---- what is left of other flags beside them: the first s have both, and the others are as they were
 pub record BothTo (p : ℕ → Bool) (old new : List Bool) (s : ℕ) : Type 0 where
   pub long : length new ≡ 64
   pub both : (j : ℕ) → j < s → get_or new j false ≡ (get_or old j false && p j)
   pub same : (j : ℕ) → s ≤ j → get_or new j false ≡ get_or old j false
-
-pub both_begin : (p : ℕ → Bool) {may : List Bool} → length may ≡ 64 → BothTo p may may 0
-both_begin p h = record { long = h; both = λ j l. absurd (omega arith); same = λ j l. refl }
-
-module _ {p : ℕ → Bool} {old new : List Bool} {s : ℕ} (h : BothTo p old new s) where
-  pub both_on : s < 64 → {flag : Bool} → flag ≡ (get_or new s false && p s) → BothTo p old (set new s flag) (s + 1)
-  both_on l {flag} e = record {
-    long = length-set new s flag ∙ h.long;
-    both = below_more (λ j. get_or (set new s flag) j false ≡ (get_or old j false && p j)) s
-        (λ j q. let ne : j ≢ s = omega arith in get_or-set_other new s j flag false ne ∙ h.both j q)
-        (get_or-set_same new s flag false (omega (arith, h.long)) ∙ e ∙ ap (λ (t : Bool). t && p s) (h.same s (omega arith)));
-    same = λ j q. let ne : j ≢ s = omega arith in get_or-set_other new s j flag false ne ∙ h.same j (omega arith);
-  }
-
-  pub both_done : 64 ≤ s → Flagged (λ j. get_or old j false && p j) new
-  both_done l = record { long = h.long; flag = λ j q. h.both j (omega arith) }
 
 -- ---- what they give
 module _ (starts ends : List ℕ) (together : List Bool) (laid : Together (edge starts ends) (length starts) together) where

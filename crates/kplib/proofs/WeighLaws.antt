@@ -1,5 +1,5 @@
 -- A chain read back to the end of a list of 64 rows is what stands there from its begin on; so it can be summed and scored. Assumes nothing.
-use mathlib.Core.Path.{◌≡◌, ap, ◌∙◌}
+use mathlib.Core.Path.{◌≡◌, ◌∙◌}
 use Prim.Native.Nat.{ℕ, ◌-◌, ◌≤◌}
 use native.Mathlib.Omega.{arith}
 use mathlib.Core.List.{List, reverse}
@@ -9,7 +9,6 @@ use lib.ListN.{length, take, drop, length-drop}
 use lib.Seq.{take_all}
 use Rattle.kplib.specs.Sums.{size_of}
 use Rattle.kplib.specs.Scoring.{chain_total, coded_score, StandsFor, Scorable}
-use Rattle.metrics.specs.Placed.{placed}
 use Rattle.kplib.specs.SearchSteps.{chain_of, score_by, Rowed, Weighable, WeighedAs}
 use Rattle.kplib.specs.declared.plan.Plan.{Plan}
 use Rattle.kplib.specs.declared.steps.Weighed.{Weighed}
@@ -44,9 +43,3 @@ module _ {plan : Plan} {sizes features part_features : List ℤ} {codes : List �
       → WeighedAs plan sizes features part_features codes list_sizes (reverse (chain_of links entry)) floor r
   unfolding score_by
   weighed_as z q = rw (← e) (record { size_is = z; stands = rw z at q })
-
-pub cut_length : (x : List ℕ) (n r : ℕ) {c : List ℕ} → length x ≡ n → (r ≤ length x) × (drop r x ≡ c) → n - r ≡ length c
-cut_length x n r l e = omega (arith, length-drop r x, ap length e.1)
-
-pub placed_cut : {l c : List ℕ} (rows : List ℕ) {rows' : List ℕ} → l ≡ c → rows' ≡ placed rows l → rows' ≡ placed rows c
-placed_cut rows e h = rw e at h
