@@ -74,7 +74,11 @@ fn weigh(
 fn later_of(a: Leader, b: Leader) -> Leader
     ensures { result ≡ later_of a b }
 {
-    if a.scored.score <= b.scored.score { b } else { a }
+    if a.scored.score <= b.scored.score {
+        b
+    } else {
+        a
+    }
 }
 
 // Where the search stands after an entry was scored and `added` entries were queued.

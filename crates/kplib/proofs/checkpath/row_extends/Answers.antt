@@ -9,10 +9,10 @@ pub returns-then-s-starts : goal.returns-then-s-starts
 returns-then-s-starts c =
     let a = c.args in
     elim c.then-s-starts.either [
-      inl h ↦ row_absent a.starts.now a.ends.now a.full (reverse a.chain.now) a.s (omega arith)
-    | inr later ↦ elim later [
-        inl h ↦ row_early a.starts.now a.ends.now a.full (reverse a.chain.now) a.s c.requires.3 (omega arith)
-      | inr h ↦ row_bare a.starts.now a.ends.now a.full (reverse a.chain.now) a.s h.2
+      | inl h ↦ row_absent a.starts.now a.ends.now a.full (reverse a.chain.now) a.s (omega arith)
+      | inr later ↦ elim later [
+        | inl h ↦ row_early a.starts.now a.ends.now a.full (reverse a.chain.now) a.s c.requires.3 (omega arith)
+        | inr h ↦ row_bare a.starts.now a.ends.now a.full (reverse a.chain.now) a.s h.2
       ]
     ]
 

@@ -17,8 +17,8 @@ loop-i-preserved c =
     let l = c.loop-i in
     let room = has_room (goal.at.loop-i-preserved c).At-loop-i (omega arith) in
     elim c.if-together-flags.branch [
-      then-together-flags w ↦ rw w.end-is (narrowing_take l.invariant (omega arith) room w.if-together-flags.true)
-    | else-together-flags w ↦ rw w.end-is (narrowing_skip l.invariant (omega arith) room w.if-together-flags.false)
+      | then-together-flags w ↦ rw w.end-is (narrowing_take l.invariant (omega arith) room w.if-together-flags.true)
+      | else-together-flags w ↦ rw w.end-is (narrowing_skip l.invariant (omega arith) room w.if-together-flags.false)
     ]
 
 pub returns : goal.returns
