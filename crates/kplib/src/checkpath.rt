@@ -15,9 +15,9 @@ use crate::sums::sum_features;
 use metrics::floats::bits_of;
 use metrics::kmer::entries;
 use metrics::overlaps;
-use metrics::refusals::{ACCEPTED, LONG_PROPOSAL};
-use params::Settings;
+use metrics::refusals::{ACCEPTED, LONG_PROPOSAL, told};
 use params::checks::call_fault;
+use params::{Parts, Settings, Table};
 
 // The answer to a proposal, or the number of a refusal.
 #[derive(Clone, Copy)]
@@ -44,17 +44,17 @@ fn proposal_fault(
         let p = parts_of part_sizes.now part_features.now in
         result ≡ proposal_fault s t p (proposal_of rows.now positions.now score) }
 {
-    let fault = call_fault(
-        s,
+    let table = Table {
         starts,
         ends,
         sizes,
         features,
-        part_sizes,
-        part_features,
-        262145,
-        64,
-    );
+    };
+    let parts = Parts {
+        sizes: part_sizes,
+        features: part_features,
+    };
+    let fault = told(call_fault(s, &table, &parts, 262145, 64));
     if fault != ACCEPTED {
         return fault;
     }

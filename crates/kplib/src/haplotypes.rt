@@ -5,9 +5,10 @@ ghost use Rattle.kplib.specs.Promises.{ApplyHaplotypesPromise};
 
 use crate::report::put_words;
 use crate::traverse::answer_haplotype;
-use params::Settings;
+use metrics::refusals::told;
 use params::checks::queue_room;
 use params::several::several_fault;
+use params::{Parts, Settings, Table};
 
 // Where stretch i begins: at the end of the one before it, the first at 0.
 fn begin_of(ends: &[u64], i: usize) -> usize
@@ -39,20 +40,26 @@ pub fn apply_haplotypes(
         links.new keys.new rows.new reports.new result }
 {
     let room = queue_room(links.len(), keys.len());
-    let refusal = several_fault(
-        s,
+    let table = Table {
         starts,
         ends,
         sizes,
         features,
+    };
+    let parts = Parts {
+        sizes: part_sizes,
+        features: part_features,
+    };
+    let refusal = told(several_fault(
+        s,
+        &table,
         part_ends,
         feature_ends,
-        part_sizes,
-        part_features,
+        &parts,
         room,
         rows.len(),
         reports.len(),
-    );
+    ));
     if refusal != 0 {
         return refusal;
     }

@@ -9,7 +9,6 @@ ghost use Rattle.kplib.specs.Scoring.{total, chain_total, coded_score, Attempt, 
 use crate::haplotype::positions;
 use crate::plan::Plan;
 use crate::sums::{Sums, block_end, sum_block, sum_features, weight_of};
-use metrics::Sim;
 use metrics::lanes::magnitude;
 use params::Settings;
 
@@ -71,10 +70,7 @@ fn size_alike(a: i32, b: i32) -> f32
     requires { (nat_abs a ≤ 8388608) × (nat_abs b ≤ 8388608) }
     ensures { result ≡ sizesim_value (nat_abs a) (nat_abs b) }
 {
-    match metrics::sizesim(magnitude(a) as u64, magnitude(b) as u64) {
-        Sim::Value(x) => x,
-        Sim::Refused(n) => 0.0,
-    }
+    metrics::sizesim(magnitude(a) as u64, magnitude(b) as u64).unwrap_or(0.0)
 }
 
 // seqsim of two rows that the lower crate does not refuse.
@@ -82,10 +78,7 @@ fn seq_alike(a: &[i32], b: &[i32], minkfreq: u32) -> f32
     requires { (length a.now ≡ length b.now) × (magnitude_sum a.now ≤ 8388608) × (magnitude_sum b.now ≤ 8388608) × (minkfreq ≤ 16777216) }
     ensures { result ≡ seqsim_of_rows minkfreq a.now b.now }
 {
-    match metrics::seqsim(a, b, minkfreq) {
-        Sim::Value(x) => x,
-        Sim::Refused(n) => 0.0,
-    }
+    metrics::seqsim(a, b, minkfreq).unwrap_or(0.0)
 }
 
 fn gap_of(squish: bool, n: usize, len: usize) -> usize

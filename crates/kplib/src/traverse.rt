@@ -16,9 +16,10 @@ use crate::queue::read_chain;
 use crate::steps::search;
 use crate::vargraph::Row;
 use metrics::kmer::entries;
-use params::Settings;
+use metrics::refusals::told;
 use params::checks::{call_fault, parts_fault, queue_room};
 use params::graphparams::search_mode;
+use params::{Parts, Settings, Table};
 
 // `rows` is how many row numbers stand at the front of the answer buffer; `refusal` is 0 where the job was accepted.
 #[derive(Clone, Copy)]
@@ -226,7 +227,11 @@ pub(crate) fn answer_haplotype(
     ensures { ApplyHaplotypePromise s starts.now ends.now sizes.now features.now part_sizes.now
         part_features.now links.old keys.old rows.old links.new keys.new rows.new result }
 {
-    let refusal = parts_fault(s.k, part_sizes, part_features);
+    let parts = Parts {
+        sizes: part_sizes,
+        features: part_features,
+    };
+    let refusal = told(parts_fault(s.k, &parts));
     if refusal != 0 {
         return answer_with(refusal, 0, nothing(), 0, false);
     }
@@ -260,17 +265,18 @@ pub fn apply_haplotype(
     ensures { ApplyHaplotypePromise s starts.now ends.now sizes.now features.now part_sizes.now
         part_features.now links.old keys.old rows.old links.new keys.new rows.new result }
 {
-    let refusal = call_fault(
-        s,
+    let table = Table {
         starts,
         ends,
         sizes,
         features,
-        part_sizes,
-        part_features,
-        queue_room(links.len(), keys.len()),
-        rows.len(),
-    );
+    };
+    let parts = Parts {
+        sizes: part_sizes,
+        features: part_features,
+    };
+    let room = queue_room(links.len(), keys.len());
+    let refusal = told(call_fault(s, &table, &parts, room, rows.len()));
     if refusal != 0 {
         return answer_with(refusal, 0, nothing(), 0, false);
     }

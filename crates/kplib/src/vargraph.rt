@@ -7,7 +7,7 @@ ghost use Rattle.kplib.specs.GraphWalk.{flag_of, Together, SetFrom, RowLaid, Fla
 ghost use Rattle.kplib.specs.Promises.{CountChainsPromise};
 
 use metrics::overlaps;
-use metrics::refusals::ACCEPTED;
+use metrics::refusals::{ACCEPTED, told};
 use params::checks::count_fault;
 
 // A variant's row in the table, from 0.
@@ -153,7 +153,7 @@ pub enum ChainCount {
 pub fn count_chains(starts: &[u64], ends: &[u64], full: bool, cap: u32) -> ChainCount
     ensures { CountChainsPromise starts.now ends.now full cap result }
 {
-    let fault = count_fault(starts, ends, cap);
+    let fault = told(count_fault(starts, ends, cap));
     if fault != ACCEPTED {
         return ChainCount::Refused(fault);
     }

@@ -8,12 +8,12 @@ use Rattle.params.proofs.AcceptedLaws.{as_many_ends, parts_within, features_with
 use Rattle.kplib.specs.Promises.{several_lent}
 use Rattle.kplib.proofs.HaplotypesLaws.{none_yet, none_answered, few_haplotypes, few_rows}
 use Rattle.kplib.proofs.HaplotypesLaws.{rows_room, reports_room, still_accepted, next, all_done}
-use Rattle.kplib.proofs.haplotypes.apply_haplotypes.Goals.{After-several_fault-refusal, After-shared_slice_known-in-loop-i-2-1, In-loop-i}
+use Rattle.kplib.proofs.haplotypes.apply_haplotypes.Goals.{After-told-refusal, After-shared_slice_known-in-loop-i-2-1, In-loop-i}
 use Rattle.kplib.proofs.haplotypes.apply_haplotypes.Goals as goal
 
-found : (c : After-several_fault-refusal) → c.several_fault-refusal.result ≡ several_fault ((let a = c.args in several_lent a.s a.starts.now a.ends.now a.sizes.now a.features.now
+found : (c : After-told-refusal) → c.told-refusal.result ≡ several_fault ((let a = c.args in several_lent a.s a.starts.now a.ends.now a.sizes.now a.features.now
     a.part_ends.now a.feature_ends.now a.part_sizes.now a.part_features.now a.links.now a.keys.now a.rows.now a.reports.now))
-found c = rw c.queue_room-room.ensures at c.several_fault-refusal.ensures
+found c = rw c.queue_room-room.ensures at (c.told-refusal.ensures ∙ c.several_fault.ensures)
 
 -- the haplotype's stretches lie within their slices
 many : (c : In-loop-i) → length c.args.feature_ends.now ≡ length c.args.part_ends.now
@@ -37,11 +37,11 @@ pub returns-then-refusal-ne0 : goal.returns-then-refusal-ne0
 returns-then-refusal-ne0 c =
     let b = c.args in
     let h = none_answered b.s b.starts.now b.ends.now b.sizes.now b.features.now b.part_ends.now b.feature_ends.now b.part_sizes.now
-    b.part_features.now b.links.now b.keys.now b.rows.now b.reports.now (found (goal.at.returns-then-refusal-ne0 c).After-several_fault-refusal) c.if-refusal-ne0.true in
-    (found (goal.at.returns-then-refusal-ne0 c).After-several_fault-refusal, (h.0, (h.1, (λ _. refl, λ _. refl))))
+    b.part_features.now b.links.now b.keys.now b.rows.now b.reports.now (found (goal.at.returns-then-refusal-ne0 c).After-told-refusal) c.if-refusal-ne0.true in
+    (found (goal.at.returns-then-refusal-ne0 c).After-told-refusal, (h.0, (h.1, (λ _. refl, λ _. refl))))
 
 pub loop-i-init : goal.loop-i-init
-loop-i-init c = none_yet _ _ _ _ _ _ _ _ _ _ _ _ _ (sym (found (goal.at.loop-i-init c).After-several_fault-refusal) ∙ c.if-refusal-ne0.false) refl
+loop-i-init c = none_yet _ _ _ _ _ _ _ _ _ _ _ _ _ (sym (found (goal.at.loop-i-init c).After-told-refusal) ∙ c.if-refusal-ne0.false) refl
 
 pub begin_of-feature-requires : goal.begin_of-feature-requires
 begin_of-feature-requires c = omega (arith, many (goal.at.begin_of-feature-requires c).In-loop-i)
