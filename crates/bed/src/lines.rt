@@ -1,7 +1,7 @@
 // One line: its text, and what it says.
 ghost use Rattle.std.specs.Prelude.{◌≡◌, true, length};
 ghost use Rattle.text.specs.Written.{Written};
-ghost use Rattle.bed.specs.Bed.{printable, good_name, bed_line};
+ghost use Rattle.bed.specs.Bed.{good_name, bed_line};
 ghost use Rattle.bed.specs.Reading.{same_bytes};
 ghost use Rattle.bed.specs.Steps.{Judged};
 

@@ -5,7 +5,7 @@
 mod checks;
 mod sheet;
 
-ghost use Rattle.std.specs.Prelude.{◌≡◌, cond, ◌<◌, ◌≤◌};
+ghost use Rattle.std.specs.Prelude.{◌≡◌, ◌<◌};
 ghost use Rattle.companions.specs.Companions.{lent_of};
 ghost use Rattle.companions.specs.Changes.{add_fault};
 ghost use Rattle.companions.specs.Questions.{later_of};

@@ -1,5 +1,5 @@
 // The record numbers of an answer's rows.
-ghost use Rattle.std.specs.Prelude.{◌≡◌, ◌≤◌, length, get_or, take};
+ghost use Rattle.std.specs.Prelude.{◌≡◌, ◌≤◌, length, take};
 ghost use Rattle.metrics.specs.Placed.{placed};
 ghost use Rattle.kplib.specs.Haplotypes.{laid};
 ghost use Rattle.dive.specs.Numbered.{records_at};

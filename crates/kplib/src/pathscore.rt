@@ -2,7 +2,7 @@
 ghost use Rattle.std.specs.Prelude.{◌≡◌, Some, ◌&&◌, ◌+◌, ◌*◌, ◌≤◌, min, eqb, nat_abs, length};
 ghost use Rattle.metrics.specs.Similarity.{sizesim_value, seqsim_value, magnitude_sum};
 ghost use Rattle.kplib.specs.Sums.{features_of};
-ghost use Rattle.kplib.specs.Score.{sign, seqsim_of_rows, gap_of, score_value, list_score, start, target_of, greater_of};
+ghost use Rattle.kplib.specs.Score.{seqsim_of_rows, gap_of, score_value, list_score, start, target_of, greater_of};
 ghost use Rattle.kplib.specs.Scoring.{Summable, Ready, Testable, Comparable, StandsFor, terms_of, may_score, may_win, verdict_of, Judgeable, Judged};
 ghost use Rattle.kplib.specs.Scoring.{total, chain_total, coded_score, Attempt, Attempted, none_tried, Scorable};
 

@@ -1,5 +1,5 @@
 // The search over the chains of a table, step by step (traverse.rs).
-ghost use Rattle.std.specs.Prelude.{◌≡◌, reverse, ◌+◌, ◌<◌, ◌≤◌, ◌^◌, length};
+ghost use Rattle.std.specs.Prelude.{◌≡◌, reverse, ◌+◌, ◌<◌, ◌≤◌, length};
 ghost use Rattle.params.specs.Numbers.{table_of, parts_of};
 ghost use Rattle.kplib.specs.SearchSteps.{told, chain_of, later_of, advanced, not_begun, Weighable, WeighedAs, Searchable, Going, Gone, Startable, Searched};
 

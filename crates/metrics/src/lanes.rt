@@ -1,6 +1,6 @@
 // The sums of a row and of two, in a form that the compiler turns into vector instructions: no early exit, no sum wider than its entries.
 // The sums wrap where a row is over its limit; such a row is refused anyway.
-ghost use Rattle.std.specs.Prelude.{◌≡◌, ◌+◌, ◌*◌, ◌<◌, ◌≤◌, true, length, pos, ◌-ℤ◌, if◌then◌else◌, nat_le, nat_lt, unsigned_abs};
+ghost use Rattle.std.specs.Prelude.{◌≡◌, ◌+◌, ◌*◌, ◌<◌, ◌≤◌, true, length, pos, if◌then◌else◌, nat_le, nat_lt};
 ghost use Rattle.metrics.specs.Lanes.{Added, Summed, RowSummed};
 ghost use Rattle.metrics.specs.Similarity.{magnitude_sum};
 ghost use Rattle.metrics.specs.Promises.{MagnitudePromise, RowOverPromise};

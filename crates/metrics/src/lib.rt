@@ -1,7 +1,7 @@
 // Similarity of features and of sizes, and the overlap of intervals.
 #![tactic(auto)]
 
-ghost use Rattle.std.specs.Prelude.{◌≡◌, ◌≤◌, min, max};
+ghost use Rattle.std.specs.Prelude.{◌≡◌, ◌≤◌};
 ghost use Rattle.metrics.specs.Similarity.{lies_inside, ratio_of, seqsim_value};
 ghost use Rattle.metrics.specs.Promises.{SimilarityPromise, SeqsimPromise, SizesimPromise, OverlapsPromise};
 
