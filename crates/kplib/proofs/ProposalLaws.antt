@@ -1,16 +1,17 @@
 -- The refusals of a proposal are those of a call whose rooms suffice whatever is asked, then 54; and the cases of its answer. One list is scored against one chain
 -- as the search scores them: what is summed in front of a local array is the chain's row, and the list's. Assumes nothing.
-use Rattle.std.specs.Prelude.{Option}
-use mathlib.Core.Path.{◌≡◌, refl, sym, ◌∙◌}
+use Rattle.std.specs.Prelude.{Option, Ok}
+use mathlib.Core.Path.{◌≡◌, refl, sym, ap, ◌∙◌}
 use Prim.Native.Nat.{ℕ, zero, suc, ◌+◌, ◌-◌, ◌*◌, ◌^◌, ◌≤◌, ◌<◌, max}
 use native.Mathlib.Omega.{arith}
 use native.Mathlib.Nat.{mul-le-mul_right}
 use mathlib.Core.Logic.{◌⊎◌, inl, inr}
-use mathlib.Core.Bool.{Bool, true, false}
+use mathlib.Core.Bool.{Bool, true, false, ◌&&◌}
 use mathlib.Core.List.{List, [], ◌∷◌, ◌++◌, reverse}
-use lib.Dec.{leb}
+use lib.Dec.{leb, ltb}
 use lib.IntN.{ℤ}
-use lib.ListN.{length, drop}
+use lib.ListN.{length, get_or, drop, drop_of_length-le}
+use lib.Seq.{drop-cons}
 use borrow.Author.Tests.{le-leb, lt-leb, lt-ltb, le-ltb, ltb-false}
 use Rattle.paths.proofs.BooleanLaws.{and_both, and_false}
 use Rattle.params.specs.Checked.{Checked}
@@ -21,11 +22,11 @@ use Rattle.kplib.specs.Graph.{is_chain_in}
 use Rattle.kplib.specs.Parts.{part_lists}
 use Rattle.kplib.specs.Sums.{size_of, features_of}
 use Rattle.kplib.specs.Score.{list_score}
-use Rattle.kplib.specs.Scoring.{Summable, Comparable, unplaced, total}
-use Rattle.kplib.specs.Proposal.{one_of, gives, Proposal, pair_score, is_good, long_rules, proposal_rules, proposal_fault, check_case, rises_below, fewest_of, Pairable}
+use Rattle.kplib.specs.Scoring.{Summable, Comparable, total}
+use Rattle.kplib.specs.Proposal.{one_of, gives, Proposal, pair_score, is_good, long_rules, proposal_rules, proposal_fault, check_of, rises_below, fewest_of, Pairable}
 use Rattle.params.specs.declared.Settings.{Settings}
 use Rattle.kplib.specs.declared.pathscore.Scores.{Scores}
-use Rattle.kplib.specs.declared.checkpath.PathCheck.TheVariants.{Yes, No, Refused}
+use Rattle.kplib.proofs.CountedLaws.{answered_is}
 use Rattle.kplib.proofs.MemberLaws.{member, rising_below, rising_length}
 use Rattle.kplib.proofs.OneToOneLaws.{tables_of}
 use Rattle.kplib.proofs.RowChainLaws.{sent_below}
@@ -56,9 +57,9 @@ module _ (s : Settings) (t : Table) (p : Parts) where
   front_passed e = none_given front refl e
 
   module _ (o : Proposal) where
-    pub by_call : {found : ℕ} → found ≡ first_fault (call_of s t p 262145 64) → (found ≡ 0 → ⊥) → found ≡ proposal_fault s t p o
+    pub by_call : (found : ℕ) → found ≡ first_fault (call_of s t p 262145 64) → (found ≡ 0 → ⊥) → found ≡ proposal_fault s t p o
     unfolding first_fault proposal_fault
-    by_call {found} e h = go (first_of front) refl
+    by_call found e h = go (first_of front) refl
       where
         go : (n : ℕ) → first_of front ≡ n → found ≡ first_of (front ++ long_rules s t p o)
         go zero z = absurd (h (e ∙ sym (goes_on front (room_rules s (length t.starts) 262145 64) 0 (front_passed z) (sym (rooms_suffice (front_passed z))))))
@@ -67,12 +68,12 @@ module _ (s : Settings) (t : Table) (p : Parts) where
             e ∙ sym (stops front (room_rules s (length t.starts) 262145 64) (first_of front) refl some) ∙ stops front (long_rules s t p o) (first_of front) refl some
 
     -- an accepted call leaves 54 to be asked, whatever its rooms
-    module _ (queue answers : ℕ) {found : ℕ} (e : found ≡ first_fault (call_of s t p queue answers)) (z : found ≡ 0) where
+    module _ (queue answers : ℕ) (e : 0 ≡ first_fault (call_of s t p queue answers)) where
       all_asked : Passed front
       unfolding first_fault
       all_asked =
           let rooms = room_rules s (length t.starts) queue answers in
-          passed_front front rooms (none_given (front ++ rooms) refl (sym e ∙ z))
+          passed_front front rooms (none_given (front ++ rooms) refl (sym e))
 
       then_long : (n : ℕ) → n ≡ first_of (long_rules s t p o) → n ≡ proposal_fault s t p o
       unfolding proposal_fault
@@ -118,6 +119,28 @@ fewest_left m fnmax pileupmax h e = rw (lt-leb pileupmax m h) e
 -- the positions from place i on decide
 pub record Rising (m : ℕ) (positions : List ℕ) (next i : ℕ) : Type 0 where
   pub rest : rises_below m next (drop i positions) ≡ rises_below m 0 positions
+
+pub none_risen : (m : ℕ) (positions : List ℕ) → Rising m positions 0 0
+none_risen m positions = record { rest = refl }
+
+module _ {m next i : ℕ} {positions : List ℕ} (h : Rising m positions next i) where
+  position_first : i < length positions
+      → (leb next (get_or positions i 0) && (ltb (get_or positions i 0) m && rises_below m (suc (get_or positions i 0)) (drop (suc i) positions))) ≡ rises_below m 0 positions
+  position_first k = sym (ap (λ (l : List ℕ). rises_below m next l) (drop-cons positions i 0 k)) ∙ h.rest
+
+  -- a position that is not above the last one, or not below m
+  pub falls : i < length positions → (get_or positions i 0 < next) ⊎ ((next ≤ get_or positions i 0) × (m ≤ get_or positions i 0)) → false ≡ rises_below m 0 positions
+  falls k (inl l) = rw (lt-leb next (get_or positions i 0) l) at (position_first k)
+  falls k (inr l) = rw (le-leb next (get_or positions i 0) l.0, le-ltb (get_or positions i 0) m l.1) at (position_first k)
+
+  pub rises_on : i < length positions → next ≤ get_or positions i 0 → get_or positions i 0 < m → Rising m positions (get_or positions i 0 + 1) (i + 1)
+  rises_on k l n =
+      let a : i + 1 ≡ suc i = omega arith in
+      let b : get_or positions i 0 + 1 ≡ suc (get_or positions i 0) = omega arith in
+      record { rest = rw (a, b) (rw (le-leb next (get_or positions i 0) l, lt-ltb (get_or positions i 0) m n) at (position_first k)) }
+
+  pub rises_all : length positions ≤ i → true ≡ rises_below m 0 positions
+  rises_all k = rw (drop_of_length-le positions k) at h.rest
 
 module _ (m fnmax pileupmax : ℕ) (positions : List ℕ) {least : ℕ} (e : least ≡ fewest_of m fnmax pileupmax) where
   pub too_few : length positions < least → false ≡ one_of positions (part_lists m fnmax pileupmax)
@@ -168,25 +191,15 @@ module _ {s : Settings} {t : Table} {p : Parts} {rows positions : List ℕ} (y :
         };
       })
 
-      pub pair_is : {r : Option Scores} → r ≡ list_score s (total size row (length rows)) (total size' row' (length positions)) (length p.sizes - length positions)
-          → r ≡ pair_score s t p rows positions
+      pub pair_is : {r : Option Scores} → r ≡ list_score s (total size row (length rows)) (total size' row' (length positions)) (length p.sizes - length positions) → r ≡ pair_score s t p rows positions
       unfolding pair_score
       pair_is h = rw (chain_row_is, list_row_is, z, z') at h
 
--- where the rows stand plays no part in it
-unplaced_same : (s : Settings) (t : Table) (p : Parts) (rows positions : List ℕ) → pair_score s (unplaced t.sizes t.features) p rows positions ≡ pair_score s t p rows positions
-unfolding pair_score
-unplaced_same s t p rows positions = refl
-
 -- ---- the answer
-pub refused_check : (found fault : ℕ) (good : Bool) → found ≡ fault → (found ≡ 0 → ⊥) → Refused found ≡ check_case fault good
-refused_check found zero good e h = absurd (h e)
-refused_check found (suc f) good e h = rw e
-
 -- what is asked once a proposal is accepted
-module _ (s : Settings) (t : Table) (p : Parts) (o : Proposal) {found : ℕ} (e : found ≡ proposal_fault s t p o) (z : found ≡ 0) where
+module _ (s : Settings) (t : Table) (p : Parts) (o : Proposal) (e : 0 ≡ proposal_fault s t p o) where
   sound : Checked s t p
-  sound = proposal_checked s t p o (sym e ∙ z)
+  sound = proposal_checked s t p o (sym e)
 
   pub graph_ready : (length t.ends ≡ length t.starts) × (length t.starts ≤ 64)
   graph_ready = (sound.ends_are, omega (arith, sound.sized.few, sound.sizes_are))
@@ -197,39 +210,34 @@ module _ (s : Settings) (t : Table) (p : Parts) (o : Proposal) {found : ℕ} (e 
   abbrev listed : Bool
   listed = one_of o.positions (part_lists (length p.sizes) s.fnmax s.pileupmax)
 
-  pub pairable : {a b : Bool} → a ≡ chain → a ≡ true → b ≡ listed → b ≡ true → Pairable s (unplaced t.sizes t.features) p o.rows o.positions
+  pub pairable : {a b : Bool} → a ≡ chain → a ≡ true → b ≡ listed → b ≡ true → Pairable s t p o.rows o.positions
   pairable f g k l =
       let rises =
       (and_both (leb (fewest_of (length p.sizes) s.fnmax s.pileupmax) (length o.positions)) (rises_below (length p.sizes) 0 o.positions)
       (sym (member (length p.sizes) s.fnmax s.pileupmax o.positions) ∙ sym k ∙ l)).1 in
       record {
         k_high = sound.k_high;
-        tables = tables_of [] [] sound;
+        tables = tables_of sound;
         within = rw sound.sizes_are (sent_below _ (length t.starts) o.rows (sym f ∙ g));
-        few = rows_few s t p o (sym e ∙ z);
+        few = rows_few s t p o (sym e);
         positions_within = rising_below (length p.sizes) 0 o.positions rises;
         positions_few = rising_length (length p.sizes) o.positions rises;
       }
 
-  is_no : is_good s t p o ≡ false → No ≡ check_case (proposal_fault s t p o) (is_good s t p o)
-  is_no h = let n : proposal_fault s t p o ≡ 0 = sym e ∙ z in rw (n, h)
+  is_no : is_good s t p o ≡ false → Ok false ≡ check_of s t p o
+  unfolding check_of
+  is_no h = answered_is _ e (sym h)
 
-  pub no_chain : {r : Bool} → r ≡ chain → r ≡ false → No ≡ check_case (proposal_fault s t p o) (is_good s t p o)
+  pub no_chain : {r : Bool} → r ≡ chain → r ≡ false → Ok false ≡ check_of s t p o
   unfolding is_good
   no_chain f h = is_no (rw (sym f ∙ h))
 
-  pub no_list : {r : Bool} → r ≡ listed → r ≡ false → No ≡ check_case (proposal_fault s t p o) (is_good s t p o)
+  pub no_list : {r : Bool} → r ≡ listed → r ≡ false → Ok false ≡ check_of s t p o
   unfolding is_good
   no_list f h = is_no (rw (sym f ∙ h) (and_false chain))
 
   module _ {a b : Bool} (f : a ≡ chain) (g : a ≡ true) (k : b ≡ listed) (l : b ≡ true)
-      {v : Option Scores} (i : v ≡ pair_score s (unplaced t.sizes t.features) p o.rows o.positions) {r : Bool} (j : r ≡ gives o.score v) where
-    good_is : is_good s t p o ≡ r
-    unfolding is_good
-    good_is = let whole : v ≡ pair_score s t p o.rows o.positions = i ∙ unplaced_same s t p o.rows o.positions in rw (sym f ∙ g, sym k ∙ l, ← whole) (sym j)
-
-    pub no_score : r ≡ false → No ≡ check_case (proposal_fault s t p o) (is_good s t p o)
-    no_score h = is_no (good_is ∙ h)
-
-    pub yes : r ≡ true → Yes ≡ check_case (proposal_fault s t p o) (is_good s t p o)
-    yes h = let n : proposal_fault s t p o ≡ 0 = sym e ∙ z in let q : is_good s t p o ≡ true = good_is ∙ h in rw (n, q)
+      {v : Option Scores} (i : v ≡ pair_score s t p o.rows o.positions) {r : Bool} (j : r ≡ gives o.score v) where
+    pub scored : Ok r ≡ check_of s t p o
+    unfolding check_of is_good
+    scored = answered_is _ e (rw (sym f ∙ g, sym k ∙ l, ← i) j)
