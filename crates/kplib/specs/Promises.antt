@@ -1,7 +1,11 @@
 -- The promise of each public function, said once: the function's `ensures` and `Unique` (crates/audit) cite it by name.
 -- Its arguments are the function's own, in their order, a lent slice by what it holds at entry; then what each `&mut` holds at exit; then the result r.
-use Rattle.std.specs.Prelude.{ℕ, ◌≡◌, Bool, false, List, ℤ, Float, length}
+use Rattle.std.specs.Prelude.{ℕ, ◌≡◌, Bool, false, List, ℤ, Float, length, Result}
+use Rattle.metrics.specs.declared.refusals.Refusal.{Refusal}
 use Rattle.params.specs.declared.Settings.{Settings}
+use Rattle.params.specs.declared.Table.{Table}
+use Rattle.params.specs.declared.Parts.{Parts}
+use Rattle.params.specs.Held.{table_held, parts_held}
 use Rattle.params.specs.Numbers.{Call, table_of, parts_of, call_of}
 use Rattle.params.specs.Several.{Several, several_fault}
 use Rattle.kplib.specs.Graph.{capped_count}
@@ -10,11 +14,9 @@ use Rattle.kplib.specs.Report.{report_of}
 use Rattle.kplib.specs.Haplotypes.{rows_after, reports_after, several_searches}
 use Rattle.kplib.specs.Proposal.{proposal_of, check_of}
 use Rattle.metrics.specs.Placed.{placed}
-use Rattle.kplib.specs.declared.vargraph.ChainCount.{ChainCount}
 use Rattle.kplib.specs.declared.traverse.Answer.{Answer}
-use Rattle.kplib.specs.declared.checkpath.PathCheck.{PathCheck}
 
-abbrev pub CountChainsPromise : List ℕ → List ℕ → Bool → ℕ → ChainCount → Type 0
+abbrev pub CountChainsPromise : List ℕ → List ℕ → Bool → ℕ → Result ℕ Refusal → Type 0
 CountChainsPromise starts ends full cap r = r ≡ capped_count starts ends full cap
 
 -- the call that the settings and the lent slices make
@@ -65,6 +67,6 @@ ApplyHaplotypesPromise s starts ends sizes features part_ends feature_ends part_
     × (SeveralQueueKept c links links'
     × SeveralQueueKept c keys keys')))
 
-abbrev pub CheckPathPromise : Settings → List ℕ → List ℕ → List ℤ → List ℤ → List ℤ → List ℤ → List ℕ → List ℕ → Float → PathCheck → Type 0
-CheckPathPromise s starts ends sizes features part_sizes part_features rows positions score r =
-    r ≡ check_of s (table_of starts ends sizes features) (parts_of part_sizes part_features) (proposal_of rows positions score)
+abbrev pub CheckPathPromise : Settings → Table → Parts → List ℕ → List ℕ → Float → Result Bool Refusal → Type 0
+CheckPathPromise s table parts rows positions score r =
+    r ≡ check_of s (table_held table) (parts_held parts) (proposal_of rows positions score)
