@@ -15,7 +15,7 @@ use Rattle.metrics.specs.Similarity.{magnitude_sum}
 use Rattle.kplib.specs.Told.{Told}
 use Rattle.kplib.specs.Sums.{features_of}
 use Rattle.kplib.specs.Score.{seqsim_of_rows, greater_of}
-use Rattle.kplib.specs.Scoring.{list_of_code, Summable, Ready, tested_of, Testable, terms_of, may_win, Judgeable, Judged, after_code, Attempt, Attempted}
+use Rattle.kplib.specs.Scoring.{list_of_code, Summable, Ready, total, chain_total, tested_of, Testable, terms_of, may_win, Judgeable, Judged, after_code, Attempt, Attempted}
 use Rattle.kplib.specs.declared.pathscore.Scored.{Scored}
 use Rattle.kplib.specs.declared.pathscore.Scores.{Scores}
 use Rattle.kplib.specs.declared.pathscore.Best.{Best}
@@ -58,7 +58,7 @@ module _ {q : Told} {chain : List ℕ} {chainSize : ℤ} {code : ℕ} {size : �
   unfolding after_code
   attempt_lost floor best f h r = record {
     stands = λ x st.
-        lost q.plan.s floor x best.scored chainSize (features_of width q.features chain) (length chain) size (features_of width q.part_features list) (code / 65536) partial
+        lost q.plan.s floor x best.scored (chain_total width q.features chain chainSize) (total size (features_of width q.part_features list) (code / 65536)) partial
         (sym (rw (chain_as_read tests, list_as_read tests) at f) ∙ h) st;
     ready = r;
   }
@@ -100,6 +100,6 @@ module _ {q : Told} {chain : List ℕ} {chainSize : ℤ} {code : ℕ} {size : �
     unfolding after_code
     attempt_scored f h {scored} {v} j u =
         let may : may_win q.plan.s measured floor best.score ≡ true = sym (rw (chain_as_read tests, list_as_read tests) at f) ∙ h in
-        let own = won q.plan.s floor best best chainSize (features_of width q.features chain) (length chain) size (features_of width q.part_features list) (code / 65536) partial may in
+        let own = won q.plan.s floor best best (chain_total width q.features chain chainSize) (total size (features_of width q.part_features list) (code / 65536)) partial may in
         let j' = rw (chain_length, g, chain_is, terms_are) at j in
         record { stands = λ x st. rw (u, own) (judged_stands j' x best refl st); ready = (chain_is, weight_is ∙ ap magnitude_sum chain_is) }

@@ -44,7 +44,7 @@ pub(crate) struct Chain<'a> {
     pub size: i32,
 }
 
-// A part list as it is laid down.
+// A part list as it is laid down (haplotype.rs): its code, which is its length × 65,536 + its positions' bits, and its size.
 #[derive(Clone, Copy)]
 struct LaidList {
     code: u32,
