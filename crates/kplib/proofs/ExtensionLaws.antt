@@ -19,11 +19,11 @@ use Rattle.paths.specs.Queue.{chain_at, key_of, Links}
 use Rattle.paths.proofs.BooleanLaws.{and_true, and_assoc}
 use Rattle.paths.proofs.TableLaws.{chain_root, chain_link}
 use Rattle.paths.proofs.QueueLaws.{chain_end, chain_length, chain_longer, Queueing, queueing_more}
+use Rattle.kplib.specs.Told.{Told}
 use Rattle.kplib.specs.Sums.{size_of}
 use Rattle.kplib.specs.GraphWalk.{Flagged}
 use Rattle.kplib.specs.Search.{distance_to}
 use Rattle.kplib.specs.SearchSteps.{Extending, end_at, parents_of, lasts_of, chain_of, follows_by}
-use Rattle.kplib.specs.declared.plan.Plan.{Plan}
 use Rattle.kplib.proofs.LinkLaws.{parents_length, lasts_length, parent_at, last_at, parents_store, lasts_store}
 use Rattle.kplib.proofs.WordLaws.{fits, back}
 use Rattle.kplib.proofs.SizeSumLaws.{size_le, size_snoc}
@@ -67,74 +67,80 @@ module _ {joins : ℕ → ℕ → Bool} {full : Bool} {links : List ℕ} {entry 
     flag = λ s q. let e = h.asked s q in sym (and_true (get_or may s false)) ∙ (rw (z, chain_root (parents_of links) (lasts_of links)) at e);
   }
 
-module _ {plan : Plan} {together : List Bool} {sizes : List ℤ} {links keys : List ℕ} {used queued entry end : ℕ} {size : ℤ}
-    (h : Extending plan together sizes links keys used queued entry end size) where
+module _ {q : Told} {links keys : List ℕ} {used queued entry : ℕ} {size : ℤ}
+    (h : Extending q links keys used queued entry size) where
   -- the chain that is extended
   abbrev chain : List ℕ
   chain = chain_of links entry
 
   abbrev follows : List ℕ → ℕ → Bool
-  follows = follows_by plan together
+  follows = follows_by q.plan q.together
 
-  chained : is_chain follows (length sizes) chain ≡ true
+  chained : is_chain follows (length q.sizes) chain ≡ true
   chained = h.tree.chains entry h.entry_in
 
-  pub end_in : (end ≤ 64) × (end ≤ length sizes)
-  end_in = let e = chain_end follows (length sizes) chain chained in (omega (arith, h.end_is, e, h.sized.few), omega (arith, h.end_is, e))
+  pub end_is : {end : ℕ} → end ≡ end_at entry (get_or (lasts_of links) entry 0) → end ≡ first_after (chain_of links entry)
+  end_is e = e ∙ end_at_lem (parents_of links) (lasts_of links) entry (λ i p z. h.tree.links i p (omega (arith, h.entry_in)))
+
+  end_in : (first_after chain ≤ 64) × (first_after chain ≤ length q.sizes)
+  end_in = let e = chain_end follows (length q.sizes) chain chained in (omega (arith, e, h.sized.few), omega (arith, e))
+
+  pub end_low : {end : ℕ} → end ≡ end_at entry (get_or (lasts_of links) entry 0) → end ≤ length q.sizes
+  end_low e = omega (arith, end_is e, end_in.1)
 
   -- the flag of a row behind the chain's last one tells whether it extends the chain
-  pub found : {may : List Bool} → Flagged (follows_by plan together (chain_of links entry)) may → (r : ℕ) → end ≤ r → r < 64
-      → extends (follows_by plan together) (chain_of links entry) r ≡ get_or may r false
+  pub found : {may : List Bool} → Flagged (follows_by q.plan q.together (chain_of links entry)) may → (r : ℕ) → first_after (chain_of links entry) ≤ r → r < 64
+      → extends (follows_by q.plan q.together) (chain_of links entry) r ≡ get_or may r false
   unfolding extends
-  found f r l k = rw (le-leb (first_after chain) r (omega (arith, h.end_is))) (sym (f.flag r k))
+  found f r l k = rw (le-leb (first_after chain) r l) (sym (f.flag r k))
 
   size_small : nat_abs size ≤ 8388608
   size_small =
-      let few : length (reverse chain) ≤ 64 = omega (arith, reverse_length chain, chain_length follows (length sizes) chain chained, end_in.0, h.end_is) in
-      omega (arith, ap nat_abs h.size_is, size_le sizes (reverse chain) h.sized few)
+      let few : length (reverse chain) ≤ 64 = omega (arith, reverse_length chain, chain_length follows (length q.sizes) chain chained, end_in.0) in
+      omega (arith, ap nat_abs h.size_is, size_le q.sizes (reverse chain) h.sized few)
 
-  sum : (r : ℕ) → size +ℤ get_or sizes r (pos 0) ≡ size_of sizes (reverse (r ∷ chain))
-  sum r = ap (λ (z : ℤ). z +ℤ get_or sizes r (pos 0)) h.size_is ∙ sym (ap (λ (l : List ℕ). size_of sizes l) (reverse-cons r chain) ∙ size_snoc sizes (reverse chain) r)
+  sum : (r : ℕ) → size +ℤ get_or q.sizes r (pos 0) ≡ size_of q.sizes (reverse (r ∷ chain))
+  sum r = ap (λ (z : ℤ). z +ℤ get_or q.sizes r (pos 0)) h.size_is ∙ sym (ap (λ (l : List ℕ). size_of q.sizes l) (reverse-cons r chain) ∙ size_snoc q.sizes (reverse chain) r)
 
-  module _ {r : ℕ} (l : r < length sizes) (e : extends (follows_by plan together) (chain_of links entry) r ≡ true) where
+  module _ {r : ℕ} (l : r < length q.sizes) (e : extends (follows_by q.plan q.together) (chain_of links entry) r ≡ true) where
     short : length (reverse (r ∷ chain)) ≤ 64
     short =
-        let k : is_chain follows (length sizes) (r ∷ chain) ≡ true = chain_longer follows (length sizes) r chain chained l e in
-        omega (arith, reverse_length (r ∷ chain), chain_length follows (length sizes) (r ∷ chain) k, h.sized.few)
+        let k : is_chain follows (length q.sizes) (r ∷ chain) ≡ true = chain_longer follows (length q.sizes) r chain chained l e in
+        omega (arith, reverse_length (r ∷ chain), chain_length follows (length q.sizes) (r ∷ chain) k, h.sized.few)
 
-    sum_small : nat_abs (size +ℤ get_or sizes r (pos 0)) ≤ 8388608
-    sum_small = omega (arith, ap nat_abs (sum r), size_le sizes (reverse (r ∷ chain)) h.sized short)
+    sum_small : nat_abs (size +ℤ get_or q.sizes r (pos 0)) ≤ 8388608
+    sum_small = omega (arith, ap nat_abs (sum r), size_le q.sizes (reverse (r ∷ chain)) h.sized short)
 
     -- the longer chain's size as the machine adds it up
-    pub sum_fits : SFits w32 (to_z w32 (of_z w32 size) +ℤ to_z w32 (of_z w32 (get_or sizes r (pos 0))))
-    sum_fits = rw (back size (omega (arith, size_small)), back (get_or sizes r (pos 0)) (omega (arith, h.sized.sized r))) (fits (size +ℤ get_or sizes r (pos 0)) (omega (arith, sum_small)))
+    pub sum_fits : SFits w32 (to_z w32 (of_z w32 size) +ℤ to_z w32 (of_z w32 (get_or q.sizes r (pos 0))))
+    sum_fits = rw (back size (omega (arith, size_small)), back (get_or q.sizes r (pos 0)) (omega (arith, h.sized.sized r))) (fits (size +ℤ get_or q.sizes r (pos 0)) (omega (arith, sum_small)))
 
-    sum_back : to_z w32 (of_z w32 (to_z w32 (of_z w32 size) +ℤ to_z w32 (of_z w32 (get_or sizes r (pos 0))))) ≡ size +ℤ get_or sizes r (pos 0)
-    sum_back = rw (back size (omega (arith, size_small)), back (get_or sizes r (pos 0)) (omega (arith, h.sized.sized r))) (back (size +ℤ get_or sizes r (pos 0)) (omega (arith, sum_small)))
+    sum_back : to_z w32 (of_z w32 (to_z w32 (of_z w32 size) +ℤ to_z w32 (of_z w32 (get_or q.sizes r (pos 0))))) ≡ size +ℤ get_or q.sizes r (pos 0)
+    sum_back = rw (back size (omega (arith, size_small)), back (get_or q.sizes r (pos 0)) (omega (arith, h.sized.sized r))) (back (size +ℤ get_or q.sizes r (pos 0)) (omega (arith, sum_small)))
 
     -- what its key is asked with, and what it is
-    pub key_sizes : (nat_abs (to_z w32 (of_z w32 (to_z w32 (of_z w32 size) +ℤ to_z w32 (of_z w32 (get_or sizes r (pos 0)))))) ≤ 8388608) × (nat_abs (to_z w32 (of_z w32 plan.target)) ≤ 8388608)
-    key_sizes = (omega (arith, ap nat_abs sum_back, sum_small), omega (arith, ap nat_abs (back plan.target (omega (arith, h.target_small))), h.target_small))
+    pub key_sizes : (nat_abs (to_z w32 (of_z w32 (to_z w32 (of_z w32 size) +ℤ to_z w32 (of_z w32 (get_or q.sizes r (pos 0)))))) ≤ 8388608) × (nat_abs (to_z w32 (of_z w32 q.plan.target)) ≤ 8388608)
+    key_sizes = (omega (arith, ap nat_abs sum_back, sum_small), omega (arith, ap nat_abs (back q.plan.target (omega (arith, h.target_small))), h.target_small))
 
-    key_is : {k : ℕ} (m : ℕ) → k ≡ key_of (nat_abs (to_z w32 (of_z w32 (to_z w32 (of_z w32 size) +ℤ to_z w32 (of_z w32 (get_or sizes r (pos 0))))) -ℤ to_z w32 (of_z w32 plan.target))) m
-        → k ≡ key_of (distance_to sizes plan.target (r ∷ chain)) m
+    key_is : {k : ℕ} (m : ℕ) → k ≡ key_of (nat_abs (to_z w32 (of_z w32 (to_z w32 (of_z w32 size) +ℤ to_z w32 (of_z w32 (get_or q.sizes r (pos 0))))) -ℤ to_z w32 (of_z w32 q.plan.target))) m
+        → k ≡ key_of (distance_to q.sizes q.plan.target (r ∷ chain)) m
     unfolding distance_to
-    key_is m q = rw (← sum r, ← sum_back) (rw (back plan.target (omega (arith, h.target_small))) at q)
+    key_is m g = rw (← sum r, ← sum_back) (rw (back q.plan.target (omega (arith, h.target_small))) at g)
 
   -- a turn of the loop whose row extends the chain: its link stands behind the others, and its key is put to the others
   pub queueing_row : (links' : List ℕ) {keys' : List ℕ} {added r k : ℕ} {keys'' : List ℕ}
-      → Queueing (follows_by plan together) (length sizes) (distance_to sizes plan.target) used queued entry (parents_of links) (lasts_of links) keys (parents_of links')
+      → Queueing (follows_by q.plan q.together) (length q.sizes) (distance_to q.sizes q.plan.target) used queued entry (parents_of links) (lasts_of links) keys (parents_of links')
       (lasts_of links') keys' added r
-      → length links' ≡ length links → length keys' ≡ length keys → 0 < r → extends (follows_by plan together) (chain_of links entry) (r - 1) ≡ true
-      → k ≡ key_of (nat_abs (to_z w32 (of_z w32 (to_z w32 (of_z w32 size) +ℤ to_z w32 (of_z w32 (get_or sizes (r - 1) (pos 0))))) -ℤ to_z w32 (of_z w32 plan.target))) (used + added)
+      → length links' ≡ length links → length keys' ≡ length keys → 0 < r → extends (follows_by q.plan q.together) (chain_of links entry) (r - 1) ≡ true
+      → k ≡ key_of (nat_abs (to_z w32 (of_z w32 (to_z w32 (of_z w32 size) +ℤ to_z w32 (of_z w32 (get_or q.sizes (r - 1) (pos 0))))) -ℤ to_z w32 (of_z w32 q.plan.target))) (used + added)
       → Heap keys'' (queued + added + 1) (take (queued + added) keys' ++ (k ∷ []))
-      → Queueing (follows_by plan together) (length sizes) (distance_to sizes plan.target) used queued entry (parents_of links) (lasts_of links) keys
+      → Queueing (follows_by q.plan q.together) (length q.sizes) (distance_to q.sizes q.plan.target) used queued entry (parents_of links) (lasts_of links) keys
       (parents_of (set links' (used + added) (entry * 64 + (r - 1)))) (lasts_of (set links' (used + added) (entry * 64 + (r - 1)))) keys'' (added + 1) (r - 1)
-  queueing_row links' {added = added} {r = r} {k = k} q el ek p e key put =
-      let row : r - 1 < 64 = omega (arith, q.most, h.sized.few) in
+  queueing_row links' {added = added} {r = r} {k = k} v el ek p e key put =
+      let row : r - 1 < 64 = omega (arith, v.most, h.sized.few) in
       rw (parents_store links' (used + added) entry (r - 1) row, lasts_store links' (used + added) entry (r - 1) row)
-      (queueing_more q p e h.entry_in (omega (arith, parents_length links', h.link_room, q.most)) (omega (arith, lasts_length links', h.link_room, q.most))
-      (omega (arith, h.key_room, q.most)) h.few_entries k (key_is (omega (arith, q.most)) e (used + added) key) put)
+      (queueing_more v p e h.entry_in (omega (arith, parents_length links', h.link_room, v.most)) (omega (arith, lasts_length links', h.link_room, v.most))
+      (omega (arith, h.key_room, v.most)) h.few_entries k (key_is (omega (arith, v.most)) e (used + added) key) put)
 
 pub end_later : (e r : ℕ) {x : ℕ} → (e ≡ 0 → ⊥) → x ≡ r + 1 → x ≡ end_at e r
 end_later zero r h k = absurd (h refl)

@@ -176,7 +176,7 @@ module _ {s : Settings} {t : Table} {p : Parts} {rows positions : List ℕ} (y :
       list_row_is : row' ≡ features_of (4 ^ s.k) p.features positions
       list_row_is = g' ∙ rw l'
 
-      pub comparable : Comparable s size row (length rows) size' row' (length positions) (length p.sizes - length positions)
+      pub comparable : Comparable s (total size row (length rows)) (total size' row' (length positions)) (length p.sizes - length positions)
       comparable = rw (chain_row_is, list_row_is) (record {
         minkfreq = y.tables.minkfreq;
         widths = features_length (4 ^ s.k) t.features rows chain_sum ∙ sym (features_length (4 ^ s.k) p.features positions list_sum);

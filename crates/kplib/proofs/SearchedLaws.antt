@@ -16,11 +16,12 @@ use Rattle.params.specs.Numbers.{Table, Parts}
 use Rattle.kplib.specs.Parts.{whole_of}
 use Rattle.kplib.specs.Sums.{total_of}
 use Rattle.kplib.specs.Score.{total_score, chain_score}
+use Rattle.kplib.specs.Told.{told_of}
 use Rattle.kplib.specs.Scoring.{LaidDown}
 use Rattle.kplib.specs.Graph.{edge}
 use Rattle.kplib.specs.GraphWalk.{Together}
 use Rattle.kplib.specs.Search.{haplotype_size, result_with, result_of}
-use Rattle.kplib.specs.SearchSteps.{told, score_by, result_told, Searchable, Startable, Gone, Searched}
+use Rattle.kplib.specs.SearchSteps.{score_told, result_told, Searchable, Startable, Gone, Searched}
 use Rattle.params.specs.declared.Settings.{Settings}
 use Rattle.kplib.specs.declared.pathscore.Scored.{Scored}
 use Rattle.kplib.specs.declared.plan.Plan.{Plan}
@@ -50,7 +51,7 @@ plan_is s sizes w t = rw (w, t)
 module _ {s : Settings} {t : Table} {p : Parts} {plan : Plan} {codes : List ℕ} {list_sizes : List ℤ} {count linkRoom keyRoom : ℕ} (h : Startable s t p linkRoom keyRoom)
     (is : plan ≡ record { s = s; width = 4 ^ s.k; m = length p.sizes; target = haplotype_size p.sizes }) (d : LaidDown s p.sizes codes list_sizes count) where
   pub searchable_first : (together : List Bool) {lr kr room : ℕ} → lr ≡ linkRoom → kr ≡ keyRoom → room ≡ plan.width
-      → Searchable (told plan together t.sizes t.features p.features (take count codes) (take count list_sizes)) lr kr room
+      → Searchable (told_of plan together t.sizes t.features p.features (take count codes) (take count list_sizes)) lr kr room
   searchable_first together l k r = rw is (record {
     planned = record { minkfreq = h.checked.minkfreq; width_is = refl; few = h.checked.part_sized.few };
     target_small = haplotype_small p.sizes h.checked.part_sized;
@@ -67,15 +68,15 @@ module _ {s : Settings} {t : Table} {p : Parts} {plan : Plan} {codes : List ℕ}
   width_is : plan.width ≡ 4 ^ s.k
   width_is = ap (λ (x : Plan). x.width) is
 
-  result_same : (together : List Bool) (c : List ℕ) → result_told (told plan together t.sizes t.features p.features (take count codes) (take count list_sizes)) c ≡ result_of s t p c
-  unfolding result_told result_of score_by chain_score
+  result_same : (together : List Bool) (c : List ℕ) → result_told (told_of plan together t.sizes t.features p.features (take count codes) (take count list_sizes)) c ≡ result_of s t p c
+  unfolding result_told result_of score_told chain_score
   result_same together c =
       ap (λ (x : Scored). result_with (reverse c) x)
       (coded_score_lem plan p (ap (λ (x : Plan). x.s) is) (ap (λ (x : Plan). x.m) is) width_is d (total_of plan.width t.sizes t.features (reverse c))
       ∙ ap (λ (w : ℕ). total_score s p (total_of w t.sizes t.features (reverse c))) width_is)
 
   pub searched_as : {together : List Bool} {links : List ℕ} {at : Progress} → Together (edge t.starts t.ends) (length t.starts) together
-      → Gone (told plan together t.sizes t.features p.features (take count codes) (take count list_sizes)) links at → Searched s t p links at
+      → Gone (told_of plan together t.sizes t.features p.features (take count codes) (take count list_sizes)) links at → Searched s t p links at
   searched_as {together} {links} {at} g f =
       let e = ended_alike (result_same together) f.ended in
       let r = f.read in

@@ -19,9 +19,10 @@ use Rattle.paths.specs.Queue.{key_of, entry_of, Walk, Queued, Ended}
 use Rattle.paths.proofs.QueueLaws.{all_append, chain_parts, chain_end, chain_length}
 use Rattle.paths.proofs.RunLaws.{taken_in, begin, step_on, end_empty, end_steps}
 use Rattle.kplib.specs.Sums.{size_from, size_of}
+use Rattle.kplib.specs.Told.{Told}
 use Rattle.kplib.specs.Scoring.{AllBelow}
 use Rattle.kplib.specs.Search.{distance_to, result_with, start_result, no_lower}
-use Rattle.kplib.specs.SearchSteps.{later_of, advanced, not_begun, end_at, parents_of, lasts_of, chain_of, Told, follows_told, distance_told, result_told}
+use Rattle.kplib.specs.SearchSteps.{later_of, advanced, not_begun, parents_of, lasts_of, chain_of, follows_told, distance_told, result_told}
 use Rattle.kplib.specs.SearchSteps.{Extending, Weighable, WeighedAs, Searchable, best_at, Going, Gone}
 use Rattle.kplib.specs.declared.steps.Leader.{Leader}
 use Rattle.kplib.specs.declared.steps.Weighed.{Weighed}
@@ -30,7 +31,7 @@ use Rattle.kplib.proofs.WordLaws.{back}
 use Rattle.kplib.proofs.SizeSumLaws.{size_le}
 use Rattle.kplib.proofs.StandLaws.{later_same}
 use Rattle.kplib.proofs.LinkLaws.{parents_length, lasts_length}
-use Rattle.kplib.proofs.ExtensionLaws.{reverse_length, end_at_lem}
+use Rattle.kplib.proofs.ExtensionLaws.{reverse_length}
 
 chain_below : (follows : List ℕ → ℕ → Bool) (v : ℕ) (c : List ℕ) → is_chain follows v c ≡ true → AllBelow v (reverse c)
 chain_below follows v [] h = tt
@@ -73,7 +74,7 @@ module _ {q : Told} {room : ℕ} {links keys : List ℕ} {at : Progress} (h : Se
   }
 
   pub weighable : (e : ℕ) → e < at.used → {scratch : List ℤ} → length scratch ≡ room
-      → Weighable q.plan q.sizes q.features q.part_features q.codes q.list_sizes links e scratch
+      → Weighable q links e scratch
   weighable e l r = record {
     planned = h.planned;
     sized = h.sized;
@@ -108,16 +109,15 @@ module _ {q : Told} {room : ℕ} {links keys : List ℕ} {at : Progress} (h : Se
     size_back : {size : ℤ} → size ≡ size_of q.sizes (reverse (chain_of links e)) → to_z w32 (of_z w32 size) ≡ size
     size_back {size} hs = back size (omega (arith, ap nat_abs hs, size_le q.sizes (reverse (chain_of links e)) h.sized (omega (arith, reverse_length (chain_of links e), short e entry_in, few))))
 
-    pub extending : {end : ℕ} (size : ℤ) → end ≡ end_at e (get_or (lasts_of links) e 0) → size ≡ size_of q.sizes (reverse (chain_of links e))
-        → Extending q.plan q.together q.sizes links keys' at.used (at.queued - 1) e end (to_z w32 (of_z w32 size))
-    extending size he hs = record {
+    pub extending : (size : ℤ) → size ≡ size_of q.sizes (reverse (chain_of links e))
+        → Extending q links keys' at.used (at.queued - 1) e (to_z w32 (of_z w32 size))
+    extending size hs = record {
       link_room = omega (arith, h.link_room, after);
       key_room = omega (arith, h.key_room, after, key_count);
       few_entries = omega (arith, after, all_few);
       sized = h.sized;
       target_small = h.target_small;
       entry_in = entry_in;
-      end_is = he ∙ end_at_lem (parents_of links) (lasts_of links) e (λ i p z. g.run.queue.tree.links i p (omega (arith, entry_in)));
       size_is = size_back hs ∙ hs;
       tree = g.run.queue.tree;
       walk = walk_at e entry_in;
@@ -128,7 +128,7 @@ module _ {q : Told} {room : ℕ} {links keys : List ℕ} {at : Progress} (h : Se
         (p : Queued (follows_told q) (length q.sizes) (distance_told q) (parents_of links) (lasts_of links) keys' (at.queued - 1) at.used e
         (parents_of links') (lasts_of links') keys'' added)
         (within : at.queued - 1 + added ≤ length keys'')
-        (hw : WeighedAs q.plan q.sizes q.features q.part_features q.codes q.list_sizes (reverse (chain_of links e)) at.best.scored.score w)
+        (hw : WeighedAs q (reverse (chain_of links e)) at.best.scored.score w)
         (hr : to ≡ advanced at e w.scored added) where
       -- the leader is what the chain's own score would have made it
       kept_is : cond (le at.best.scored.score w.scored.score) (result_with (reverse (chain_of links e)) w.scored) (best_at links at)

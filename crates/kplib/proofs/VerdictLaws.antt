@@ -2,7 +2,6 @@
 use Rattle.std.specs.Prelude.{Option, Some, None}
 use mathlib.Core.Path.{◌≡◌, refl, sym, ap, ◌∙◌}
 use mathlib.Core.Bool.{Bool, true, false, cond, not, ◌&&◌}
-use mathlib.Core.List.{List}
 use Prim.Native.Nat.{ℕ}
 use native.Mathlib.Omega.{arith}
 use borrow.Author.Tests.{eq-eqb, ne_eqb}
@@ -15,90 +14,87 @@ use Rattle.std.specs.Int.{int_signum}
 use Rattle.metrics.specs.Similarity.{whole, sizesim_value, sum_d, sum_n}
 use Rattle.metrics.proofs.Casts.{one_is}
 use Rattle.metrics.proofs.FloatOrder.{le→Le}
+use Rattle.kplib.specs.Sums.{Total}
 use Rattle.kplib.specs.Score.{sign, gap_of, score_value, seqsim_of_rows, list_score, greater_of, scores_of}
-use Rattle.kplib.specs.Scoring.{total, Testable, Comparable, StandsFor, terms_of, may_score, may_win, verdict_of, Judged, own, idle}
+use Rattle.kplib.specs.Scoring.{tested_of, Testable, Comparable, StandsFor, terms_of, may_score, may_win, verdict_of, Judged, own, idle}
 use Rattle.params.specs.declared.Settings.{Settings}
 use Rattle.kplib.specs.declared.pathscore.Scored.{Scored}
 use Rattle.kplib.specs.declared.pathscore.Terms.{Terms}
+use Rattle.kplib.specs.declared.pathscore.Tested.{Tested}
 use Rattle.kplib.specs.declared.pathscore.Scores.{Scores}
 use Rattle.kplib.proofs.WordLaws.{back, same_sign, other_sign}
 use Rattle.kplib.proofs.RoundingLaws.{Safe, kept, score_grows, score_safe}
 use Rattle.kplib.proofs.StandLaws.{pass_floor, pass_best, tried}
 
 -- ---- the sizes as the machine reads them
-module _ {c : ℤ} {chainLen : ℕ} {l : ℤ} {listLen partial : ℕ} (y : Testable c chainLen l listLen partial) where
-  pub chain_as_read : to_z w32 (of_z w32 c) ≡ c
-  chain_as_read = back c (omega (arith, y.chain_size))
+module _ {m : Tested} (y : Testable m) where
+  pub chain_as_read : to_z w32 (of_z w32 m.chain_size) ≡ m.chain_size
+  chain_as_read = back m.chain_size (omega (arith, y.chain_size))
 
-  pub list_as_read : to_z w32 (of_z w32 l) ≡ l
-  list_as_read = back l (omega (arith, y.list_size))
+  pub list_as_read : to_z w32 (of_z w32 m.list_size) ≡ m.list_size
+  list_as_read = back m.list_size (omega (arith, y.list_size))
 
-  module _ {a b : ℤ} (f : a ≡ int_signum (to_z w32 (of_z w32 c))) (g : b ≡ int_signum (to_z w32 (of_z w32 l))) where
-    alike : of_z w32 a ≡ of_z w32 b → eqb (sign c) (sign l) ≡ true
-    alike h = eq-eqb (sign c) (sign l) (same_sign c l (rw chain_as_read at f) (rw list_as_read at g) h)
+  module _ {a b : ℤ} (f : a ≡ int_signum (to_z w32 (of_z w32 m.chain_size))) (g : b ≡ int_signum (to_z w32 (of_z w32 m.list_size))) where
+    alike : of_z w32 a ≡ of_z w32 b → eqb (sign m.chain_size) (sign m.list_size) ≡ true
+    alike h = eq-eqb (sign m.chain_size) (sign m.list_size) (same_sign m.chain_size m.list_size (rw chain_as_read at f) (rw list_as_read at g) h)
 
-    unlike : (of_z w32 a ≡ of_z w32 b → ⊥) → eqb (sign c) (sign l) ≡ false
-    unlike h = ne_eqb (sign c) (sign l) (other_sign c l (rw chain_as_read at f) (rw list_as_read at g) h)
+    unlike : (of_z w32 a ≡ of_z w32 b → ⊥) → eqb (sign m.chain_size) (sign m.list_size) ≡ false
+    unlike h = ne_eqb (sign m.chain_size) (sign m.list_size) (other_sign m.chain_size m.list_size (rw chain_as_read at f) (rw list_as_read at g) h)
 
-  pub size_is : {z : Float} → z ≡ sizesim_value (nat_abs (to_z w32 (of_z w32 c))) (nat_abs (to_z w32 (of_z w32 l))) → z ≡ sizesim_value (nat_abs c) (nat_abs l)
+  pub size_is : {z : Float} → z ≡ sizesim_value (nat_abs (to_z w32 (of_z w32 m.chain_size))) (nat_abs (to_z w32 (of_z w32 m.list_size)))
+      → z ≡ sizesim_value (nat_abs m.chain_size) (nat_abs m.list_size)
   size_is e = e ∙ rw (chain_as_read, list_as_read)
 
-  pub terms_read : (s : Settings) {floor best : Float} {r : Terms} → r ≡ terms_of s (to_z w32 (of_z w32 c)) chainLen (to_z w32 (of_z w32 l)) listLen partial floor best
-      → r ≡ terms_of s c chainLen l listLen partial floor best
-  terms_read s e = e ∙ rw (chain_as_read, list_as_read)
-
 -- ---- the score of a list
-module _ {s : Settings} {c : ℤ} {chainRow : List ℤ} {chainLen : ℕ} {l : ℤ} {listRow : List ℤ} {listLen partial : ℕ} (y : Comparable s c chainRow chainLen l listRow listLen partial)
-    {t : Bool} (te : t ≡ (s.squish && eqb chainLen 0)) where
-  pub by_squish : t ≡ true → None ≡ list_score s (total c chainRow chainLen) (total l listRow listLen) partial
+module _ {s : Settings} {chain list : Total} {partial : ℕ} (y : Comparable s chain list partial) {t : Bool} (te : t ≡ (s.squish && eqb chain.count 0)) where
+  pub by_squish : t ≡ true → None ≡ list_score s chain list partial
   unfolding list_score
   by_squish h = rw (sym te ∙ h)
 
-  module _ (tf : t ≡ false) {a b : ℤ} (f : a ≡ int_signum (to_z w32 (of_z w32 c))) (g : b ≡ int_signum (to_z w32 (of_z w32 l))) where
-    pub by_sign : (of_z w32 a ≡ of_z w32 b → ⊥) → None ≡ list_score s (total c chainRow chainLen) (total l listRow listLen) partial
+  module _ (tf : t ≡ false) {a b : ℤ} (f : a ≡ int_signum (to_z w32 (of_z w32 chain.size))) (g : b ≡ int_signum (to_z w32 (of_z w32 list.size))) where
+    pub by_sign : (of_z w32 a ≡ of_z w32 b → ⊥) → None ≡ list_score s chain list partial
     unfolding list_score
     by_sign h = rw (sym te ∙ tf, unlike y.tests f g h)
 
-    module _ (h : of_z w32 a ≡ of_z w32 b) {z : Float} (ze : z ≡ sizesim_value (nat_abs (to_z w32 (of_z w32 c))) (nat_abs (to_z w32 (of_z w32 l)))) where
-      pub by_size : lt z s.sizesim ≡ true → None ≡ list_score s (total c chainRow chainLen) (total l listRow listLen) partial
+    module _ (h : of_z w32 a ≡ of_z w32 b) {z : Float} (ze : z ≡ sizesim_value (nat_abs (to_z w32 (of_z w32 chain.size))) (nat_abs (to_z w32 (of_z w32 list.size)))) where
+      pub by_size : lt z s.sizesim ≡ true → None ≡ list_score s chain list partial
       unfolding list_score
       by_size k = rw (sym te ∙ tf, alike y.tests f g h, rw (size_is y.tests ze) at k)
 
-      module _ (zf : lt z s.sizesim ≡ false) {q : Float} (qe : q ≡ seqsim_of_rows s.minkfreq chainRow listRow) where
-        pub by_seq : lt q s.seqsim ≡ true → None ≡ list_score s (total c chainRow chainLen) (total l listRow listLen) partial
+      module _ (zf : lt z s.sizesim ≡ false) {q : Float} (qe : q ≡ seqsim_of_rows s.minkfreq chain.features list.features) where
+        pub by_seq : lt q s.seqsim ≡ true → None ≡ list_score s chain list partial
         unfolding list_score
         by_seq k = rw (sym te ∙ tf, alike y.tests f g h, rw (size_is y.tests ze) at zf, rw qe at k)
 
-        pub by_score : lt q s.seqsim ≡ false → {w : ℕ} → w ≡ gap_of s.squish listLen chainLen → {x : Float} → x ≡ score_value s q z partial w
-            → Some (scores_of x z q) ≡ list_score s (total c chainRow chainLen) (total l listRow listLen) partial
+        pub by_score : lt q s.seqsim ≡ false → {w : ℕ} → w ≡ gap_of s.squish list.count chain.count → {x : Float} → x ≡ score_value s q z partial w
+            → Some (scores_of x z q) ≡ list_score s chain list partial
         unfolding list_score
         by_score k we xe =
             rw (xe, we, size_is y.tests ze, qe, sym te ∙ tf, alike y.tests f g h, rw (size_is y.tests ze) at zf, rw qe at k)
 
 -- ---- whether it may win
-module _ (s : Settings) (floor best : Float) {c : ℤ} {chainLen : ℕ} {l : ℤ} {listLen partial : ℕ} (y : Testable c chainLen l listLen partial)
-    {t : Bool} (te : t ≡ (s.squish && eqb chainLen 0)) where
-  pub lost_by_squish : t ≡ true → false ≡ may_win s c chainLen l listLen partial floor best
+module _ (s : Settings) (floor best : Float) {m : Tested} (y : Testable m) {t : Bool} (te : t ≡ (s.squish && eqb m.chain_len 0)) where
+  pub lost_by_squish : t ≡ true → false ≡ may_win s m floor best
   unfolding may_win
   lost_by_squish h = rw (sym te ∙ h)
 
-  module _ (tf : t ≡ false) {a b : ℤ} (f : a ≡ int_signum (to_z w32 (of_z w32 c))) (g : b ≡ int_signum (to_z w32 (of_z w32 l))) where
-    pub lost_by_sign : (of_z w32 a ≡ of_z w32 b → ⊥) → false ≡ may_win s c chainLen l listLen partial floor best
+  module _ (tf : t ≡ false) {a b : ℤ} (f : a ≡ int_signum (to_z w32 (of_z w32 m.chain_size))) (g : b ≡ int_signum (to_z w32 (of_z w32 m.list_size))) where
+    pub lost_by_sign : (of_z w32 a ≡ of_z w32 b → ⊥) → false ≡ may_win s m floor best
     unfolding may_win
     lost_by_sign h = rw (sym te ∙ tf, unlike y f g h)
 
-    module _ (h : of_z w32 a ≡ of_z w32 b) {r : Terms} (re : r ≡ terms_of s (to_z w32 (of_z w32 c)) chainLen (to_z w32 (of_z w32 l)) listLen partial floor best) where
-      pub lost_by_size : lt r.size s.sizesim ≡ true → false ≡ may_win s c chainLen l listLen partial floor best
+    module _ (h : of_z w32 a ≡ of_z w32 b) {r : Terms} (re : r ≡ terms_of s m floor best) where
+      pub lost_by_size : lt r.size s.sizesim ≡ true → false ≡ may_win s m floor best
       unfolding may_win
       lost_by_size k =
-          let j : lt (sizesim_value (nat_abs c) (nat_abs l)) s.sizesim ≡ true = sym (ap (λ (x : Terms). lt x.size s.sizesim) (terms_read y s re)) ∙ k in
+          let j : lt (sizesim_value (nat_abs m.chain_size) (nat_abs m.list_size)) s.sizesim ≡ true = sym (ap (λ (x : Terms). lt x.size s.sizesim) re) ∙ k in
           rw (sym te ∙ tf, alike y f g h, j)
 
-      pub by_bound : lt r.size s.sizesim ≡ false → {w : Bool} → w ≡ may_score s r (of_bits binary32 0x3f80_0000) → w ≡ may_win s c chainLen l listLen partial floor best
+      pub by_bound : lt r.size s.sizesim ≡ false → {w : Bool} → w ≡ may_score s r (of_bits binary32 0x3f80_0000) → w ≡ may_win s m floor best
       unfolding may_win
       by_bound k {w} e =
-          let j : lt (sizesim_value (nat_abs c) (nat_abs l)) s.sizesim ≡ false = sym (ap (λ (x : Terms). lt x.size s.sizesim) (terms_read y s re)) ∙ k in
-          rw (sym te ∙ tf, alike y f g h, j) (e ∙ rw (one_is, terms_read y s re))
+          let j : lt (sizesim_value (nat_abs m.chain_size) (nat_abs m.list_size)) s.sizesim ≡ false = sym (ap (λ (x : Terms). lt x.size s.sizesim) re) ∙ k in
+          rw (sym te ∙ tf, alike y f g h, j) (e ∙ rw (one_is, re))
 
 -- ---- a list that could not win, with its own seqsim or one that is no less
 module _ (s : Settings) (terms : Terms) (full best : Scored) (e : best.score ≡ terms.best) (x z q : Float) (partial : ℕ) (st : StandsFor terms.floor full best) where
@@ -134,12 +130,12 @@ judged_stands {s} {terms} {seq} {v} (own k) full best e st = rw k (tried terms.f
 judged_stands {s} {terms} {seq} {v} (idle most k h f) full best e st = rw k (idle_stands s terms seq most full best e h f st (lt seq s.seqsim))
 
 -- a list that may not win is skipped, or scores no more than with seqsim 1.0, with which it could not win
-module _ (s : Settings) (floor : Float) (full best : Scored) (c : ℤ) (chainRow : List ℤ) (chainLen : ℕ) (l : ℤ) (listRow : List ℤ) (listLen partial : ℕ) where
+module _ (s : Settings) (floor : Float) (full best : Scored) (chain list : Total) (partial : ℕ) where
   abbrev terms : Terms
-  terms = terms_of s c chainLen l listLen partial floor best.score
+  terms = terms_of s (tested_of chain.size chain.count list.size list.count partial) floor best.score
 
   abbrev seq : Float
-  seq = seqsim_of_rows s.minkfreq chainRow listRow
+  seq = seqsim_of_rows s.minkfreq chain.features list.features
 
   lost_with : (empty sign size win below : Bool) → StandsFor floor full best → (not empty && (sign && (not size && win))) ≡ false
       → (win ≡ false → (x z q : Float) → Safe x (score_value s (whole 1) terms.size terms.partial terms.gap) → StandsFor floor (greater_of full partial (Some (scores_of x z q))) best)
@@ -152,15 +148,15 @@ module _ (s : Settings) (floor : Float) (full best : Scored) (c : ℤ) (chainRow
   lost_with false true false win true st h k = st
   lost_with false true false true false st h k = let z : ◌≡◌ {A = ℕ} 0 1 = cc in absurd (omega arith)
   lost_with false true false false false st h k =
-      let d = sum_d s.minkfreq chainRow listRow in
-      let n = sum_n s.minkfreq chainRow listRow in
+      let d = sum_d s.minkfreq chain.features list.features in
+      let n = sum_n s.minkfreq chain.features list.features in
       k refl (score_value s seq terms.size partial terms.gap) terms.size seq (score_safe s d n terms.size partial terms.gap)
 
-  pub lost : may_win s c chainLen l listLen partial floor best.score ≡ false → StandsFor floor full best
-      → StandsFor floor (greater_of full partial (list_score s (total c chainRow chainLen) (total l listRow listLen) partial)) best
+  pub lost : may_win s (tested_of chain.size chain.count list.size list.count partial) floor best.score ≡ false → StandsFor floor full best
+      → StandsFor floor (greater_of full partial (list_score s chain list partial)) best
   unfolding may_win list_score
   lost h st =
-      lost_with (s.squish && eqb chainLen 0) (eqb (sign c) (sign l)) (lt terms.size s.sizesim) (may_score s terms (whole 1)) (lt seq s.seqsim) st h
+      lost_with (s.squish && eqb chain.count 0) (eqb (sign chain.size) (sign list.size)) (lt terms.size s.sizesim) (may_score s terms (whole 1)) (lt seq s.seqsim) st h
       (λ f x z q safe. by_most s terms full best refl x z q partial st (whole 1) safe f)
 
   won_with : (empty sign size win : Bool) → (not empty && (sign && (not size && win))) ≡ true → (v : Option Scores)
@@ -171,8 +167,8 @@ module _ (s : Settings) (floor : Float) (full best : Scored) (c : ℤ) (chainRow
   won_with false true true win h v = let z : ◌≡◌ {A = ℕ} 0 1 = cc in absurd (omega arith)
 
   -- one that may win has the verdict by its seqsim
-  pub won : may_win s c chainLen l listLen partial floor best.score ≡ true
-      → list_score s (total c chainRow chainLen) (total l listRow listLen) partial
-      ≡ verdict_of s (terms_of s c chainLen l listLen partial floor best.score) (seqsim_of_rows s.minkfreq chainRow listRow)
+  pub won : may_win s (tested_of chain.size chain.count list.size list.count partial) floor best.score ≡ true
+      → list_score s chain list partial
+      ≡ verdict_of s (terms_of s (tested_of chain.size chain.count list.size list.count partial) floor best.score) (seqsim_of_rows s.minkfreq chain.features list.features)
   unfolding may_win list_score
-  won h = won_with (s.squish && eqb chainLen 0) (eqb (sign c) (sign l)) (lt terms.size s.sizesim) (may_score s terms (whole 1)) h (verdict_of s terms seq)
+  won h = won_with (s.squish && eqb chain.count 0) (eqb (sign chain.size) (sign list.size)) (lt terms.size s.sizesim) (may_score s terms (whole 1)) h (verdict_of s terms seq)

@@ -3,6 +3,7 @@ pub mod GraphWalk
 pub mod Parts
 pub mod Sums
 pub mod Score
+pub mod Told
 pub mod Scoring
 pub mod Blocks
 pub mod OneToOne

@@ -10,11 +10,14 @@ use Rattle.kplib.specs.Parts.{positions_from, whole_of, choices, falling_lists, 
 use Rattle.kplib.specs.Sums.{size_of, features_of, Total}
 use Rattle.kplib.specs.Score.{sign, gap_of, score_value, start, list_score, greater_of, scores_of}
 use Rattle.kplib.specs.OneToOne.{node_total, latest_of, over_nodes, no_lone}
+use Rattle.kplib.specs.declared
+use Rattle.kplib.specs.Told.{Told}
 use Rattle.params.specs.declared.Settings.{Settings}
 use Rattle.kplib.specs.declared.pathscore.Scored.{Scored}
 use Rattle.kplib.specs.declared.pathscore.Scores.{Scores}
 use Rattle.kplib.specs.declared.pathscore.Best.{Best}
 use Rattle.kplib.specs.declared.pathscore.Terms.{Terms}
+use Rattle.kplib.specs.declared.pathscore.Tested.{Tested}
 use Rattle.kplib.specs.declared.onetoone.Lone.{Lone}
 use Rattle.kplib.specs.declared.plan.Plan.{Plan}
 
@@ -134,21 +137,35 @@ abbrev pub chain_total : ℕ → List ℤ → List ℕ → ℤ → Total
 unfolding features_of
 chain_total e features chain size = total size (features_of e features chain) (length chain)
 
+-- what the code's struct holds
+abbrev pub total_held : declared.pathscore.Total.Total → Total
+total_held t = total t.size t.features.now t.count
+
+-- what the tests before seqsim's look at
+abbrev pub tested_of : ℤ → ℕ → ℤ → ℕ → ℕ → Tested
+tested_of chainSize chainLen listSize listLen partial = record {
+  chain_size = chainSize;
+  chain_len = chainLen;
+  list_size = listSize;
+  list_len = listLen;
+  partial = partial;
+}
+
 -- the sizes and lengths of a chain and of a list that leaves so many parts out, within the limits
-pub record Testable (chainSize : ℤ) (chainLen : ℕ) (listSize : ℤ) (listLen partial : ℕ) : Type 0 where
-  pub chain_size : nat_abs chainSize ≤ 8388608
-  pub list_size : nat_abs listSize ≤ 8388608
-  pub chain_few : chainLen ≤ 64
-  pub list_few : listLen ≤ 64
-  pub partial_few : partial ≤ 64
+pub record Testable (m : Tested) : Type 0 where
+  pub chain_size : nat_abs m.chain_size ≤ 8388608
+  pub list_size : nat_abs m.list_size ≤ 8388608
+  pub chain_few : m.chain_len ≤ 64
+  pub list_few : m.list_len ≤ 64
+  pub partial_few : m.partial ≤ 64
 
 -- a summed chain and a summed list, within what the similarities take
-pub record Comparable (s : Settings) (chainSize : ℤ) (chainRow : List ℤ) (chainLen : ℕ) (listSize : ℤ) (listRow : List ℤ) (listLen partial : ℕ) : Type 0 where
+pub record Comparable (s : Settings) (chain list : Total) (partial : ℕ) : Type 0 where
   pub minkfreq : s.minkfreq ≤ 16777216
-  pub widths : length chainRow ≡ length listRow
-  pub chain_row : magnitude_sum chainRow ≤ 8388608
-  pub list_row : magnitude_sum listRow ≤ 8388608
-  pub tests : Testable chainSize chainLen listSize listLen partial
+  pub widths : length chain.features ≡ length list.features
+  pub chain_row : magnitude_sum chain.features ≤ 8388608
+  pub list_row : magnitude_sum list.features ≤ 8388608
+  pub tests : Testable (tested_of chain.size chain.count list.size list.count partial)
 
 -- r may stand for the score x in a search whose best is at `floor`: it is x, or both are below the floor and replace nothing there
 pub data StandsFor (floor : Float) : Scored → Scored → Type 0 where
@@ -156,11 +173,11 @@ pub data StandsFor (floor : Float) : Scored → Scored → Type 0 where
   below : {x r : Scored} → lt x.score floor ≡ true → lt r.score floor ≡ true → StandsFor floor x r
 
 -- what a list's score depends on beside its seqsim, with what it must beat and reach
-abbrev pub terms_of : Settings → ℤ → ℕ → ℤ → ℕ → ℕ → Float → Float → Terms
-terms_of s chainSize chainLen listSize listLen partial floor best = record {
-  size = sizesim_value (nat_abs chainSize) (nat_abs listSize);
-  partial = partial;
-  gap = gap_of s.squish listLen chainLen;
+abbrev pub terms_of : Settings → Tested → Float → Float → Terms
+terms_of s m floor best = record {
+  size = sizesim_value (nat_abs m.chain_size) (nat_abs m.list_size);
+  partial = m.partial;
+  gap = gap_of s.squish m.list_len m.chain_len;
   floor = floor;
   best = best;
 }
@@ -172,11 +189,11 @@ may_score s terms seq =
     not (lt bound terms.floor) && not (le bound terms.best)
 
 -- whether a list passes the tests before seqsim's and, were its seqsim 1.0, could win
-unfoldable pub may_win : Settings → ℤ → ℕ → ℤ → ℕ → ℕ → Float → Float → Bool
+unfoldable pub may_win : Settings → Tested → Float → Float → Bool
 unfolding may_score
-may_win s chainSize chainLen listSize listLen partial floor best =
-    let terms = terms_of s chainSize chainLen listSize listLen partial floor best in
-    not (s.squish && eqb chainLen 0) && (eqb (sign chainSize) (sign listSize) && (not (lt terms.size s.sizesim) && may_score s terms (whole 1)))
+may_win s m floor best =
+    let terms = terms_of s m floor best in
+    not (s.squish && eqb m.chain_len 0) && (eqb (sign m.chain_size) (sign m.list_size) && (not (lt terms.size s.sizesim) && may_score s terms (whole 1)))
 
 -- the verdict by seqsim, where the tests before it are passed
 abbrev pub verdict_of : Settings → Terms → Float → Option Scores
@@ -234,22 +251,20 @@ unfolding after_codes after_code
 coded_score plan part_features codes sizes chain = after_codes (after_code plan part_features chain) start codes sizes
 
 -- one laid list about to be tried against a chain, with the scratch, which is the chain's row once it is summed
-pub record Attempt (plan : Plan) (features : List ℤ) (chain : List ℕ) (chainSize : ℤ) (part_features : List ℤ) (code : ℕ) (size : ℤ) (chosen : List ℕ) (scratch : List ℤ)
-    (weight : Option ℕ) : Type 0 where
-  pub planned : Planned plan
-  pub chained : Summable plan.width features chain
+pub record Attempt (q : Told) (chain : List ℕ) (chainSize : ℤ) (code : ℕ) (size : ℤ) (chosen : List ℕ) (scratch : List ℤ) (weight : Option ℕ) : Type 0 where
+  pub planned : Planned q.plan
+  pub chained : Summable q.plan.width q.features chain
   pub chain_size : nat_abs chainSize ≤ 8388608
-  pub part_rows : Flat plan.m plan.width part_features
-  pub listed : CodedList plan.m code size
+  pub part_rows : Flat q.plan.m q.plan.width q.part_features
+  pub listed : CodedList q.plan.m code size
   pub room : 64 ≤ length chosen
-  pub scratch_is : length scratch ≡ plan.width
-  pub ready : Ready weight scratch (features_of plan.width features chain)
+  pub scratch_is : length scratch ≡ q.plan.width
+  pub ready : Ready weight scratch (features_of q.plan.width q.features chain)
 
 -- what the best stood for, with the list tried, is what the result stands for
-pub record Attempted (plan : Plan) (features : List ℤ) (chain : List ℕ) (chainSize : ℤ) (part_features : List ℤ) (code : ℕ) (size : ℤ) (floor : Float) (best : Scored) (r : Best)
-    (scratch : List ℤ) : Type 0 where
-  pub stands : (x : Scored) → StandsFor floor x best → StandsFor floor (after_code plan part_features (chain_total plan.width features chain chainSize) x code size) r.scored
-  pub ready : Ready r.weight scratch (features_of plan.width features chain)
+pub record Attempted (q : Told) (chain : List ℕ) (chainSize : ℤ) (code : ℕ) (size : ℤ) (floor : Float) (best : Scored) (r : Best) (scratch : List ℤ) : Type 0 where
+  pub stands : (x : Scored) → StandsFor floor x best → StandsFor floor (after_code q.plan q.part_features (chain_total q.plan.width q.features chain chainSize) x code size) r.scored
+  pub ready : Ready r.weight scratch (features_of q.plan.width q.features chain)
 
 -- ---- a chain, and one-to-one
 
@@ -258,15 +273,14 @@ abbrev pub none_tried : Best
 none_tried = record { scored = start; weight = None }
 
 -- what scoring a chain asks: its rows and size, the parts' rows, the lists laid down, and the scratch
-pub record Scorable (plan : Plan) (features : List ℤ) (chain : List ℕ) (chainSize : ℤ) (part_features : List ℤ) (codes : List ℕ)
-    (list_sizes : List ℤ) (chosen : List ℕ) (scratch : List ℤ) : Type 0 where
-  pub planned : Planned plan
-  pub chained : Summable plan.width features chain
+pub record Scorable (q : Told) (chain : List ℕ) (chainSize : ℤ) (chosen : List ℕ) (scratch : List ℤ) : Type 0 where
+  pub planned : Planned q.plan
+  pub chained : Summable q.plan.width q.features chain
   pub chain_size : nat_abs chainSize ≤ 8388608
-  pub part_rows : Flat plan.m plan.width part_features
-  pub coded : Coded plan.m codes list_sizes
+  pub part_rows : Flat q.plan.m q.plan.width q.part_features
+  pub coded : Coded q.plan.m q.codes q.list_sizes
   pub room : 64 ≤ length chosen
-  pub scratch_is : length scratch ≡ plan.width
+  pub scratch_is : length scratch ≡ q.plan.width
 
 pub record Matchable (s : Settings) (t : Table) (p : Parts) (chosen : List ℕ) (wholeRow : List ℤ) : Type 0 where
   pub tables : Tables s t p

@@ -1,7 +1,6 @@
 -- What the functions behind the search ask and promise one another. No public promise cites this file.
 use Rattle.std.specs.Prelude.{ℕ, zero, suc, ◌+◌, ◌-◌, ◌*◌, ◌/◌, ◌%◌, ◌≤◌, ◌<◌, ◌≡◌, Bool, true, false, cond, List, map, reverse, eqb, Float, ℤ, nat_abs, length}
 use Rattle.std.specs.Float.Ieee.{le}
-use Rattle.paths.specs.Chains.{first_after}
 use Rattle.paths.specs.Count.{may_follow}
 use Rattle.paths.specs.Heap.{Ordered, Heap}
 use Rattle.paths.specs.Queue.{chain_at, Walk, Tree, Running, Ended}
@@ -9,6 +8,7 @@ use Rattle.params.specs.Checked.{Flat, Sized, Checked}
 use Rattle.params.specs.Numbers.{Table, Parts, falling_start}
 use Rattle.kplib.specs.Sums.{size_of, features_of, total_of}
 use Rattle.kplib.specs.Score.{start}
+use Rattle.kplib.specs.Told.{Told}
 use Rattle.kplib.specs.Scoring.{AllBelow, Planned, Coded, coded_score, StandsFor}
 use Rattle.kplib.specs.GraphWalk.{flag_of}
 use Rattle.kplib.specs.Search.{Result, distance_to, result_with, start_result, no_lower, follows_in, distance_in, result_of}
@@ -80,33 +80,9 @@ chain_of links e = chain_at (parents_of links) (lasts_of links) e
 
 -- ---- what the steps are told
 
-pub record Told : Type 0 where
-  pub plan : Plan
-  pub together : List Bool
-  pub sizes : List ℤ
-  pub features : List ℤ
-  pub part_features : List ℤ
-  pub codes : List ℕ
-  pub list_sizes : List ℤ
-
-abbrev pub told : Plan → List Bool → List ℤ → List ℤ → List ℤ → List ℕ → List ℤ → Told
-told plan together sizes features part_features codes list_sizes = record {
-  plan = plan;
-  together = together;
-  sizes = sizes;
-  features = features;
-  part_features = part_features;
-  codes = codes;
-  list_sizes = list_sizes;
-}
-
 -- the graph's rule by the flags, the distance to the target, and a chain's score and result by the lists as they lie
 abbrev pub follows_by : Plan → List Bool → List ℕ → ℕ → Bool
 follows_by plan together = may_follow (flag_of together) plan.s.full
-
-unfoldable pub score_by : Plan → List ℤ → List ℤ → List ℤ → List ℕ → List ℤ → List ℕ → Scored
-unfolding coded_score size_of features_of
-score_by plan sizes features part_features codes list_sizes rows = coded_score plan part_features codes list_sizes (total_of plan.width sizes features rows)
 
 module _ (q : Told) where
   abbrev pub follows_told : List ℕ → ℕ → Bool
@@ -115,38 +91,41 @@ module _ (q : Told) where
   abbrev pub distance_told : List ℕ → ℕ
   distance_told = distance_to q.sizes q.plan.target
 
+  unfoldable pub score_told : List ℕ → Scored
+  unfolding coded_score size_of features_of
+  score_told rows = coded_score q.plan q.part_features q.codes q.list_sizes (total_of q.plan.width q.sizes q.features rows)
+
   unfoldable pub result_told : List ℕ → Result
-  result_told c = result_with (reverse c) (score_by q.plan q.sizes q.features q.part_features q.codes q.list_sizes (reverse c))
+  result_told c = result_with (reverse c) (score_told (reverse c))
 
 -- an entry whose extensions are to be queued
-pub record Extending (plan : Plan) (together : List Bool) (sizes : List ℤ) (links keys : List ℕ) (used queued entry end : ℕ) (size : ℤ) : Type 0 where
-  pub link_room : used + length sizes ≤ length links
-  pub key_room : queued + length sizes ≤ length keys
-  pub few_entries : used + length sizes ≤ 1048576
-  pub sized : Sized sizes
-  pub target_small : nat_abs plan.target ≤ 8388608
+pub record Extending (q : Told) (links keys : List ℕ) (used queued entry : ℕ) (size : ℤ) : Type 0 where
+  pub link_room : used + length q.sizes ≤ length links
+  pub key_room : queued + length q.sizes ≤ length keys
+  pub few_entries : used + length q.sizes ≤ 1048576
+  pub sized : Sized q.sizes
+  pub target_small : nat_abs q.plan.target ≤ 8388608
   pub entry_in : entry < used
-  pub end_is : end ≡ first_after (chain_of links entry)
-  pub size_is : size ≡ size_of sizes (reverse (chain_of links entry))
-  pub tree : Tree (follows_by plan together) (length sizes) (parents_of links) (lasts_of links) used
+  pub size_is : size ≡ size_of q.sizes (reverse (chain_of links entry))
+  pub tree : Tree (follows_told q) (length q.sizes) (parents_of links) (lasts_of links) used
   pub walk : Walk (parents_of links) (lasts_of links) entry 64
   pub order : Ordered keys queued
 
 -- an entry whose chain is to be scored
-pub record Weighable (plan : Plan) (sizes features part_features : List ℤ) (codes : List ℕ) (list_sizes : List ℤ) (links : List ℕ) (entry : ℕ) (scratch : List ℤ) : Type 0 where
-  pub planned : Planned plan
-  pub sized : Sized sizes
-  pub rows : Flat (length sizes) plan.width features
-  pub part_rows : Flat plan.m plan.width part_features
-  pub coded : Coded plan.m codes list_sizes
+pub record Weighable (q : Told) (links : List ℕ) (entry : ℕ) (scratch : List ℤ) : Type 0 where
+  pub planned : Planned q.plan
+  pub sized : Sized q.sizes
+  pub rows : Flat (length q.sizes) q.plan.width q.features
+  pub part_rows : Flat q.plan.m q.plan.width q.part_features
+  pub coded : Coded q.plan.m q.codes q.list_sizes
   pub walk : Walk (parents_of links) (lasts_of links) entry 64
-  pub within : AllBelow (length sizes) (reverse (chain_of links entry))
+  pub within : AllBelow (length q.sizes) (reverse (chain_of links entry))
   pub most : length (reverse (chain_of links entry)) ≤ 64
-  pub scratch_is : length scratch ≡ plan.width
+  pub scratch_is : length scratch ≡ q.plan.width
 
-pub record WeighedAs (plan : Plan) (sizes features part_features : List ℤ) (codes : List ℕ) (list_sizes : List ℤ) (rows : List ℕ) (floor : Float) (r : Weighed) : Type 0 where
-  pub size_is : r.size ≡ size_of sizes rows
-  pub stands : StandsFor floor (score_by plan sizes features part_features codes list_sizes rows) r.scored
+pub record WeighedAs (q : Told) (rows : List ℕ) (floor : Float) (r : Weighed) : Type 0 where
+  pub size_is : r.size ≡ size_of q.sizes rows
+  pub stands : StandsFor floor (score_told q rows) r.scored
 
 -- what does not change in a search
 pub record Searchable (q : Told) (linkRoom keyRoom scratchRoom : ℕ) : Type 0 where

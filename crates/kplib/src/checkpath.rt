@@ -10,7 +10,7 @@ ghost use Rattle.kplib.specs.Scoring.{AllBelow};
 ghost use Rattle.kplib.specs.Proposal.{one_of, gives, proposal_of, pair_score, proposal_fault, rises_below, fewest_of, Pairable};
 ghost use Rattle.kplib.specs.Promises.{CheckPathPromise};
 
-use crate::pathscore::{Scores, list_score};
+use crate::pathscore::{Scores, Total, list_score};
 use crate::queue::rows_size;
 use crate::sums::sum_features;
 use metrics::floats::bits_of;
@@ -135,18 +135,17 @@ fn pair_score(
 {
     sum_features(table.features, rows, chain_row);
     sum_features(parts.features, positions, list_row);
-    let chain_size = rows_size(table.sizes, rows);
-    let list_size = rows_size(parts.sizes, positions);
-    list_score(
-        s,
-        chain_size,
-        chain_row,
-        rows.len(),
-        list_size,
-        list_row,
-        positions.len(),
-        parts.sizes.len() - positions.len(),
-    )
+    let chain = Total {
+        size: rows_size(table.sizes, rows),
+        features: chain_row,
+        count: rows.len(),
+    };
+    let list = Total {
+        size: rows_size(parts.sizes, positions),
+        features: list_row,
+        count: positions.len(),
+    };
+    list_score(s, chain, list, parts.sizes.len() - positions.len())
 }
 
 // The same, with the room that it asks.

@@ -23,37 +23,50 @@ fn plus_part(size: i32, part_sizes: &[i32], p: usize) -> i32
     size + part_sizes[p]
 }
 
-// Lays down the lists that begin with the d positions of `bits` and go on with n positions from p: those that take p, then
-// those that do not. Returns the end.
+// A part list begun: the positions of `bits`, `count` of them and all before `next`, whose bit is `bit`, and the sum of their sizes.
+#[derive(Clone, Copy)]
+struct Begun {
+    next: usize,
+    bit: u32,
+    bits: u32,
+    count: u32,
+    size: i32,
+}
+
+// Lays down the lists that are begun so and go on with n positions: those that take the next one, then those that do not.
+// Returns the end.
 fn lay_choices(
     sizes: &[i32],
-    p: usize,
+    begun: Begun,
     n: usize,
-    d: u32,
-    bits: u32,
-    bit: u32,
-    size: i32,
     at: usize,
     codes: &mut [u32],
     totals: &mut [i32],
 ) -> usize
-    requires { Choosing p n d bits bit at size sizes.now codes.old totals.old }
-    ensures { Chosen p n bits at sizes.now codes.old codes.new totals.old totals.new result }
+    requires { Choosing begun.next n begun.count begun.bits begun.bit at begun.size sizes.now codes.old totals.old }
+    ensures { Chosen begun.next n begun.bits at sizes.now codes.old codes.new totals.old totals.new result }
 {
-    if sizes.len() - p < n {
+    if sizes.len() - begun.next < n {
         return at;
     }
     if n == 0 {
-        codes[at] = bits + 65536 * d;
-        totals[at] = size;
+        codes[at] = begun.bits + 65536 * begun.count;
+        totals[at] = begun.size;
         return at + 1;
     }
-    let q = p + 1;
-    let next = bit * 2;
-    let taken = bits + bit;
-    let more = plus_part(size, sizes, p);
-    let mid = lay_choices(sizes, q, n - 1, d + 1, taken, next, more, at, codes, totals);
-    lay_choices(sizes, q, n, d, bits, next, size, mid, codes, totals)
+    let passed = Begun {
+        next: begun.next + 1,
+        bit: begun.bit * 2,
+        ..begun
+    };
+    let taken = Begun {
+        bits: begun.bits + begun.bit,
+        count: begun.count + 1,
+        size: plus_part(begun.size, sizes, begun.next),
+        ..passed
+    };
+    let mid = lay_choices(sizes, taken, n - 1, at, codes, totals);
+    lay_choices(sizes, passed, n, mid, codes, totals)
 }
 
 // Lays down the lists of m parts, then of m - 1, for so many lengths. Returns their number.
@@ -69,7 +82,14 @@ fn lay_lengths(
     let m = part_sizes.len();
     let mut at: usize = 0;
     for i in 0..lengths {
-        at = lay_choices(part_sizes, 0, m - i, 0, 0, 1, 0, at, codes, list_sizes);
+        let none = Begun {
+            next: 0,
+            bit: 1,
+            bits: 0,
+            count: 0,
+            size: 0,
+        };
+        at = lay_choices(part_sizes, none, m - i, at, codes, list_sizes);
     }
     at
 }

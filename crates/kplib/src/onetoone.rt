@@ -6,7 +6,7 @@ ghost use Rattle.kplib.specs.OneToOne.{latest_of, one_to_one};
 ghost use Rattle.kplib.specs.Scoring.{best_alone, Matchable, Matching};
 
 use crate::haplotype::{all_positions, whole_size};
-use crate::pathscore::{Scored, greater_of, list_score, nothing};
+use crate::pathscore::{Scored, Total, greater_of, list_score, nothing};
 use crate::plan::Plan;
 use crate::sums::sum_features;
 use crate::vargraph::Row;
@@ -48,16 +48,17 @@ fn match_rows(plan: Plan, table: &Table, whole_row: &[i32]) -> Lone
     let width = plan.width;
     for (r, size) in table.sizes.iter().enumerate() {
         let a = r * width;
-        let verdict = list_score(
-            s,
-            *size,
-            &table.features[a..a + width],
-            1,
-            plan.target,
-            whole_row,
-            plan.m,
-            0,
-        );
+        let node = Total {
+            size: *size,
+            features: &table.features[a..a + width],
+            count: 1,
+        };
+        let whole = Total {
+            size: plan.target,
+            features: whole_row,
+            count: plan.m,
+        };
+        let verdict = list_score(s, node, whole, 0);
         let x = greater_of(nothing(), 0, verdict);
         best = latest_of(best, Row(r as u32), x);
     }

@@ -3,11 +3,12 @@ ghost use Rattle.std.specs.Prelude.{◌≡◌, Some, ◌&&◌, ◌+◌, ◌*◌,
 ghost use Rattle.metrics.specs.Similarity.{sizesim_value, seqsim_value, magnitude_sum};
 ghost use Rattle.kplib.specs.Sums.{features_of};
 ghost use Rattle.kplib.specs.Score.{seqsim_of_rows, gap_of, score_value, list_score, start, target_of, greater_of};
+ghost use Rattle.kplib.specs.Told.{told_held};
 ghost use Rattle.kplib.specs.Scoring.{Summable, Ready, Testable, Comparable, StandsFor, terms_of, may_score, may_win, verdict_of, Judgeable, Judged};
-ghost use Rattle.kplib.specs.Scoring.{total, chain_total, coded_score, Attempt, Attempted, none_tried, Scorable};
+ghost use Rattle.kplib.specs.Scoring.{total_held, chain_total, coded_score, Attempt, Attempted, none_tried, Scorable};
 
 use crate::haplotype::positions;
-use crate::plan::Plan;
+use crate::plan::Told;
 use crate::sums::{Sums, block_end, sum_block, sum_features, weight_of};
 use metrics::lanes::magnitude;
 use params::Settings;
@@ -26,6 +27,38 @@ pub struct Scored {
     pub score: f32,
     pub sizesim: f32,
     pub seqsim: f32,
+}
+
+// What a chain or a part list is scored by: its size, its feature row, and how many rows it has.
+#[derive(Clone, Copy)]
+pub(crate) struct Total<'a> {
+    pub size: i32,
+    pub features: &'a [i32],
+    pub count: usize,
+}
+
+// A chain's rows, ascending, and its size.
+#[derive(Clone, Copy)]
+pub(crate) struct Chain<'a> {
+    pub rows: &'a [u32],
+    pub size: i32,
+}
+
+// A part list as it is laid down (haplotype.rs): its code, which is its length × 65,536 + its positions' bits, and its size.
+#[derive(Clone, Copy)]
+struct LaidList {
+    code: u32,
+    size: i32,
+}
+
+// What the tests before seqsim's look at: the sizes and lengths of a chain and of a list, and how many parts the list leaves out.
+#[derive(Clone, Copy)]
+struct Tested {
+    chain_size: i32,
+    chain_len: usize,
+    list_size: i32,
+    list_len: usize,
+    partial: usize,
 }
 
 // What a part list scored against a chain.
@@ -107,34 +140,25 @@ fn accepts_none(squish: bool, len: usize) -> bool
 }
 
 // A list's score against a chain, both summed.
-pub(crate) fn list_score(
-    s: Settings,
-    chain_size: i32,
-    chain_row: &[i32],
-    chain_len: usize,
-    list_size: i32,
-    list_row: &[i32],
-    list_len: usize,
-    partial: usize,
-) -> Option<Scores>
-    requires { Comparable s chain_size chain_row.now chain_len list_size list_row.now list_len partial }
-    ensures { result ≡ list_score s (total chain_size chain_row.now chain_len) (total list_size list_row.now list_len) partial }
+pub(crate) fn list_score(s: Settings, chain: Total, list: Total, partial: usize) -> Option<Scores>
+    requires { Comparable s (total_held chain) (total_held list) partial }
+    ensures { result ≡ list_score s (total_held chain.entry) (total_held list.entry) partial }
 {
-    if accepts_none(s.squish, chain_len) {
+    if accepts_none(s.squish, chain.count) {
         return None;
     }
-    if chain_size.signum() != list_size.signum() {
+    if chain.size.signum() != list.size.signum() {
         return None;
     }
-    let size = size_alike(chain_size, list_size);
+    let size = size_alike(chain.size, list.size);
     if size < s.sizesim {
         return None;
     }
-    let seq = seq_alike(chain_row, list_row, s.minkfreq);
+    let seq = seq_alike(chain.features, list.features, s.minkfreq);
     if seq < s.seqsim {
         return None;
     }
-    let g = gap_of(s.squish, list_len, chain_len);
+    let g = gap_of(s.squish, list.count, chain.count);
     Some(Scores {
         score: score_value(s, seq, size, partial, g),
         sizesim: size,
@@ -182,25 +206,14 @@ fn ready(table: &[i32], chain: &[u32], row: &mut [i32], weight: Option<u32>) -> 
     }
 }
 
-fn terms_of(
-    s: Settings,
-    chain_size: i32,
-    chain_len: usize,
-    list_size: i32,
-    list_len: usize,
-    partial: usize,
-    floor: f32,
-    best: f32,
-) -> Terms
-    requires { Testable chain_size chain_len list_size list_len partial }
-    ensures { (result ≡ terms_of s chain_size chain_len list_size list_len partial floor best) × (result.partial ≤ 64) × (result.gap ≤ 64) }
+fn terms_of(s: Settings, tested: Tested, floor: f32, best: f32) -> Terms
+    requires { Testable tested }
+    ensures { (result ≡ terms_of s tested floor best) × (result.partial ≤ 64) × (result.gap ≤ 64) }
 {
-    let size = size_alike(chain_size, list_size);
-    let gap = gap_of(s.squish, list_len, chain_len);
     Terms {
-        size,
-        partial,
-        gap,
+        size: size_alike(tested.chain_size, tested.list_size),
+        partial: tested.partial,
+        gap: gap_of(s.squish, tested.list_len, tested.chain_len),
         floor,
         best,
     }
@@ -219,28 +232,17 @@ fn may_score(s: Settings, terms: Terms, seq: f32) -> bool
 }
 
 // Whether a list passes the tests before seqsim's and, were its seqsim 1.0, could win.
-fn may_win(
-    s: Settings,
-    chain_size: i32,
-    chain_len: usize,
-    list_size: i32,
-    list_len: usize,
-    partial: usize,
-    floor: f32,
-    best: f32,
-) -> bool
-    requires { Testable chain_size chain_len list_size list_len partial }
-    ensures { result ≡ may_win s chain_size chain_len list_size list_len partial floor best }
+fn may_win(s: Settings, tested: Tested, floor: f32, best: f32) -> bool
+    requires { Testable tested }
+    ensures { result ≡ may_win s tested floor best }
 {
-    if accepts_none(s.squish, chain_len) {
+    if accepts_none(s.squish, tested.chain_len) {
         return false;
     }
-    if chain_size.signum() != list_size.signum() {
+    if tested.chain_size.signum() != tested.list_size.signum() {
         return false;
     }
-    let terms = terms_of(
-        s, chain_size, chain_len, list_size, list_len, partial, floor, best,
-    );
+    let terms = terms_of(s, tested, floor, best);
     if terms.size < s.sizesim {
         return false;
     }
@@ -305,34 +307,36 @@ fn judge(
 
 // One laid list against the chain, in a search whose best is at `floor`. The scratch is the chain's row, once it is summed.
 fn try_list(
-    plan: Plan,
-    features: &[i32],
-    chain: &[u32],
-    chain_size: i32,
-    part_features: &[i32],
-    code: u32,
-    size: i32,
+    told: &Told,
+    chain: Chain,
+    list: LaidList,
     chosen: &mut [u32],
     scratch: &mut [i32],
     floor: f32,
     best: Best,
 ) -> Best
-    requires { Attempt plan features.now chain.now chain_size part_features.now code size chosen.old scratch.old best.weight }
-    ensures { Attempted plan features.now chain.now chain_size part_features.now code size floor best.scored result scratch.new }
+    requires { Attempt (told_held told.now) chain.rows.now chain.size list.code list.size chosen.old scratch.old best.weight }
+    ensures { Attempted (told_held told.now) chain.entry.rows.now chain.entry.size list.code list.size floor best.scored result scratch.new }
 {
-    let s = plan.s;
-    let n = (code / 65536) as usize;
-    let partial = plan.m - n;
-    let len = chain.len();
+    let s = told.plan.s;
+    let m = told.plan.m;
     let old = best.scored;
-    if !may_win(s, chain_size, len, size, n, partial, floor, old.score) {
+    let list_len = (list.code / 65536) as usize;
+    let tested = Tested {
+        chain_size: chain.size,
+        chain_len: chain.rows.len(),
+        list_size: list.size,
+        list_len,
+        partial: m - list_len,
+    };
+    if !may_win(s, tested, floor, old.score) {
         return best;
     }
-    let d = positions(code, plan.m, chosen);
-    let weight = ready(features, chain, scratch, best.weight);
-    let terms = terms_of(s, chain_size, len, size, n, partial, floor, old.score);
-    let verdict = judge(s, part_features, &chosen[..d], scratch, weight, terms);
-    let scored = greater_of(old, partial, verdict);
+    let d = positions(list.code, m, chosen);
+    let weight = ready(told.features, chain.rows, scratch, best.weight);
+    let terms = terms_of(s, tested, floor, old.score);
+    let verdict = judge(s, told.part_features, &chosen[..d], scratch, weight, terms);
+    let scored = greater_of(old, tested.partial, verdict);
     Best {
         scored,
         weight: Some(weight),
@@ -352,36 +356,24 @@ fn none_tried() -> Best
 // The score of a chain of this size, for a search whose best is at `floor`: a list that cannot reach it is passed over. The scratch is lent, so that
 // nothing is cleared for a chain that no list passes the tests with.
 pub(crate) fn score_chain(
-    plan: Plan,
-    features: &[i32],
-    chain: &[u32],
-    chain_size: i32,
-    part_features: &[i32],
-    codes: &[u32],
-    list_sizes: &[i32],
+    told: &Told,
+    chain: Chain,
     chosen: &mut [u32],
     scratch: &mut [i32],
     floor: f32,
 ) -> Scored
-    requires { Scorable plan features.now chain.now chain_size part_features.now codes.now list_sizes.now chosen.old scratch.old }
-    ensures { let chain = chain_total plan.width features.now chain.entry.now chain_size in
-        StandsFor floor (coded_score plan part_features.now codes.now list_sizes.now chain) result }
+    requires { Scorable (told_held told.now) chain.rows.now chain.size chosen.old scratch.old }
+    ensures { let q = told_held told.now in
+        let total = chain_total q.plan.width q.features chain.entry.rows.now chain.entry.size in
+        StandsFor floor (coded_score q.plan q.part_features q.codes q.list_sizes total) result }
 {
     let mut best = none_tried();
-    for (i, code) in codes.iter().enumerate() {
-        best = try_list(
-            plan,
-            features,
-            chain,
-            chain_size,
-            part_features,
-            *code,
-            list_sizes[i],
-            chosen,
-            scratch,
-            floor,
-            best,
-        );
+    for (i, code) in told.lists.codes.iter().enumerate() {
+        let list = LaidList {
+            code: *code,
+            size: told.lists.sizes[i],
+        };
+        best = try_list(told, chain, list, chosen, scratch, floor, best);
     }
     best.scored
 }

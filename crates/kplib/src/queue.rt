@@ -8,10 +8,11 @@ ghost use Rattle.paths.specs.Queue.{Walk, Queued, key_of, entry_of};
 ghost use Rattle.kplib.specs.Sums.{size_of};
 ghost use Rattle.kplib.specs.GraphWalk.{flag_of, Flagged};
 ghost use Rattle.kplib.specs.Search.{distance_to};
+ghost use Rattle.kplib.specs.Told.{told_held};
 ghost use Rattle.kplib.specs.SearchSteps.{parents_of, lasts_of, chain_of, Rowed, Extending, follows_by, end_at};
 
 use crate::heap::{put_key, take_least};
-use crate::plan::Plan;
+use crate::plan::Told;
 use crate::vargraph::{Node, Row, node_of, stand_with};
 
 // Takes the nearest entry, the earliest queued among equals, out of the queue.
@@ -59,7 +60,7 @@ pub(crate) fn rows_size(sizes: &[i32], rows: &[u32]) -> i32
 }
 
 // The node at which an entry's chain ends.
-pub(crate) fn end_node(links: &[u32], entry: usize) -> Node
+fn end_node(links: &[u32], entry: usize) -> Node
     requires { entry < length links.now }
     ensures { result.0 ≡ end_at entry (get_or (lasts_of links.now) entry 0) }
 {
@@ -85,35 +86,33 @@ fn followers(together: &[bool; 4096], full: bool, links: &[u32], entry: usize) -
 }
 
 // Queues the extensions of an entry's chain, highest node first: behind the `used` entries, and to the `queued` keys. Returns
-// how many. `end` is the node at which the chain ends, `size` its size.
+// how many. `size` is the chain's size.
 pub(crate) fn queue_extensions(
-    plan: Plan,
-    together: &[bool; 4096],
-    sizes: &[i32],
+    told: &Told,
     links: &mut [u32],
     keys: &mut [u64],
     used: usize,
     queued: usize,
     entry: usize,
-    end: Node,
     size: i32,
 ) -> usize
-    requires { Extending plan together.now sizes.now links.old keys.old used queued entry end.0 size }
-    ensures fact { let follows = follows_by plan together.now in
-        let distance = distance_to sizes.now plan.target in
-        Queued follows (length sizes.now) distance (parents_of links.old) (lasts_of links.old) keys.old queued used entry
+    requires { Extending (told_held told.now) links.old keys.old used queued entry size }
+    ensures fact { let q = told_held told.now in
+        let follows = follows_by q.plan q.together in
+        let distance = distance_to q.sizes q.plan.target in
+        Queued follows (length q.sizes) distance (parents_of links.old) (lasts_of links.old) keys.old queued used entry
         (parents_of links.new) (lasts_of links.new) keys.new result }
     ensures result_in_bounds { queued + result ≤ length keys.new }
 {
-    let may = followers(together, plan.s.full, links, entry);
-    let first = end.0 as usize;
+    let may = followers(told.together, told.plan.s.full, links, entry);
+    let first = end_node(links, entry).0 as usize;
     let parent = (entry as u32) * 64;
     let mut added: usize = 0;
-    for r in (first..sizes.len()).rev() {
+    for r in (first..told.sizes.len()).rev() {
         if may[r] {
             let new = used + added;
             links[new] = parent + (r as u32);
-            let k = key(size + sizes[r], plan.target, new);
+            let k = key(size + told.sizes[r], told.plan.target, new);
             put_key(keys, queued + added, k);
             added += 1;
         }

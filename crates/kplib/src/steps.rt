@@ -1,12 +1,13 @@
 // The search over the chains of a table, step by step (traverse.rs).
 ghost use Rattle.std.specs.Prelude.{◌≡◌, reverse, ◌+◌, ◌<◌, ◌≤◌, ◌^◌, length};
 ghost use Rattle.params.specs.Held.{table_held, parts_held};
-ghost use Rattle.kplib.specs.SearchSteps.{told, chain_of, later_of, advanced, not_begun, Weighable, WeighedAs, Searchable, Going, Gone, Startable, Searched};
+ghost use Rattle.kplib.specs.Told.{told_held};
+ghost use Rattle.kplib.specs.SearchSteps.{chain_of, later_of, advanced, not_begun, Weighable, WeighedAs, Searchable, Going, Gone, Startable, Searched};
 
 use crate::haplotype::{lay_lists, whole_size};
-use crate::pathscore::{Scored, nothing, score_chain};
-use crate::plan::Plan;
-use crate::queue::{end_node, key, queue_extensions, read_chain, rows_size, take_next};
+use crate::pathscore::{Chain, Scored, nothing, score_chain};
+use crate::plan::{Laid, Plan, Told};
+use crate::queue::{key, queue_extensions, read_chain, rows_size, take_next};
 use crate::vargraph::pairs_together;
 use metrics::kmer::entries;
 use params::{Parts, Settings, Table};
@@ -35,38 +36,16 @@ pub(crate) struct Progress {
 }
 
 // Reads an entry's chain back, and scores it for a search whose best is at `floor`.
-fn weigh(
-    plan: Plan,
-    sizes: &[i32],
-    features: &[i32],
-    part_features: &[i32],
-    codes: &[u32],
-    list_sizes: &[i32],
-    links: &[u32],
-    entry: usize,
-    scratch: &mut [i32],
-    floor: f32,
-) -> Weighed
-    requires { Weighable plan sizes.now features.now part_features.now codes.now list_sizes.now links.now entry scratch.old }
-    ensures { WeighedAs plan sizes.now features.now part_features.now codes.now list_sizes.now
-        (reverse (chain_of links.now entry)) floor result }
+fn weigh(told: &Told, links: &[u32], entry: usize, scratch: &mut [i32], floor: f32) -> Weighed
+    requires { Weighable (told_held told.now) links.now entry scratch.old }
+    ensures { WeighedAs (told_held told.now) (reverse (chain_of links.now entry)) floor result }
 {
     let mut chain = [0u32; 64];
     let mut chosen = [0u32; 64];
     let at = read_chain(links, entry, &mut chain);
-    let size = rows_size(sizes, &chain[at..]);
-    let scored = score_chain(
-        plan,
-        features,
-        &chain[at..],
-        size,
-        part_features,
-        codes,
-        list_sizes,
-        &mut chosen,
-        scratch,
-        floor,
-    );
+    let rows = &chain[at..];
+    let size = rows_size(told.sizes, rows);
+    let scored = score_chain(told, Chain { rows, size }, &mut chosen, scratch, floor);
     Weighed { size, scored }
 }
 
@@ -96,88 +75,40 @@ fn advance(at: Progress, entry: usize, scored: Scored, added: usize) -> Progress
 
 // One step of the search: takes the nearest chain, scores it, and queues its extensions.
 fn step(
-    plan: Plan,
-    together: &[bool; 4096],
-    sizes: &[i32],
-    features: &[i32],
-    part_features: &[i32],
-    codes: &[u32],
-    list_sizes: &[i32],
+    told: &Told,
     links: &mut [u32],
     keys: &mut [u64],
     scratch: &mut [i32],
     at: Progress,
 ) -> Progress
-    requires { let q = told plan together.now sizes.now features.now part_features.now codes.now list_sizes.now in
+    requires { let q = told_held told.now in
         (Searchable q (length links.old) (length keys.old) (length scratch.old))
-        × ((0 < at.queued) × (at.count < plan.s.maxpaths + 1) × (Going q links.old keys.old at)) }
-    ensures { let q = told plan together.now sizes.now features.now part_features.now codes.now list_sizes.now in
-        (Going q links.new keys.new result) × (result.count ≡ at.count + 1) }
+        × ((0 < at.queued) × (at.count < q.plan.s.maxpaths + 1) × (Going q links.old keys.old at)) }
+    ensures { (Going (told_held told.now) links.new keys.new result) × (result.count ≡ at.count + 1) }
 {
     let entry = take_next(keys, at.queued);
-    let Weighed { size, scored } = weigh(
-        plan,
-        sizes,
-        features,
-        part_features,
-        codes,
-        list_sizes,
-        links,
-        entry,
-        scratch,
-        at.best.scored.score,
-    );
-    let end = end_node(links, entry);
-    let added = queue_extensions(
-        plan,
-        together,
-        sizes,
-        links,
-        keys,
-        at.used,
-        at.queued - 1,
-        entry,
-        end,
-        size,
-    );
+    let floor = at.best.scored.score;
+    let Weighed { size, scored } = weigh(told, links, entry, scratch, floor);
+    let added = queue_extensions(told, links, keys, at.used, at.queued - 1, entry, size);
     advance(at, entry, scored, added)
 }
 
 // Steps until none is queued or maxpaths + 1 chains are scored.
 fn run(
-    plan: Plan,
-    together: &[bool; 4096],
-    sizes: &[i32],
-    features: &[i32],
-    part_features: &[i32],
-    codes: &[u32],
-    list_sizes: &[i32],
+    told: &Told,
     links: &mut [u32],
     keys: &mut [u64],
     scratch: &mut [i32],
     from: Progress,
 ) -> Progress
-    requires { let q = told plan together.now sizes.now features.now part_features.now codes.now list_sizes.now in
+    requires { let q = told_held told.now in
         (Searchable q (length links.old) (length keys.old) (length scratch.old)) × (Going q links.old keys.old from) }
-    ensures { let q = told plan together.now sizes.now features.now part_features.now codes.now list_sizes.now in
-        Gone q links.new result }
+    ensures { Gone (told_held told.now) links.new result }
 {
-    let steps = plan.s.maxpaths as usize + 1;
+    let steps = told.plan.s.maxpaths as usize + 1;
     let mut at = from;
     while 0 < at.queued && at.count < steps {
-        at = step(
-            plan,
-            together,
-            sizes,
-            features,
-            part_features,
-            codes,
-            list_sizes,
-            links,
-            keys,
-            scratch,
-            at,
-        );
+        at = step(told, links, keys, scratch, at);
     }
     at
 }
@@ -222,17 +153,17 @@ pub(crate) fn search(
     };
     let together = pairs_together(table.starts, table.ends);
     keys[0] = key(0, target, 0);
-    run(
+    let lists = Laid {
+        codes: &codes[..count],
+        sizes: &list_sizes[..count],
+    };
+    let told = Told {
         plan,
-        &together,
-        table.sizes,
-        table.features,
-        parts.features,
-        &codes[..count],
-        &list_sizes[..count],
-        links,
-        keys,
-        &mut scratch[..width],
-        not_begun(),
-    )
+        together: &together,
+        sizes: table.sizes,
+        features: table.features,
+        part_features: parts.features,
+        lists,
+    };
+    run(&told, links, keys, &mut scratch[..width], not_begun())
 }

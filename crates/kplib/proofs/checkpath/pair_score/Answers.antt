@@ -14,10 +14,10 @@ pub list_score-requires : goal.list_score-requires
 list_score-requires c =
     let h = c.requires in
     comparable h.0 h.1 h.2 c.sum_features.ensures c.sum_features-2.ensures
-    (read_back _ c.rows_size-chain_size.type_inv ∙ c.rows_size-chain_size.ensures) (read_back _ c.rows_size-list_size.type_inv ∙ c.rows_size-list_size.ensures)
+    (read_back _ c.rows_size.type_inv ∙ c.rows_size.ensures) (read_back _ c.rows_size-2.type_inv ∙ c.rows_size-2.ensures)
 
 pub returns : goal.returns
 returns c =
     let h = c.requires in
     pair_is h.0 h.1 h.2 c.sum_features.ensures c.sum_features-2.ensures
-    (read_back _ c.rows_size-chain_size.type_inv ∙ c.rows_size-chain_size.ensures) (read_back _ c.rows_size-list_size.type_inv ∙ c.rows_size-list_size.ensures) c.list_score.ensures
+    (read_back _ c.rows_size.type_inv ∙ c.rows_size.ensures) (read_back _ c.rows_size-2.type_inv ∙ c.rows_size-2.ensures) c.list_score.ensures

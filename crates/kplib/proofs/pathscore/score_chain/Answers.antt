@@ -4,7 +4,7 @@ use Rattle.kplib.proofs.ChainScoreLaws.{none_tried_lem, one_more, all_tried}
 use Rattle.kplib.proofs.pathscore.score_chain.Goals as goal
 
 pub loop-i-init : goal.loop-i-init
-loop-i-init c = none_tried_lem _ _ _ _ _ _ _ _ _ c.none_tried-best.ensures
+loop-i-init c = none_tried_lem _ _ _ _ _ c.none_tried-best.ensures
 
 pub loop-i-preserved : goal.loop-i-preserved
 loop-i-preserved c =

@@ -1,7 +1,8 @@
 -- The best so far, after the lists that are left, stands for the score. Assumes nothing.
+use Rattle.kplib.specs.Told.{told_held}
 use Rattle.kplib.proofs.ChainScoreLaws.{Tried}
 use Rattle.kplib.proofs.pathscore.score_chain.Given as goal
 
 abbrev pub invariant-loop-i : goal.invariant-loop-i
 invariant-loop-i l =
-    Tried l.plan l.features l.chain l.chain_size l.part_features l.codes l.list_sizes l.floor l.best l.scratch l.i
+    Tried (told_held l.told) l.chain.rows.now l.chain.size l.floor l.best l.scratch l.i

@@ -41,8 +41,8 @@ key-requires c =
 pub slice_bounds-scratch-end : goal.slice_bounds-scratch-end
 slice_bounds-scratch-end c = omega (arith, width_few (goal.at.slice_bounds-scratch-end c).After-whole_size-target)
 
-pub slice_bounds-run-end-3 : goal.slice_bounds-run-end-3
-slice_bounds-run-end-3 c = sym (length-take-le _ _ (omega (arith, width_few (goal.at.slice_bounds-run-end-3 c).After-whole_size-target)))
+pub slice_bounds-run-end : goal.slice_bounds-run-end
+slice_bounds-run-end c = sym (length-take-le _ _ (omega (arith, width_few (goal.at.slice_bounds-run-end c).After-whole_size-target)))
 
 pub run-requires : goal.run-requires
 run-requires c = (
