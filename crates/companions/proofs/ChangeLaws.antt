@@ -39,12 +39,12 @@ module _ (c : Companions) (start end : ℕ) where
   unfolding add_fault
   add_passed z = none_given (add_rules c start end) refl z
 
-module _ (starts ends : List ℕ) (sheet : List Bool) (rows start end : ℕ) {f : ℕ} (e : f ≡ add_fault (lent_of starts ends sheet rows) start end) (z : f ≡ 0) where
+module _ (starts ends : List ℕ) (sheet : List Bool) (rows start end : ℕ) (told : 0 ≡ add_fault (lent_of starts ends sheet rows) start end) where
   abbrev before : Companions
   before = lent_of starts ends sheet rows
 
   accepted : add_fault before start end ≡ 0
-  accepted = sym e ∙ z
+  accepted = sym told
 
   pub add_room : rows < 64
   add_room = let h = ltb-false 64 (rows + 1) (add_passed before start end accepted).1.0 in omega arith
@@ -60,7 +60,7 @@ module _ (starts ends : List ℕ) (sheet : List Bool) (rows start end : ℕ) {f 
       → (0 ≡ add_fault before start end)
       × (lent_of (set starts rows start) (set ends rows end) sheet' (rows + 1) ≡ changed_unless (add_fault before start end) (added_to before start end) before)
   add_done k =
-      (sym accepted, ap (λ (s : List Bool). lent_of (set starts rows start) (set ends rows end) s (rows + 1)) k ∙ changed (add_fault before start end) (added_to before start end) before accepted)
+      (told, ap (λ (s : List Bool). lent_of (set starts rows start) (set ends rows end) s (rows + 1)) k ∙ changed (add_fault before start end) (added_to before start end) before accepted)
 
 -- ---- taking away
 module _ (c : Companions) where

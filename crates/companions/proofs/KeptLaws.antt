@@ -87,7 +87,7 @@ module _ (c : Companions) (start end : ℕ) (z : add_fault c start end ≡ 0) wh
 
   -- the row behind the last plays no part in the sheet before
   unchanged : c.sheet ≡ sheet_of (set c.starts c.rows start) (set c.ends c.rows end) c.rows
-  unchanged = add_ready c.starts c.ends c.sheet c.rows start end refl z start end
+  unchanged = add_ready c.starts c.ends c.sheet c.rows start end (sym z) start end
 
   -- of the earlier rows' flags only those of the new row's column can differ
   new_row_only : (r s : ℕ) → r < 64 → s < 64 → s ≢ c.rows → sheet_flag (added_to c start end).sheet r s ≡ sheet_flag c.sheet r s

@@ -58,9 +58,9 @@ module _ (c : Companions) where
   unfolding not_its_sheet
   by_table e h = rw (ne_eqb fault 0 (λ z. h (e ∙ z)))
 
-  pub by_sheet : {f : ℕ} → f ≡ fault → f ≡ 0 → {same : Bool} → {made : List Bool} → made ≡ own → same ≡ same_flags c.sheet made → not same ≡ not_its_sheet c
+  pub by_sheet : 0 ≡ fault → {same : Bool} → {made : List Bool} → made ≡ own → same ≡ same_flags c.sheet made → not same ≡ not_its_sheet c
   unfolding not_its_sheet
-  by_sheet e z m s = rw (eq-eqb fault 0 (sym e ∙ z)) (ap not (s ∙ ap (same_flags c.sheet) m))
+  by_sheet e m s = rw (eq-eqb fault 0 (sym e)) (ap not (s ∙ ap (same_flags c.sheet) m))
 
   -- where 49 is not given, the table has no fault and the sheet is its own
   pub sound_table : not_its_sheet c ≡ false → fault ≡ 0
@@ -72,4 +72,4 @@ module _ (c : Companions) where
   sound_sheet h = same_told c.sheet own (not-false (same_flags c.sheet own) (or_no (not (eqb fault 0)) _ h).1)
 
   pub sound : fault ≡ 0 → c.sheet ≡ own → not_its_sheet c ≡ false
-  sound z e = sym (by_sheet refl z refl (sym (same_itself own) ∙ ap (λ (l : List Bool). same_flags l own) (sym e)))
+  sound z e = sym (by_sheet (sym z) refl (sym (same_itself own) ∙ ap (λ (l : List Bool). same_flags l own) (sym e)))

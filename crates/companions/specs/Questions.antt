@@ -1,11 +1,9 @@
--- Document 02, P8: what is answered from the sheet: may these two rows stand together, and how many later companions has a row.
-use Rattle.std.specs.Prelude.{ℕ, zero, suc, ◌+◌, Bool, cond, ◌||◌, List, [], ◌∷◌, leb}
+-- Document 02, P8: what is refused_or from the sheet: may these two rows stand together, and how many later companions has a row.
+use Rattle.std.specs.Prelude.{ℕ, zero, suc, ◌+◌, Bool, cond, ◌||◌, List, [], ◌∷◌, leb, Result, Ok, Err}
+use Rattle.metrics.specs.declared.refusals.Refusal.{Refusal}
+use Rattle.metrics.specs.Refusals.{refusal_of}
 use Rattle.params.specs.Numbers.{rule, first_of}
 use Rattle.companions.specs.Companions.{Companions, sheet_flag, not_its_sheet}
-use Rattle.companions.specs.declared.Paired.{Paired}
-use Rattle.companions.specs.declared.Paired.TheVariants as P
-use Rattle.companions.specs.declared.Later.{Later}
-use Rattle.companions.specs.declared.Later.TheVariants as L
 
 -- in either order
 unfoldable pub together_of : List Bool → ℕ → ℕ → Bool
@@ -27,34 +25,22 @@ pair_fault c a b = first_of (rule 49 (not_its_sheet c) ∷ (rule 44 (leb c.rows 
 unfoldable pub later_fault : Companions → ℕ → ℕ
 later_fault c row = first_of (rule 49 (not_its_sheet c) ∷ (rule 44 (leb c.rows row) ∷ []))
 
--- the case that has this number of a refusal, and this answer where the number is 0
-abbrev pub pair_case : ℕ → Bool → Paired
-pair_case zero may = P.Answer may
-pair_case (suc f) may = P.Refused (suc f)
+-- the refusal that has this number, or this answer where the number is 0
+abbrev pub refused_or : {A : Type 0} → ℕ → A → Result A Refusal
+refused_or zero answer = Ok answer
+refused_or (suc f) answer = Err (refusal_of (suc f))
 
-abbrev pub later_case : ℕ → ℕ → Later
-later_case zero n = L.Count n
-later_case (suc f) n = L.Refused (suc f)
+unfoldable pub pair_of : Companions → ℕ → ℕ → Result Bool Refusal
+pair_of c a b = refused_or (pair_fault c a b) (together_of c.sheet a b)
 
-unfoldable pub pair_of : Companions → ℕ → ℕ → Paired
-pair_of c a b = pair_case (pair_fault c a b) (together_of c.sheet a b)
+unfoldable pub later_in : Companions → ℕ → Result ℕ Refusal
+later_in c row = refused_or (later_fault c row) (later_of c.sheet row)
 
-unfoldable pub later_in : Companions → ℕ → Later
-later_in c row = later_case (later_fault c row) (later_of c.sheet row)
+-- each answer as a number, 1 for yes; 0 on a refusal
+abbrev pub pair_yes : Result Bool Refusal → ℕ
+pair_yes (Ok may) = cond may 1 0
+pair_yes (Err refusal) = 0
 
--- each case as a number, 0 for an accepted call, and its answer, 1 for yes; 0 on a refusal
-abbrev pub pair_number : Paired → ℕ
-pair_number (P.Answer may) = 0
-pair_number (P.Refused n) = n
-
-abbrev pub pair_yes : Paired → ℕ
-pair_yes (P.Answer may) = cond may 1 0
-pair_yes (P.Refused n) = 0
-
-abbrev pub later_number : Later → ℕ
-later_number (L.Count k) = 0
-later_number (L.Refused n) = n
-
-abbrev pub later_count : Later → ℕ
-later_count (L.Count k) = k
-later_count (L.Refused n) = 0
+abbrev pub later_count : Result ℕ Refusal → ℕ
+later_count (Ok k) = k
+later_count (Err refusal) = 0

@@ -6,6 +6,7 @@ mod checks;
 mod sheet;
 
 ghost use Rattle.std.specs.Prelude.{◌≡◌, ◌<◌};
+ghost use Rattle.metrics.specs.Refusals.{told};
 ghost use Rattle.companions.specs.Companions.{lent_of};
 ghost use Rattle.companions.specs.Changes.{add_fault};
 ghost use Rattle.companions.specs.Questions.{later_of};
@@ -13,23 +14,7 @@ ghost use Rattle.companions.specs.Promises.{AddPromise, RemovePromise, TogetherP
 
 use crate::checks::not_its_sheet;
 use crate::sheet::{clear_last, lay_last};
-use metrics::refusals::{
-    ACCEPTED, FALLING_START, MISSING_ROW, NOT_ITS_SHEET, START_AFTER_END, TOO_MANY,
-};
-
-// Whether two rows may stand together, or the refusal's number.
-#[derive(Clone, Copy)]
-pub enum Paired {
-    Answer(bool),
-    Refused(u32),
-}
-
-// How many later companions a row has, or the refusal's number.
-#[derive(Clone, Copy)]
-pub enum Later {
-    Count(u32),
-    Refused(u32),
-}
+use metrics::refusals::Refusal;
 
 #[tactic(auto, unfolding(crate::specs::Changes::add_fault))]
 fn add_fault(
@@ -39,23 +24,23 @@ fn add_fault(
     rows: u32,
     start: u64,
     end: u64,
-) -> u32
-    ensures { result ≡ add_fault (lent_of starts.now ends.now sheet.now rows) start end }
+) -> Result<(), Refusal>
+    ensures { told result ≡ add_fault (lent_of starts.now ends.now sheet.now rows) start end }
 {
     if not_its_sheet(starts, ends, sheet, rows) {
-        return NOT_ITS_SHEET;
+        return Err(Refusal::NotItsSheet);
     }
     let n = rows as usize;
     if n >= 64 {
-        return TOO_MANY;
+        return Err(Refusal::TooMany);
     }
     if start > end {
-        return START_AFTER_END;
+        return Err(Refusal::StartAfterEnd);
     }
     if n > 0 && start < starts[n - 1] {
-        return FALLING_START;
+        return Err(Refusal::FallingStart);
     }
-    ACCEPTED
+    Ok(())
 }
 
 // A row at the end.
@@ -66,38 +51,40 @@ pub fn add(
     rows: &mut u32,
     start: u64,
     end: u64,
-) -> u32
+) -> Result<(), Refusal>
     ensures { AddPromise starts.old ends.old sheet.old rows.old start end
         starts.new ends.new sheet.new rows.new result }
 {
     let n = *rows;
-    let fault = add_fault(starts, ends, sheet, n, start, end);
-    if fault != ACCEPTED {
-        return fault;
-    }
+    add_fault(starts, ends, sheet, n, start, end)?;
     let last = n as usize;
     starts[last] = start;
     ends[last] = end;
     lay_last(starts, ends, last, sheet);
     *rows = n + 1;
-    ACCEPTED
+    Ok(())
 }
 
 // The last row taken away: starts and ends stay as they lie.
-pub fn remove(starts: &[u64; 64], ends: &[u64; 64], sheet: &mut [bool; 4096], rows: &mut u32) -> u32
+pub fn remove(
+    starts: &[u64; 64],
+    ends: &[u64; 64],
+    sheet: &mut [bool; 4096],
+    rows: &mut u32,
+) -> Result<(), Refusal>
     ensures { RemovePromise starts.now ends.now sheet.old rows.old sheet.new rows.new result }
 {
     let n = *rows;
     if not_its_sheet(starts, ends, sheet, n) {
-        return NOT_ITS_SHEET;
+        return Err(Refusal::NotItsSheet);
     }
     if n == 0 {
-        return MISSING_ROW;
+        return Err(Refusal::MissingRow);
     }
     let last = n - 1;
     clear_last(starts, ends, last as usize, sheet);
     *rows = last;
-    ACCEPTED
+    Ok(())
 }
 
 // May these two rows stand together, in either order? A row with itself is a no.
@@ -109,18 +96,18 @@ pub fn together(
     rows: u32,
     a: u32,
     b: u32,
-) -> Paired
+) -> Result<bool, Refusal>
     ensures { TogetherPromise starts.now ends.now sheet.now rows a b result }
 {
     if not_its_sheet(starts, ends, sheet, rows) {
-        return Paired::Refused(NOT_ITS_SHEET);
+        return Err(Refusal::NotItsSheet);
     }
     if a >= rows || b >= rows {
-        return Paired::Refused(MISSING_ROW);
+        return Err(Refusal::MissingRow);
     }
     let i = a as usize;
     let j = b as usize;
-    Paired::Answer(sheet[64 * i + j] | sheet[64 * j + i])
+    Ok(sheet[64 * i + j] | sheet[64 * j + i])
 }
 
 // The flags of one row, counted.
@@ -140,14 +127,14 @@ pub fn count(
     sheet: &[bool; 4096],
     rows: u32,
     row: u32,
-) -> Later
+) -> Result<u32, Refusal>
     ensures { CountPromise starts.now ends.now sheet.now rows row result }
 {
     if not_its_sheet(starts, ends, sheet, rows) {
-        return Later::Refused(NOT_ITS_SHEET);
+        return Err(Refusal::NotItsSheet);
     }
     if row >= rows {
-        return Later::Refused(MISSING_ROW);
+        return Err(Refusal::MissingRow);
     }
-    Later::Count(count_flags(sheet, row as usize))
+    Ok(count_flags(sheet, row as usize))
 }

@@ -56,20 +56,6 @@ module _ {q : Told} {chain : List ℕ} {chainSize : ℤ} {chosen : List ℕ} {sc
     s_back : to_z w32 (of_z w32 (get_or q.list_sizes i (pos 0))) ≡ get_or q.list_sizes i (pos 0)
     s_back = back (get_or q.list_sizes i (pos 0)) (omega (arith, (y.coded.each i h).size_small))
 
-    pub attempt : {chosen' : List ℕ} {scratch' : List ℤ} {w : Option ℕ} → length chosen' ≡ length chosen → length scratch' ≡ length scratch
-        → Ready w scratch' (features_of q.plan.width q.features chain)
-        → Attempt q chain chainSize (get_or q.codes i 0) (to_z w32 (of_z w32 (get_or q.list_sizes i (pos 0)))) chosen' scratch' w
-    attempt lc ls r = rw s_back (record {
-      planned = y.planned;
-      chained = y.chained;
-      chain_size = y.chain_size;
-      part_rows = y.part_rows;
-      listed = y.coded.each i h;
-      room = omega (arith, y.room, lc);
-      scratch_is = ls ∙ y.scratch_is;
-      ready = r;
-    })
-
     pub one_more : (floor : Float) (best : Best) {r : Best} (scratch' : List ℤ) {scratch'' : List ℤ}
         → Tried q chain chainSize floor best scratch' i
         → Attempted q chain chainSize (get_or q.codes i 0) (to_z w32 (of_z w32 (get_or q.list_sizes i (pos 0)))) floor best.scored r scratch''

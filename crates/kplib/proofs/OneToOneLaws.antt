@@ -165,23 +165,6 @@ module _ {plan : Plan} {sizes features wholeRow : List ℤ} (y : Matching plan s
     r_back : to_z w32 (of_z w32 (get_or sizes r (pos 0))) ≡ get_or sizes r (pos 0)
     r_back = back (get_or sizes r (pos 0)) (omega (arith, y.sized.sized r))
 
-    pub row_comparable : Comparable plan.s
-        (total (to_z w32 (of_z w32 (get_or sizes r (pos 0)))) (take (r * plan.width + plan.width - r * plan.width) (drop (r * plan.width) features)) 1)
-        (total (to_z w32 (of_z w32 plan.target)) wholeRow plan.m) 0
-    row_comparable = rw (r_back, t_back, slice_is (r * width) width features) (record {
-      minkfreq = y.planned.minkfreq;
-      widths = row_length width features r row_room.0 ∙ sym y.width_is;
-      chain_row = omega (arith, y.rows.rowed r);
-      list_row = y.whole_sum;
-      tests = record {
-        chain_size = omega (arith, y.sized.sized r);
-        list_size = y.target_small;
-        chain_few = omega arith;
-        list_few = y.planned.few;
-        partial_few = omega arith;
-      };
-    })
-
     pub row_scored : {x none : Scored} {v : Option Scores} → none ≡ start
         → v ≡ list_score plan.s (total (to_z w32 (of_z w32 (get_or sizes r (pos 0)))) (take (r * plan.width + plan.width - r * plan.width) (drop (r * plan.width) features)) 1)
         (total (to_z w32 (of_z w32 plan.target)) wholeRow plan.m) 0

@@ -10,7 +10,6 @@ use lib.Seq.{take_all}
 use Rattle.kplib.specs.Sums.{size_of}
 use Rattle.kplib.specs.Told.{Told}
 use Rattle.kplib.specs.Scoring.{chain_total, coded_score, StandsFor, Scorable}
-use Rattle.metrics.specs.Placed.{placed}
 use Rattle.kplib.specs.SearchSteps.{chain_of, score_told, Rowed, Weighable, WeighedAs}
 use Rattle.kplib.specs.declared.steps.Weighed.{Weighed}
 use Rattle.kplib.proofs.SizeSumLaws.{size_le}
@@ -44,9 +43,3 @@ module _ {q : Told} {links : List ℕ} {entry : ℕ} {scratch : List ℤ}
       → WeighedAs q (reverse (chain_of links entry)) floor r
   unfolding score_told
   weighed_as z k = rw (← e) (record { size_is = z; stands = rw z at k })
-
-pub cut_length : (x : List ℕ) (n r : ℕ) {c : List ℕ} → length x ≡ n → (r ≤ length x) × (drop r x ≡ c) → n - r ≡ length c
-cut_length x n r l e = omega (arith, length-drop r x, ap length e.1)
-
-pub placed_cut : {l c : List ℕ} (rows : List ℕ) {rows' : List ℕ} → l ≡ c → rows' ≡ placed rows l → rows' ≡ placed rows c
-placed_cut rows e h = rw e at h

@@ -1,7 +1,7 @@
 -- Each refusal in its place, and what was made or combined behind them. Assumes nothing.
 use Prim.Native.Nat.{ℕ, zero, suc, ◌+◌, ◌*◌, ◌%◌, ◌^◌, ◌≤◌, ◌<◌}
 use native.Mathlib.Omega.{arith}
-use mathlib.Core.Path.{◌≡◌, refl, sym, ◌∙◌}
+use mathlib.Core.Path.{◌≡◌, refl, sym, ap, ◌∙◌}
 use mathlib.Core.Bool.{Bool, true, false}
 use mathlib.Core.List.{List}
 use borrow.Author.Tests.{eq-eqb, leb-true, leb-false}
@@ -9,12 +9,14 @@ use lib.Dec.{leb, lit<}
 use lib.Pow.{shl_exact}
 use lib.Bits.{bit_or}
 use native.Mathlib.Nat.{one-mul}
+use Rattle.std.specs.Prelude.{Result, Ok, Err}
 use Rattle.std.proofs.lemmas.Grind.{common_steps}
+use Rattle.metrics.specs.declared.refusals.Refusal.{Refusal}
+use Rattle.metrics.specs.Refusals.{refusal_number}
+use Rattle.metrics.proofs.RefusalLaws.{never_zero, numbered_is}
 use Rattle.params.proofs.CheckLaws.{Passed, none_given, or_no}
-use Rattle.meta.specs.Meta.{bad_samples, blank_of, count_fault, new_fault, made_unless, joined_first, left_else_right, sum_passes, combine_rules, combine_fault, combined_of, combined_unless}
+use Rattle.meta.specs.Meta.{bad_samples, count_fault, new_fault, made_unless, joined_first, left_else_right, sum_passes, combine_rules, combine_fault, combined_of, combined_unless, refused_or, made_result, combined_result}
 use Rattle.meta.specs.declared.HaplotypeMeta.{HaplotypeMeta}
-use Rattle.meta.specs.declared.Made.{Made}
-use Rattle.meta.specs.declared.Combined.{Combined}
 
 -- ---- the count
 module _ (n : ℕ) where
@@ -70,13 +72,21 @@ module _ (i n : ℕ) where
 pub flag_fits : (i : ℕ) → i < 8 → (1 * 2 ^ i) % 18446744073709551616 ≡ 2 ^ i
 flag_fits i h = shl_exact 1 i 64 (lit< tt) (omega arith) ∙ one-mul (2 ^ i)
 
-pub made_refused : {f : ℕ} (fault : ℕ) (m : HaplotypeMeta) {blank : HaplotypeMeta} → f ≡ fault → (f ≡ 0 → ⊥) → blank ≡ blank_of 1
-    → ◌≡◌ {A = Made} (record { refusal = f; meta = blank }) (made_unless fault m)
-made_refused zero m e h k = absurd (h e)
-made_refused (suc n) m e h k = λ i. record { refusal = e i; meta = k i }
+-- what was made or combined, as the code gives it: by its fault alone
+pub made_by : (fault : ℕ) (m : HaplotypeMeta) → refused_or fault m ≡ made_result (made_unless fault m)
+made_by zero m = refl
+made_by (suc f) m = refl
 
-pub made : {f : ℕ} (fault : ℕ) {one m : HaplotypeMeta} → f ≡ fault → f ≡ 0 → one ≡ m → ◌≡◌ {A = Made} (record { refusal = 0; meta = one }) (made_unless fault m)
-made fault e z k = rw (sym e ∙ z) (λ i. record { refusal = 0; meta = k i })
+pub combined_by : (fault : ℕ) (a b : HaplotypeMeta) → refused_or fault (combined_of a b) ≡ combined_result (combined_unless fault a b)
+combined_by zero a b = refl
+combined_by (suc f) a b = refl
+
+pub refused_by : (fault : ℕ) (refusal : Refusal) (m : HaplotypeMeta) → refusal_number refusal ≡ fault → ◌≡◌ {A = Result HaplotypeMeta Refusal} (Err refusal) (refused_or fault m)
+refused_by zero refusal m e = absurd (never_zero refusal e)
+refused_by (suc f) refusal m e = ap (λ (r : Refusal). Err r) (numbered_is refusal (suc f) e)
+
+pub accepted : {fault : ℕ} {one m : HaplotypeMeta} → 0 ≡ fault → one ≡ m → ◌≡◌ {A = Result HaplotypeMeta Refusal} (Ok one) (refused_or fault m)
+accepted e k = rw (sym e) (ap (λ (x : HaplotypeMeta). Ok x) k)
 
 -- ---- combining
 module _ (a b : HaplotypeMeta) where
@@ -108,14 +118,6 @@ module _ (a b : HaplotypeMeta) where
   pub combine_fits : combine_fault a b ≡ 0 → sum_passes a.samples a.coverage b.coverage ≡ false
   unfolding combine_fault
   combine_fits z = grind (arith, common_steps)
-
-  pub combined_refused : {f : ℕ} (fault : ℕ) → f ≡ fault → (f ≡ 0 → ⊥) → ◌≡◌ {A = Combined} (record { refusal = f; left = a; right = b }) (combined_unless fault a b)
-  combined_refused zero e h = absurd (h e)
-  combined_refused (suc n) e h = λ i. record { refusal = e i; left = a; right = b }
-
-  pub combined : {f : ℕ} (fault : ℕ) {both : HaplotypeMeta} → f ≡ fault → f ≡ 0 → both ≡ combined_of a b
-      → ◌≡◌ {A = Combined} (record { refusal = 0; left = both; right = b }) (combined_unless fault a b)
-  combined fault e z k = rw (sym e ∙ z) (λ i. record { refusal = 0; left = k i; right = b })
 
   pub combined_whole : {coverage ps hp : List ℕ} → coverage ≡ joined_first ◌+◌ a.samples a.coverage b.coverage
       → ps ≡ joined_first left_else_right a.samples a.ps b.ps → hp ≡ joined_first left_else_right a.samples a.hp b.hp

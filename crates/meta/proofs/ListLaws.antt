@@ -3,10 +3,9 @@ use Prim.Native.Nat.{ℕ, zero, suc}
 use native.Mathlib.Omega.{arith}
 use mathlib.Core.Path.{◌≡◌, refl, sym, ap, ap₂, ◌∙◌, subst}
 use mathlib.Core.List.{List, [], ◌∷◌, ◌++◌}
-use Rattle.meta.specs.Meta.{count_fault, made_unless, combine_fault, combined_of}
+use Rattle.meta.specs.Meta.{Made, count_fault, made_unless, combine_fault, combined_of}
 use Rattle.meta.specs.Grouping.{Outcome, refused, is, outcome, ◌with◌, next_unless, all_from, all_made, Held, All, told}
 use Rattle.meta.specs.declared.HaplotypeMeta.{HaplotypeMeta}
-use Rattle.meta.specs.declared.Made.{Made}
 use Rattle.meta.proofs.FaultLaws.{combine_left, combine_right, count_fine}
 use Rattle.meta.proofs.GroupingLaws.{accepted_fit, with_is, combined_held, either_way}
 

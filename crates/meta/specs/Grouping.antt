@@ -1,9 +1,8 @@
 -- Document 02, P14: combining in any grouping. What one with another comes to, whichever step refuses; a list from the front; and what holds of both.
 use Rattle.std.specs.Prelude.{ℕ, zero, suc, ◌≤◌, ◌/◌, ◌%◌, ◌≡◌, ◌≢◌, cond, List, [], ◌∷◌, ◌++◌, eqb, length, get_or, set, take, drop, replicate}
-use Rattle.meta.specs.Meta.{blank_of, count_fault, new_made, blank_made, made_unless, combine_fault, combined_of, combined_two}
+use Rattle.meta.specs.Meta.{Made, blank_of, count_fault, new_made, blank_made, made_unless, combine_fault, combined_of, combined_two}
 use Rattle.meta.specs.Words.{meta_of_words}
 use Rattle.meta.specs.declared.HaplotypeMeta.{HaplotypeMeta}
-use Rattle.meta.specs.declared.Made.{Made}
 
 -- ---- one with another
 

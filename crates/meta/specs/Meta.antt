@@ -1,10 +1,10 @@
 -- Document 02, P12: the data of 1 to 8 samples, and what making and combining it come to.
-use Rattle.std.specs.Prelude.{ℕ, zero, suc, ◌+◌, ◌^◌, Bool, not, cond, ◌&&◌, ◌||◌, List, [], ◌∷◌, leb, ltb, eqb, get_or, set, replicate}
+use Rattle.std.specs.Prelude.{ℕ, zero, suc, ◌+◌, ◌^◌, Bool, not, cond, ◌&&◌, ◌||◌, List, [], ◌∷◌, leb, ltb, eqb, get_or, set, replicate, Result, Ok, Err}
 use Rattle.std.specs.Int.Bits.{bit_or}
+use Rattle.metrics.specs.declared.refusals.Refusal.{Refusal}
+use Rattle.metrics.specs.Refusals.{refusal_of}
 use Rattle.params.specs.Numbers.{Rule, rule, first_of, any_below}
 use Rattle.meta.specs.declared.HaplotypeMeta.{HaplotypeMeta}
-use Rattle.meta.specs.declared.Made.{Made}
-use Rattle.meta.specs.declared.Combined.{Combined}
 
 -- 50: a sample count not 1 to 8
 abbrev pub bad_samples : ℕ → Bool
@@ -27,7 +27,11 @@ count_fault n = first_of (rule 50 (bad_samples n) ∷ [])
 unfoldable pub new_fault : ℕ → ℕ → ℕ
 new_fault i n = first_of (rule 50 (bad_samples n) ∷ (rule 51 (leb n i) ∷ []))
 
--- what was made, or on a refusal a blank of one sample
+-- a refusal's number, 0 for none, beside what was made, or on a refusal a blank of one sample
+pub record Made : Type 0 where
+  pub refusal : ℕ
+  pub meta : HaplotypeMeta
+
 abbrev pub made_unless : ℕ → HaplotypeMeta → Made
 made_unless zero m = record { refusal = 0; meta = m }
 made_unless (suc f) m = record { refusal = suc f; meta = blank_of 1 }
@@ -77,10 +81,27 @@ combined_of a b = record {
   hp = joined_first left_else_right a.samples a.hp b.hp;
 }
 
--- the two as one on the left, or on a refusal both as they were
+-- a refusal's number, 0 for none, beside the two as one on the left, or on a refusal the left as it was
+pub record Combined : Type 0 where
+  pub refusal : ℕ
+  pub left : HaplotypeMeta
+
 abbrev pub combined_unless : ℕ → HaplotypeMeta → HaplotypeMeta → Combined
-combined_unless zero a b = record { refusal = 0; left = combined_of a b; right = b }
-combined_unless (suc f) a b = record { refusal = suc f; left = a; right = b }
+combined_unless zero a b = record { refusal = 0; left = combined_of a b }
+combined_unless (suc f) a b = record { refusal = suc f; left = a }
 
 abbrev pub combined_two : HaplotypeMeta → HaplotypeMeta → Combined
 combined_two a b = combined_unless (combine_fault a b) a b
+
+-- ---- what the code gives of it
+
+-- the refusal that has this number, or the data where the number is 0
+abbrev pub refused_or : ℕ → HaplotypeMeta → Result HaplotypeMeta Refusal
+refused_or zero m = Ok m
+refused_or (suc f) m = Err (refusal_of (suc f))
+
+abbrev pub made_result : Made → Result HaplotypeMeta Refusal
+made_result r = refused_or r.refusal r.meta
+
+abbrev pub combined_result : Combined → Result HaplotypeMeta Refusal
+combined_result r = refused_or r.refusal r.left

@@ -12,7 +12,7 @@ ghost use Rattle.meta.specs.Promises.{NewPromise, NewBlankPromise, CombinePromis
 
 use crate::arrays::{joined_first, left_else_right};
 use crate::checks::{combine_fault, count_fault, new_fault};
-use metrics::refusals::ACCEPTED;
+use metrics::refusals::Refusal;
 
 // Entry i is sample i's; those at and behind `samples` are nobody's. A phase set and a haplotype tag are 0 where absent, else the value + 1.
 #[derive(Clone, Copy)]
@@ -23,21 +23,6 @@ pub struct HaplotypeMeta {
     pub coverage: [u64; 8],
     pub ps: [u64; 8],
     pub hp: [u64; 8],
-}
-
-// 0 and the data that was made, or the refusal's number and a blank of one sample.
-#[derive(Clone, Copy)]
-pub struct Made {
-    pub refusal: u32,
-    pub meta: HaplotypeMeta,
-}
-
-// 0, the two combined on the left and the right as it was; or the refusal's number and both as they were.
-#[derive(Clone, Copy)]
-pub struct Combined {
-    pub refusal: u32,
-    pub left: HaplotypeMeta,
-    pub right: HaplotypeMeta,
 }
 
 // Data that belongs to nobody.
@@ -55,41 +40,25 @@ pub(crate) fn blank(samples: u64) -> HaplotypeMeta
 }
 
 // One read of one sample.
-pub fn new(sample_idx: u64, num_samples: u64) -> Made
+pub fn new(sample_idx: u64, num_samples: u64) -> Result<HaplotypeMeta, Refusal>
     ensures { NewPromise sample_idx num_samples result }
 {
-    let refusal = new_fault(sample_idx, num_samples);
-    if refusal != ACCEPTED {
-        let meta = blank(1);
-        return Made { refusal, meta };
-    }
+    new_fault(sample_idx, num_samples)?;
     let mut coverage: [u64; 8] = [0; 8];
     coverage[sample_idx as usize] = 1;
-    let meta = HaplotypeMeta {
+    Ok(HaplotypeMeta {
         samples_flag: 1 << sample_idx,
         coverage,
         ..blank(num_samples)
-    };
-    Made {
-        refusal: ACCEPTED,
-        meta,
-    }
+    })
 }
 
 // No read of any sample.
-pub fn new_blank(num_samples: u64) -> Made
+pub fn new_blank(num_samples: u64) -> Result<HaplotypeMeta, Refusal>
     ensures { NewBlankPromise num_samples result }
 {
-    let refusal = count_fault(num_samples);
-    if refusal != ACCEPTED {
-        let meta = blank(1);
-        return Made { refusal, meta };
-    }
-    let meta = blank(num_samples);
-    Made {
-        refusal: ACCEPTED,
-        meta,
-    }
+    count_fault(num_samples)?;
+    Ok(blank(num_samples))
 }
 
 // The two as one, where nothing refuses it.
@@ -111,21 +80,9 @@ pub(crate) fn both_as_one(left: HaplotypeMeta, right: HaplotypeMeta) -> Haplotyp
 }
 
 // Coverage is added, a tag of the left stays and else the right's is taken, the flags are joined, and the id is the left's.
-pub fn combine(left: HaplotypeMeta, right: HaplotypeMeta) -> Combined
+pub fn combine(left: HaplotypeMeta, right: HaplotypeMeta) -> Result<HaplotypeMeta, Refusal>
     ensures { CombinePromise left right result }
 {
-    let refusal = combine_fault(left, right);
-    if refusal != ACCEPTED {
-        return Combined {
-            refusal,
-            left,
-            right,
-        };
-    }
-    let both = both_as_one(left, right);
-    Combined {
-        refusal: ACCEPTED,
-        left: both,
-        right,
-    }
+    combine_fault(left, right)?;
+    Ok(both_as_one(left, right))
 }
