@@ -1,6 +1,6 @@
 -- The list that won gives the chain's best, once that is above 0: a list replaces the best only where it is greater, and then it is the list that won and its score the best.
 -- An answer's rows are those of a chain scored, so an accepted call's answer above 0 is a good proposal. The rest reads off the definitions. Assumes nothing.
-use Rattle.std.specs.Prelude.{Option, Some, None}
+use Rattle.std.specs.Prelude.{Option, Some, None, Ok}
 use mathlib.Core.Path.{◌≡◌, refl, sym, ap, ◌∙◌}
 use Prim.Native.Nat.{ℕ, zero, suc, ◌-◌, ◌^◌, ◌≤◌}
 use native.Mathlib.Omega.{arith}
@@ -23,18 +23,17 @@ use Rattle.params.specs.Checked.{Checked}
 use Rattle.params.specs.Numbers.{Table, Parts, Call, Rule, first_of, settings_rules, length_rules, bound_rules, limit_rules, first_fault}
 use Rattle.params.proofs.CheckLaws.{none_given, goes_on}
 use Rattle.params.proofs.CheckedLaws.{accepted}
-use Rattle.kplib.specs.Graph.{is_chain_in}
+use Rattle.kplib.specs.Graph.{is_chain_in, refused_or}
 use Rattle.kplib.specs.Parts.{part_lists}
 use Rattle.kplib.specs.Sums.{total_of}
 use Rattle.kplib.specs.Score.{start, target_of, list_score, greater_of, after_list, after_lists, total_score, chain_score, scores_of}
 use Rattle.kplib.specs.Search.{Result, rows_for, follows_in, result_of, best_in}
 use Rattle.kplib.specs.Answer.{searched, in_search_mode, found_after, answer_of, rows_of, searches}
-use Rattle.kplib.specs.Proposal.{Proposal, proposal_of, one_of, gives, pair_score, is_good, long_rules, proposal_fault, check_case, check_word, check_of, rises_below, fewest_of}
+use Rattle.kplib.specs.Proposal.{Proposal, proposal_of, one_of, gives, pair_score, is_good, long_rules, proposal_fault, check_word, check_of, rises_below, fewest_of}
 use Rattle.kplib.specs.OwnPaths.{won_by, winning_list, Good, SameScoring, PathChecks}
 use Rattle.params.specs.declared.Settings.{Settings}
 use Rattle.kplib.specs.declared.pathscore.Scored.{Scored}
 use Rattle.kplib.specs.declared.pathscore.Scores.{Scores}
-use Rattle.kplib.specs.declared.checkpath.PathCheck.TheVariants.{Yes, No, Refused}
 use Rattle.kplib.proofs.RoundingLaws.{no}
 use Rattle.kplib.proofs.MemberLaws.{member, rising_length}
 use Rattle.kplib.proofs.BestKeptLaws.{best_kept}
@@ -130,15 +129,15 @@ module _ (s : Settings) (t : Table) (p : Parts) where
   best_sound = best_kept s t p Holds (λ h. absurd (no_start s t p [] h)) chain_sound
 
 -- ---- a check's answer
--- the three cases differ in their words, and a refusal in its number
-no_is_yes : No ≡ Yes → ⊥
+-- a no and a refusal are no yes
+no_is_yes : refused_or 0 false ≡ Ok true → ⊥
 no_is_yes e = let z : ◌≡◌ {A = ℕ} 0 1 = ap check_word e in omega arith
 
-refused_is_yes : {n : ℕ} → Refused n ≡ Yes → ⊥
-refused_is_yes e = let z : ◌≡◌ {A = ℕ} 0 1 = ap check_word e in omega arith
+refused_is_yes : (fault : ℕ) (good : Bool) → refused_or (suc fault) good ≡ Ok true → ⊥
+refused_is_yes fault good e = let z : ◌≡◌ {A = ℕ} 0 1 = ap check_word e in omega arith
 
 module _ (s : Settings) (t : Table) (p : Parts) (o : Proposal) where
-  check_is : {fault : ℕ} {good : Bool} → proposal_fault s t p o ≡ fault → is_good s t p o ≡ good → check_of s t p o ≡ check_case fault good
+  check_is : {fault : ℕ} {good : Bool} → proposal_fault s t p o ≡ fault → is_good s t p o ≡ good → check_of s t p o ≡ refused_or fault good
   unfolding check_of
   check_is e f = rw (e, f)
 
@@ -147,16 +146,16 @@ module _ (s : Settings) (t : Table) (p : Parts) (o : Proposal) where
   unfolding is_good
   good_given a b c = rw (a, b) c
 
-  yes_good : check_of s t p o ≡ Yes → (proposal_fault s t p o ≡ 0) × (is_good s t p o ≡ true)
+  yes_good : check_of s t p o ≡ Ok true → (proposal_fault s t p o ≡ 0) × (is_good s t p o ≡ true)
   unfolding check_of
   yes_good h = go (proposal_fault s t p o) refl (is_good s t p o) refl h
     where
-      go : (fault : ℕ) → proposal_fault s t p o ≡ fault → (good : Bool) → is_good s t p o ≡ good → check_case fault good ≡ Yes → (proposal_fault s t p o ≡ 0) × (is_good s t p o ≡ true)
+      go : (fault : ℕ) → proposal_fault s t p o ≡ fault → (good : Bool) → is_good s t p o ≡ good → refused_or fault good ≡ Ok true → (proposal_fault s t p o ≡ 0) × (is_good s t p o ≡ true)
       go zero e true f k = (e, f)
       go zero e false f k = absurd (no_is_yes k)
-      go (suc fault) e good f k = absurd (refused_is_yes k)
+      go (suc fault) e good f k = absurd (refused_is_yes fault good k)
 
-  good_yes : Good s t p o → check_of s t p o ≡ Yes
+  good_yes : Good s t p o → check_of s t p o ≡ Ok true
   good_yes g = check_is g.accepted (good_given g.chain g.listed (rw (g.scored, g.above) (eq-eqb _ _ g.bits)))
 
   good_parts : (v : Option Scores) → pair_score s t p o.rows o.positions ≡ v → gives o.score v ≡ true → proposal_fault s t p o ≡ 0
@@ -166,7 +165,7 @@ module _ (s : Settings) (t : Table) (p : Parts) (o : Proposal) where
       let b = and_both (lt (whole 0) o.score) (eqb (to_bits binary32 x.score) (to_bits binary32 o.score)) h in
       record { accepted = a; chain = c; listed = l; score = x.score; sizesim = x.sizesim; seqsim = x.seqsim; scored = e; bits = eqb-true _ _ b.1; above = b.0 }
 
-  yes_only : check_of s t p o ≡ Yes → Good s t p o
+  yes_only : check_of s t p o ≡ Ok true → Good s t p o
   unfolding is_good
   yes_only h =
       let y = yes_good h in
@@ -184,7 +183,7 @@ module _ (s : Settings) (t : Table) (p : Parts) (o : Proposal) where
   low_score h None = refl
   low_score h (Some x) = rw h
 
-  not_good : is_good s t p o ≡ false → check_of s t p o ≡ check_case (proposal_fault s t p o) false
+  not_good : is_good s t p o ≡ false → check_of s t p o ≡ refused_or (proposal_fault s t p o) false
   not_good h = check_is refl h
 
 -- under squish the empty chain accepts no list
@@ -254,9 +253,9 @@ module _ (c : Call) (mode : searches c ≡ true) (above : lt (whole 0) (answer_o
       (sym (member (length p.sizes) s.fnmax s.pileupmax list) ∙ own_listed)).1 in
       omega (arith, rising_length (length p.sizes) list rises, checked.part_sized.few)
 
-  own_yes : check_of s t p own ≡ Yes
+  own_yes : check_of s t p own ≡ Ok true
   own_yes =
-      check_is s t p own (sym (no_fault s t p own c.queue_room c.answer_room refl parts_of_lem.0 rows_few list_few))
+      check_is s t p own (sym (no_fault s t p own c.queue_room c.answer_room (sym parts_of_lem.0) rows_few list_few))
       (good_given s t p own (rw rows_are sound.chain) own_listed (rw (rows_are, score_is) sound.given))
 
 -- ---- settings that play no part

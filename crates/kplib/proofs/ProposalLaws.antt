@@ -1,6 +1,6 @@
 -- The refusals of a proposal are those of a call whose rooms suffice whatever is asked, then 54; and the cases of its answer. One list is scored against one chain
 -- as the search scores them: what is summed in front of a local array is the chain's row, and the list's. Assumes nothing.
-use Rattle.std.specs.Prelude.{Option}
+use Rattle.std.specs.Prelude.{Option, Ok}
 use mathlib.Core.Path.{◌≡◌, refl, sym, ap, ◌∙◌}
 use Prim.Native.Nat.{ℕ, zero, suc, ◌+◌, ◌-◌, ◌*◌, ◌^◌, ◌≤◌, ◌<◌, max}
 use native.Mathlib.Omega.{arith}
@@ -22,11 +22,11 @@ use Rattle.kplib.specs.Graph.{is_chain_in}
 use Rattle.kplib.specs.Parts.{part_lists}
 use Rattle.kplib.specs.Sums.{size_of, features_of}
 use Rattle.kplib.specs.Score.{list_score}
-use Rattle.kplib.specs.Scoring.{Summable, Comparable, unplaced, total}
-use Rattle.kplib.specs.Proposal.{one_of, gives, Proposal, pair_score, is_good, long_rules, proposal_rules, proposal_fault, check_case, rises_below, fewest_of, Pairable}
+use Rattle.kplib.specs.Scoring.{Summable, Comparable, total}
+use Rattle.kplib.specs.Proposal.{one_of, gives, Proposal, pair_score, is_good, long_rules, proposal_rules, proposal_fault, check_of, rises_below, fewest_of, Pairable}
 use Rattle.params.specs.declared.Settings.{Settings}
 use Rattle.kplib.specs.declared.pathscore.Scores.{Scores}
-use Rattle.kplib.specs.declared.checkpath.PathCheck.TheVariants.{Yes, No, Refused}
+use Rattle.kplib.proofs.CountedLaws.{answered_is}
 use Rattle.kplib.proofs.MemberLaws.{member, rising_below, rising_length}
 use Rattle.kplib.proofs.OneToOneLaws.{tables_of}
 use Rattle.kplib.proofs.RowChainLaws.{sent_below}
@@ -57,9 +57,9 @@ module _ (s : Settings) (t : Table) (p : Parts) where
   front_passed e = none_given front refl e
 
   module _ (o : Proposal) where
-    pub by_call : {found : ℕ} → found ≡ first_fault (call_of s t p 262145 64) → (found ≡ 0 → ⊥) → found ≡ proposal_fault s t p o
+    pub by_call : (found : ℕ) → found ≡ first_fault (call_of s t p 262145 64) → (found ≡ 0 → ⊥) → found ≡ proposal_fault s t p o
     unfolding first_fault proposal_fault
-    by_call {found} e h = go (first_of front) refl
+    by_call found e h = go (first_of front) refl
       where
         go : (n : ℕ) → first_of front ≡ n → found ≡ first_of (front ++ long_rules s t p o)
         go zero z = absurd (h (e ∙ sym (goes_on front (room_rules s (length t.starts) 262145 64) 0 (front_passed z) (sym (rooms_suffice (front_passed z))))))
@@ -68,12 +68,12 @@ module _ (s : Settings) (t : Table) (p : Parts) where
             e ∙ sym (stops front (room_rules s (length t.starts) 262145 64) (first_of front) refl some) ∙ stops front (long_rules s t p o) (first_of front) refl some
 
     -- an accepted call leaves 54 to be asked, whatever its rooms
-    module _ (queue answers : ℕ) {found : ℕ} (e : found ≡ first_fault (call_of s t p queue answers)) (z : found ≡ 0) where
+    module _ (queue answers : ℕ) (e : 0 ≡ first_fault (call_of s t p queue answers)) where
       all_asked : Passed front
       unfolding first_fault
       all_asked =
           let rooms = room_rules s (length t.starts) queue answers in
-          passed_front front rooms (none_given (front ++ rooms) refl (sym e ∙ z))
+          passed_front front rooms (none_given (front ++ rooms) refl (sym e))
 
       then_long : (n : ℕ) → n ≡ first_of (long_rules s t p o) → n ≡ proposal_fault s t p o
       unfolding proposal_fault
@@ -174,20 +174,11 @@ module _ {s : Settings} {t : Table} {p : Parts} {rows positions : List ℕ} (y :
       unfolding pair_score
       pair_is h = rw (chain_row_is, list_row_is, z, z') at h
 
--- where the rows stand plays no part in it
-unplaced_same : (s : Settings) (t : Table) (p : Parts) (rows positions : List ℕ) → pair_score s (unplaced t.sizes t.features) p rows positions ≡ pair_score s t p rows positions
-unfolding pair_score
-unplaced_same s t p rows positions = refl
-
 -- ---- the answer
-pub refused_check : (found fault : ℕ) (good : Bool) → found ≡ fault → (found ≡ 0 → ⊥) → Refused found ≡ check_case fault good
-refused_check found zero good e h = absurd (h e)
-refused_check found (suc f) good e h = rw e
-
 -- what is asked once a proposal is accepted
-module _ (s : Settings) (t : Table) (p : Parts) (o : Proposal) {found : ℕ} (e : found ≡ proposal_fault s t p o) (z : found ≡ 0) where
+module _ (s : Settings) (t : Table) (p : Parts) (o : Proposal) (e : 0 ≡ proposal_fault s t p o) where
   sound : Checked s t p
-  sound = proposal_checked s t p o (sym e ∙ z)
+  sound = proposal_checked s t p o (sym e)
 
   pub graph_ready : (length t.ends ≡ length t.starts) × (length t.starts ≤ 64)
   graph_ready = (sound.ends_are, omega (arith, sound.sized.few, sound.sizes_are))
@@ -198,39 +189,34 @@ module _ (s : Settings) (t : Table) (p : Parts) (o : Proposal) {found : ℕ} (e 
   abbrev listed : Bool
   listed = one_of o.positions (part_lists (length p.sizes) s.fnmax s.pileupmax)
 
-  pub pairable : {a b : Bool} → a ≡ chain → a ≡ true → b ≡ listed → b ≡ true → Pairable s (unplaced t.sizes t.features) p o.rows o.positions
+  pub pairable : {a b : Bool} → a ≡ chain → a ≡ true → b ≡ listed → b ≡ true → Pairable s t p o.rows o.positions
   pairable f g k l =
       let rises =
       (and_both (leb (fewest_of (length p.sizes) s.fnmax s.pileupmax) (length o.positions)) (rises_below (length p.sizes) 0 o.positions)
       (sym (member (length p.sizes) s.fnmax s.pileupmax o.positions) ∙ sym k ∙ l)).1 in
       record {
         k_high = sound.k_high;
-        tables = tables_of [] [] sound;
+        tables = tables_of sound;
         within = rw sound.sizes_are (sent_below _ (length t.starts) o.rows (sym f ∙ g));
-        few = rows_few s t p o (sym e ∙ z);
+        few = rows_few s t p o (sym e);
         positions_within = rising_below (length p.sizes) 0 o.positions rises;
         positions_few = rising_length (length p.sizes) o.positions rises;
       }
 
-  is_no : is_good s t p o ≡ false → No ≡ check_case (proposal_fault s t p o) (is_good s t p o)
-  is_no h = let n : proposal_fault s t p o ≡ 0 = sym e ∙ z in rw (n, h)
+  is_no : is_good s t p o ≡ false → Ok false ≡ check_of s t p o
+  unfolding check_of
+  is_no h = answered_is _ e (sym h)
 
-  pub no_chain : {r : Bool} → r ≡ chain → r ≡ false → No ≡ check_case (proposal_fault s t p o) (is_good s t p o)
+  pub no_chain : {r : Bool} → r ≡ chain → r ≡ false → Ok false ≡ check_of s t p o
   unfolding is_good
   no_chain f h = is_no (rw (sym f ∙ h))
 
-  pub no_list : {r : Bool} → r ≡ listed → r ≡ false → No ≡ check_case (proposal_fault s t p o) (is_good s t p o)
+  pub no_list : {r : Bool} → r ≡ listed → r ≡ false → Ok false ≡ check_of s t p o
   unfolding is_good
   no_list f h = is_no (rw (sym f ∙ h) (and_false chain))
 
   module _ {a b : Bool} (f : a ≡ chain) (g : a ≡ true) (k : b ≡ listed) (l : b ≡ true)
-      {v : Option Scores} (i : v ≡ pair_score s (unplaced t.sizes t.features) p o.rows o.positions) {r : Bool} (j : r ≡ gives o.score v) where
-    good_is : is_good s t p o ≡ r
-    unfolding is_good
-    good_is = let whole : v ≡ pair_score s t p o.rows o.positions = i ∙ unplaced_same s t p o.rows o.positions in rw (sym f ∙ g, sym k ∙ l, ← whole) (sym j)
-
-    pub no_score : r ≡ false → No ≡ check_case (proposal_fault s t p o) (is_good s t p o)
-    no_score h = is_no (good_is ∙ h)
-
-    pub yes : r ≡ true → Yes ≡ check_case (proposal_fault s t p o) (is_good s t p o)
-    yes h = let n : proposal_fault s t p o ≡ 0 = sym e ∙ z in let q : is_good s t p o ≡ true = good_is ∙ h in rw (n, q)
+      {v : Option Scores} (i : v ≡ pair_score s t p o.rows o.positions) {r : Bool} (j : r ≡ gives o.score v) where
+    pub scored : Ok r ≡ check_of s t p o
+    unfolding check_of is_good
+    scored = answered_is _ e (rw (sym f ∙ g, sym k ∙ l, ← i) j)

@@ -1,11 +1,11 @@
 -- Document 01, "Parts, graph, paths", and document 02, P5: nodes, edges, chains and their number N. Chains are written last row first (paths, specs/Chains).
-use Rattle.std.specs.Prelude.{ℕ, zero, suc, ◌+◌, ◌-◌, min, Bool, not, List, length, get_or}
+use Rattle.std.specs.Prelude.{ℕ, zero, suc, ◌+◌, ◌-◌, min, Bool, not, List, length, get_or, Result, Ok, Err}
+use Rattle.metrics.specs.declared.refusals.Refusal.{Refusal}
+use Rattle.metrics.specs.Refusals.{refusal_of}
 use Rattle.metrics.specs.Similarity.{overlaps_of}
 use Rattle.paths.specs.Chains.{extends, is_chain}
 use Rattle.paths.specs.Count.{may_follow, chain_count}
 use Rattle.params.specs.Numbers.{chain_count_fault}
-use Rattle.kplib.specs.declared.vargraph.ChainCount.{ChainCount}
-use Rattle.kplib.specs.declared.vargraph.ChainCount.TheVariants.{Chains, Refused}
 
 -- node 0 is the source, V + 1 the sink, variant row r is node r + 1
 abbrev pub node_of : ℕ → ℕ
@@ -33,20 +33,16 @@ is_chain_in starts ends full = is_chain (may_follow_in starts ends full) (length
 abbrev pub chains_of : List ℕ → List ℕ → Bool → ℕ
 chains_of starts ends full = chain_count (edge starts ends) (length starts) full
 
--- the case that has this number of a refusal, and this count where the number is 0
-abbrev pub count_case : ℕ → ℕ → ChainCount
-count_case zero n = Chains n
-count_case (suc f) n = Refused (suc f)
+-- the refusal of this number, or this answer where the number is 0
+abbrev pub refused_or : {A : Type 0} → ℕ → A → Result A Refusal
+refused_or zero a = Ok a
+refused_or (suc fault) a = Err (refusal_of (suc fault))
 
--- the number and the value that the paper gives each case
-abbrev pub count_number : ChainCount → ℕ
-count_number (Chains n) = 0
-count_number (Refused f) = f
-
-abbrev pub count_value : ChainCount → ℕ
-count_value (Chains n) = n
-count_value (Refused f) = 0
+-- the value that the paper gives a count, 0 where it is refused; its number is what it is told as
+abbrev pub count_value : Result ℕ Refusal → ℕ
+count_value (Ok n) = n
+count_value (Err refusal) = 0
 
 -- the chain count up to a cap: the smaller of N and cap
-unfoldable pub capped_count : List ℕ → List ℕ → Bool → ℕ → ChainCount
-capped_count starts ends full cap = count_case (chain_count_fault cap starts ends) (min (chains_of starts ends full) cap)
+unfoldable pub capped_count : List ℕ → List ℕ → Bool → ℕ → Result ℕ Refusal
+capped_count starts ends full cap = refused_or (chain_count_fault cap starts ends) (min (chains_of starts ends full) cap)

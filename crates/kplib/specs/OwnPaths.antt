@@ -1,18 +1,17 @@
 -- Document 02, P13: what holds of every check of a proposal. The answers of our own search are among those that get a yes.
-use Rattle.std.specs.Prelude.{ℕ, ◌^◌, ◌≡◌, true, false, cond, ◌&&◌, List, [], ◌∷◌, reverse, leb, length, Float, Some}
+use Rattle.std.specs.Prelude.{ℕ, ◌^◌, ◌≡◌, true, false, cond, ◌&&◌, List, [], ◌∷◌, reverse, leb, length, Float, Some, Ok}
 use Rattle.std.specs.Float.{binary32}
 use Rattle.std.specs.Float.Ieee.{to_bits, lt}
 use Rattle.metrics.specs.Similarity.{whole}
 use Rattle.params.specs.Numbers.{Table, Parts, Call, first_of, settings_rules}
-use Rattle.kplib.specs.Graph.{is_chain_in}
+use Rattle.kplib.specs.Graph.{is_chain_in, refused_or}
 use Rattle.kplib.specs.Parts.{part_lists}
 use Rattle.kplib.specs.Sums.{size_of, features_of, total_of}
 use Rattle.kplib.specs.Score.{start, after_list, scores_of}
 use Rattle.kplib.specs.Answer.{answer_of, rows_of, searches}
-use Rattle.kplib.specs.Proposal.{Proposal, proposal_of, one_of, pair_score, proposal_fault, check_case, check_of, rises_below, fewest_of}
+use Rattle.kplib.specs.Proposal.{Proposal, proposal_of, one_of, pair_score, proposal_fault, check_of, rises_below, fewest_of}
 use Rattle.params.specs.declared.Settings.{Settings}
 use Rattle.kplib.specs.declared.pathscore.Scored.{Scored}
-use Rattle.kplib.specs.declared.checkpath.PathCheck.TheVariants.{Yes}
 
 -- the list by which the best was last replaced, `won` where none of these replaces it
 unfoldable pub won_by : (Scored → List ℕ → Scored) → Scored → List ℕ → List (List ℕ) → List ℕ
@@ -51,19 +50,19 @@ pub record SameScoring (a b : Settings) : Type 0 where
 
 pub record PathChecks : Type 0 where
   -- yes exactly when
-  pub yes_when : (s : Settings) (t : Table) (p : Parts) (o : Proposal) → Good s t p o → check_of s t p o ≡ Yes
-  pub only_when : (s : Settings) (t : Table) (p : Parts) (o : Proposal) → check_of s t p o ≡ Yes → Good s t p o
+  pub yes_when : (s : Settings) (t : Table) (p : Parts) (o : Proposal) → Good s t p o → check_of s t p o ≡ Ok true
+  pub only_when : (s : Settings) (t : Table) (p : Parts) (o : Proposal) → check_of s t p o ≡ Ok true → Good s t p o
   -- one of the part lists: positions that rise below m, at least as many as the shortest list has
   pub by_rule : (m fnmax pileupmax : ℕ) (positions : List ℕ) → one_of positions (part_lists m fnmax pileupmax) ≡ (leb (fewest_of m fnmax pileupmax) (length positions) && rises_below m 0 positions)
   -- every answer in search mode with a score above 0 gets a yes with the list that won
   pub own_answers : (c : Call) → searches c ≡ true → lt (whole 0) (answer_of c).score ≡ true
       → let s = c.settings in let t = c.table in let p = c.parts in
-      check_of s t p (proposal_of (rows_of c) (winning_list s t p (rows_of c)) (answer_of c).score) ≡ Yes
+      check_of s t p (proposal_of (rows_of c) (winning_list s t p (rows_of c)) (answer_of c).score) ≡ Ok true
   -- under squish the empty chain gets a no, where it is not refused
   pub empty_chain : (s : Settings) (t : Table) (p : Parts) (positions : List ℕ) (score : Float) → s.squish ≡ true
       → let o = proposal_of [] positions score in
-      check_of s t p o ≡ check_case (proposal_fault s t p o) false
+      check_of s t p o ≡ refused_or (proposal_fault s t p o) false
   -- and so does a score that is not greater than 0, a NaN among them
-  pub not_above : (s : Settings) (t : Table) (p : Parts) (o : Proposal) → lt (whole 0) o.score ≡ false → check_of s t p o ≡ check_case (proposal_fault s t p o) false
+  pub not_above : (s : Settings) (t : Table) (p : Parts) (o : Proposal) → lt (whole 0) o.score ≡ false → check_of s t p o ≡ refused_or (proposal_fault s t p o) false
   -- one-to-one, maxnodes and maxpaths play no part, but that they may be refused
   pub no_part : (a b : Settings) (t : Table) (p : Parts) (o : Proposal) → SameScoring a b → first_of (settings_rules a) ≡ 0 → first_of (settings_rules b) ≡ 0 → check_of a t p o ≡ check_of b t p o

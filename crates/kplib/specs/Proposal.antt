@@ -1,20 +1,19 @@
 -- Document 02, P13: a path that someone else proposes, that is rows, positions among the parts, and a score. Chain, part list and list score are the search's own.
-use Rattle.std.specs.Prelude.{ℕ, zero, suc, ◌-◌, ◌^◌, ◌≤◌, max, Bool, true, false, cond, ◌&&◌, ◌||◌, List, [], ◌∷◌, ◌++◌, reverse, leb, ltb, eqb, Float, Option, Some, None}
+use Rattle.std.specs.Prelude.{ℕ, suc, ◌-◌, ◌^◌, ◌≤◌, max, Bool, true, false, cond, ◌&&◌, ◌||◌, List, [], ◌∷◌, ◌++◌, reverse, leb, ltb, eqb, Float, Option, Some, None, Result, Ok, Err}
 use Rattle.std.proofs.Math.ListN.{length}
 use Rattle.std.specs.Float.{binary32}
 use Rattle.std.specs.Float.Ieee.{to_bits, lt}
 use Rattle.metrics.specs.Similarity.{whole}
+use Rattle.metrics.specs.declared.refusals.Refusal.{Refusal}
 use Rattle.paths.specs.Sums.{same_rows}
 use Rattle.params.specs.Numbers.{Table, Parts, Rule, rule, first_of, settings_rules, length_rules, bound_rules, limit_rules}
-use Rattle.kplib.specs.Graph.{is_chain_in}
+use Rattle.kplib.specs.Graph.{is_chain_in, refused_or}
 use Rattle.kplib.specs.Parts.{part_lists}
 use Rattle.kplib.specs.Sums.{size_of, features_of, total_of}
 use Rattle.kplib.specs.Score.{list_score}
 use Rattle.kplib.specs.Scoring.{Tables, AllBelow}
 use Rattle.params.specs.declared.Settings.{Settings}
 use Rattle.kplib.specs.declared.pathscore.Scores.{Scores}
-use Rattle.kplib.specs.declared.checkpath.PathCheck.{PathCheck}
-use Rattle.kplib.specs.declared.checkpath.PathCheck.TheVariants.{Yes, No, Refused}
 
 -- a list is one of these
 abbrev pub one_of : List ℕ → List (List ℕ) → Bool
@@ -66,26 +65,15 @@ module _ (s : Settings) (t : Table) (p : Parts) where
   unfoldable pub proposal_fault : Proposal → ℕ
   proposal_fault o = first_of (proposal_rules o)
 
--- the case that has this number of a refusal, and this answer where the number is 0
-abbrev pub check_case : ℕ → Bool → PathCheck
-check_case zero true = Yes
-check_case zero false = No
-check_case (suc fault) good = Refused (suc fault)
+-- the answer as a word, 0 too where it is refused; its number is what it is told as
+abbrev pub check_word : Result Bool Refusal → ℕ
+check_word (Ok true) = 1
+check_word (Ok false) = 0
+check_word (Err refusal) = 0
 
--- the number, and the answer as a word, that each case has
-abbrev pub check_number : PathCheck → ℕ
-check_number Yes = 0
-check_number No = 0
-check_number (Refused fault) = fault
-
-abbrev pub check_word : PathCheck → ℕ
-check_word Yes = 1
-check_word No = 0
-check_word (Refused fault) = 0
-
-unfoldable pub check_of : Settings → Table → Parts → Proposal → PathCheck
+unfoldable pub check_of : Settings → Table → Parts → Proposal → Result Bool Refusal
 unfolding is_good proposal_fault
-check_of s t p o = check_case (proposal_fault s t p o) (is_good s t p o)
+check_of s t p o = refused_or (proposal_fault s t p o) (is_good s t p o)
 
 -- ---- membership by its own rule, which the code asks instead of going through the lists. No public promise cites what follows; that it is membership: `by_rule` of PathChecks.
 

@@ -2,10 +2,11 @@
 ghost use Rattle.std.specs.Prelude.{◌≡◌, ◌&&◌, reverse, ◌^◌, ◌≤◌, ◌<◌, ltb, length};
 ghost use Rattle.paths.specs.Chains.{first_after};
 ghost use Rattle.paths.specs.Count.{stands_with_all};
-ghost use Rattle.params.specs.Numbers.{table_of, parts_of};
+ghost use Rattle.metrics.specs.Refusals.{told};
+ghost use Rattle.params.specs.Held.{table_held, parts_held};
 ghost use Rattle.kplib.specs.Graph.{edge, extends_in, is_chain_in};
 ghost use Rattle.kplib.specs.Parts.{part_lists};
-ghost use Rattle.kplib.specs.Scoring.{unplaced, AllBelow};
+ghost use Rattle.kplib.specs.Scoring.{AllBelow};
 ghost use Rattle.kplib.specs.Proposal.{one_of, gives, proposal_of, pair_score, proposal_fault, rises_below, fewest_of, Pairable};
 ghost use Rattle.kplib.specs.Promises.{CheckPathPromise};
 
@@ -15,53 +16,26 @@ use crate::sums::sum_features;
 use metrics::floats::bits_of;
 use metrics::kmer::entries;
 use metrics::overlaps;
-use metrics::refusals::{ACCEPTED, LONG_PROPOSAL, told};
+use metrics::refusals::Refusal;
 use params::checks::call_fault;
 use params::{Parts, Settings, Table};
-
-// The answer to a proposal, or the number of a refusal.
-#[derive(Clone, Copy)]
-pub enum PathCheck {
-    Yes,
-    No,
-    Refused(u32),
-}
 
 // 1 to 10 and 16, then 54. The rooms are as large as any call asks, so that neither 11 nor 12 is given.
 fn proposal_fault(
     s: Settings,
-    starts: &[u64],
-    ends: &[u64],
-    sizes: &[i32],
-    features: &[i32],
-    part_sizes: &[i32],
-    part_features: &[i32],
+    table: &Table,
+    parts: &Parts,
     rows: &[u32],
     positions: &[u32],
     score: f32,
-) -> u32
-    ensures { let t = table_of starts.now ends.now sizes.now features.now in
-        let p = parts_of part_sizes.now part_features.now in
-        result ≡ proposal_fault s t p (proposal_of rows.now positions.now score) }
+) -> Result<(), Refusal>
+    ensures { told result ≡ proposal_fault s (table_held table.now) (parts_held parts.now) (proposal_of rows.now positions.now score) }
 {
-    let table = Table {
-        starts,
-        ends,
-        sizes,
-        features,
-    };
-    let parts = Parts {
-        sizes: part_sizes,
-        features: part_features,
-    };
-    let fault = told(call_fault(s, &table, &parts, 262145, 64));
-    if fault != ACCEPTED {
-        return fault;
-    }
+    call_fault(s, table, parts, 262145, 64)?;
     if rows.len() > 64 || positions.len() > 64 {
-        return LONG_PROPOSAL;
+        return Err(Refusal::LongProposal);
     }
-    ACCEPTED
+    Ok(())
 }
 
 // Whether a row overlaps none of a chain's.
@@ -148,25 +122,21 @@ fn is_part_list(m: usize, fnmax: u32, pileupmax: u32, positions: &[u32]) -> bool
 // One list scored against one chain. The scratch is lent, a feature row for each.
 fn pair_score(
     s: Settings,
-    sizes: &[i32],
-    features: &[i32],
-    part_sizes: &[i32],
-    part_features: &[i32],
+    table: &Table,
+    parts: &Parts,
     rows: &[u32],
     positions: &[u32],
     chain_row: &mut [i32],
     list_row: &mut [i32],
 ) -> Option<Scores>
-    requires { Pairable s (unplaced sizes.now features.now) (parts_of part_sizes.now part_features.now) rows.now positions.now
+    requires { Pairable s (table_held table.now) (parts_held parts.now) rows.now positions.now
         × (length chain_row.old ≡ 4 ^ s.k) × (length list_row.old ≡ 4 ^ s.k) }
-    ensures { let t = unplaced sizes.now features.now in
-        let p = parts_of part_sizes.now part_features.now in
-        result ≡ pair_score s t p rows.now positions.now }
+    ensures { result ≡ pair_score s (table_held table.now) (parts_held parts.now) rows.now positions.now }
 {
-    sum_features(features, rows, chain_row);
-    sum_features(part_features, positions, list_row);
-    let chain_size = rows_size(sizes, rows);
-    let list_size = rows_size(part_sizes, positions);
+    sum_features(table.features, rows, chain_row);
+    sum_features(parts.features, positions, list_row);
+    let chain_size = rows_size(table.sizes, rows);
+    let list_size = rows_size(parts.sizes, positions);
     list_score(
         s,
         chain_size,
@@ -175,34 +145,28 @@ fn pair_score(
         list_size,
         list_row,
         positions.len(),
-        part_sizes.len() - positions.len(),
+        parts.sizes.len() - positions.len(),
     )
 }
 
 // The same, with the room that it asks.
 fn score_pair(
     s: Settings,
-    sizes: &[i32],
-    features: &[i32],
-    part_sizes: &[i32],
-    part_features: &[i32],
+    table: &Table,
+    parts: &Parts,
     rows: &[u32],
     positions: &[u32],
 ) -> Option<Scores>
-    requires { Pairable s (unplaced sizes.now features.now) (parts_of part_sizes.now part_features.now) rows.now positions.now }
-    ensures { let t = unplaced sizes.now features.now in
-        let p = parts_of part_sizes.now part_features.now in
-        result ≡ pair_score s t p rows.now positions.now }
+    requires { Pairable s (table_held table.now) (parts_held parts.now) rows.now positions.now }
+    ensures { result ≡ pair_score s (table_held table.now) (parts_held parts.now) rows.now positions.now }
 {
     let mut chain_row = [0i32; 4096];
     let mut list_row = [0i32; 4096];
     let width = entries(s.k);
     pair_score(
         s,
-        sizes,
-        features,
-        part_sizes,
-        part_features,
+        table,
+        parts,
         rows,
         positions,
         &mut chain_row[..width],
@@ -223,51 +187,21 @@ fn gives_score(score: f32, verdict: Option<Scores>) -> bool
 // Whether the rows are a chain, the positions a part list, and that list scored against that chain gives that score, greater than 0, bit for bit.
 pub fn check_path(
     s: Settings,
-    starts: &[u64],
-    ends: &[u64],
-    sizes: &[i32],
-    features: &[i32],
-    part_sizes: &[i32],
-    part_features: &[i32],
+    table: &Table,
+    parts: &Parts,
     rows: &[u32],
     positions: &[u32],
     score: f32,
-) -> PathCheck
-    ensures { CheckPathPromise s starts.now ends.now sizes.now features.now part_sizes.now
-        part_features.now rows.now positions.now score result }
+) -> Result<bool, Refusal>
+    ensures { CheckPathPromise s table.now parts.now rows.now positions.now score result }
 {
-    let fault = proposal_fault(
-        s,
-        starts,
-        ends,
-        sizes,
-        features,
-        part_sizes,
-        part_features,
-        rows,
-        positions,
-        score,
-    );
-    if fault != ACCEPTED {
-        return PathCheck::Refused(fault);
+    proposal_fault(s, table, parts, rows, positions, score)?;
+    if !is_chain(table.starts, table.ends, s.full, rows) {
+        return Ok(false);
     }
-    if !is_chain(starts, ends, s.full, rows) {
-        return PathCheck::No;
+    if !is_part_list(parts.sizes.len(), s.fnmax, s.pileupmax, positions) {
+        return Ok(false);
     }
-    if !is_part_list(part_sizes.len(), s.fnmax, s.pileupmax, positions) {
-        return PathCheck::No;
-    }
-    let verdict = score_pair(
-        s,
-        sizes,
-        features,
-        part_sizes,
-        part_features,
-        rows,
-        positions,
-    );
-    if gives_score(score, verdict) {
-        return PathCheck::Yes;
-    }
-    PathCheck::No
+    let verdict = score_pair(s, table, parts, rows, positions);
+    Ok(gives_score(score, verdict))
 }

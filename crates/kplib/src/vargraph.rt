@@ -7,7 +7,7 @@ ghost use Rattle.kplib.specs.GraphWalk.{flag_of, Together, SetFrom, RowLaid, Fla
 ghost use Rattle.kplib.specs.Promises.{CountChainsPromise};
 
 use metrics::overlaps;
-use metrics::refusals::{ACCEPTED, told};
+use metrics::refusals::Refusal;
 use params::checks::count_fault;
 
 // A variant's row in the table, from 0.
@@ -142,20 +142,10 @@ fn count_capped(starts: &[u64], ends: &[u64], full: bool, cap: u32) -> u32
     others - count_rows(&together, &mut rows, 0, starts.len(), others) + 1
 }
 
-// The number of chains up to a cap, or the number of a refusal.
-#[derive(Clone, Copy)]
-pub enum ChainCount {
-    Chains(u32),
-    Refused(u32),
-}
-
 // The smaller of the number of chains and cap. It takes no longer than the cap allows, however many chains there are.
-pub fn count_chains(starts: &[u64], ends: &[u64], full: bool, cap: u32) -> ChainCount
+pub fn count_chains(starts: &[u64], ends: &[u64], full: bool, cap: u32) -> Result<u32, Refusal>
     ensures { CountChainsPromise starts.now ends.now full cap result }
 {
-    let fault = told(count_fault(starts, ends, cap));
-    if fault != ACCEPTED {
-        return ChainCount::Refused(fault);
-    }
-    ChainCount::Chains(count_capped(starts, ends, full, cap))
+    count_fault(starts, ends, cap)?;
+    Ok(count_capped(starts, ends, full, cap))
 }
