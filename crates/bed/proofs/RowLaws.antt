@@ -10,13 +10,16 @@ use lib.ListN.{length, get_or, take, drop, drop_of_length-le, length-append}
 use lib.Seq.{drop-cons, take-suc, take_all}
 use borrow.Author.Tests.{le-leb, lt-ltb, le-ltb, ltb-true, ltb-false, eq-eqb, ne_eqb}
 use Rattle.params.proofs.CheckLaws.{given, passed, differ, agree}
+use Rattle.std.specs.Prelude.{Ok, Err}
 use Rattle.metrics.specs.Placed.{placed}
+use Rattle.metrics.specs.declared.refusals.Refusal.{Refusal}
+use Rattle.metrics.specs.Refusals.{refusal_number}
+use Rattle.metrics.proofs.RefusalLaws.{never_zero, numbered_is}
 use Rattle.text.specs.Written.{Written}
 use Rattle.text.proofs.PieceLaws.{written_as, written_then, written_none}
 use Rattle.bed.specs.Bed.{good_name, bed_line, bed_text}
 use Rattle.bed.specs.Reading.{unless_refused}
 use Rattle.bed.specs.Writing.{chosen_of, rows_text, bad_name_for, missing_row, little_text_room, write_fault, write_answer}
-use Rattle.bed.specs.declared.BedWritten.TheVariants.{Bytes, Refused}
 
 -- a row is not there where its number is not below v, or where one of the others is not
 pub missing_step : (v r : ℕ) (rows : List ℕ) → missing_row v (r ∷ rows) ≡ (leb v r || missing_row v rows)
@@ -154,14 +157,14 @@ module _ (name starts ends rows : List ℕ) (room : ℕ) where
         written h = name_passed (passed _ 44 _ 0 present (passed _ 43 _ 0 h refl))
 
 -- what a refusal answers and leaves, and what an accepted call does
-pub refused_written : (fault : ℕ) {n : ℕ} (all text : List ℕ) → n ≡ fault → (n ≡ 0 → ⊥)
-    → (Refused n ≡ write_answer fault all) × (text ≡ placed text (unless_refused fault all))
+pub refused_written : (fault : ℕ) {refusal : Refusal} (all text : List ℕ) → refusal_number refusal ≡ fault
+    → (Err refusal ≡ write_answer fault all) × (text ≡ placed text (unless_refused fault all))
 unfolding write_answer unless_refused
-refused_written fault all text e h =
-    let z = ne_eqb fault 0 (λ q. h (e ∙ q)) in
-    (rw z (ap Refused e), rw z refl)
+refused_written fault {refusal} all text e =
+    let z = ne_eqb fault 0 (λ q. never_zero refusal (e ∙ q)) in
+    (rw z (ap Err (numbered_is refusal fault e)), rw z refl)
 
 pub accepted_written : (fault : ℕ) (all old : List ℕ) {new : List ℕ} {r : ℕ} → 0 ≡ fault → r ≡ length all → new ≡ placed old all
-    → (Bytes r ≡ write_answer fault all) × (new ≡ placed old (unless_refused fault all))
+    → (Ok r ≡ write_answer fault all) × (new ≡ placed old (unless_refused fault all))
 unfolding write_answer unless_refused
-accepted_written fault all old e n p = let z = eq-eqb fault 0 (sym e) in (rw z (ap Bytes n), rw z p)
+accepted_written fault all old e n p = let z = eq-eqb fault 0 (sym e) in (rw z (ap Ok n), rw z p)

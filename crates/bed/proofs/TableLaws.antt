@@ -10,16 +10,19 @@ use lib.Dec.{leb}
 use lib.ListN.{length, take, drop, set, length-drop, length-set, drop_of_length-le}
 use lib.Seq.{drop-drop, take_all, take-suc-set, append_snoc}
 use borrow.Author.Tests.{le-leb, lt-leb, lt-ltb, le-ltb, eq-eqb, ne_eqb}
+use Rattle.std.specs.Prelude.{Ok, Err}
 use Rattle.metrics.specs.Placed.{placed}
+use Rattle.metrics.specs.declared.refusals.Refusal.{Refusal}
+use Rattle.metrics.specs.Refusals.{refusal_number}
+use Rattle.metrics.proofs.RefusalLaws.{never_zero, numbered_is}
+use Rattle.bed.specs.declared.Counts.{Counts}
 use Rattle.params.specs.Numbers.{first_of, bound_rules}
 use Rattle.params.proofs.CheckLaws.{given, passed, numbered, Passed, none_given, stops, goes_on}
 use Rattle.params.proofs.BoundLaws.{no_bounds}
 use Rattle.bed.specs.Bed.{tab, newline}
 use Rattle.bed.specs.Reading.{same_bytes, lines_of, up_to, behind_first, name_in, start_in, end_in, good_line, line_rules, lines_from, text_rules, starts_in, ends_in, read_fault}
 use Rattle.bed.specs.Reading.{read_answer, unless_refused}
-use Rattle.bed.specs.Steps.{first_line, Rows, Scanned, Checked}
-use Rattle.bed.specs.declared.table.Found.{Found}
-use Rattle.bed.specs.declared.BedRead.TheVariants.{Table, Refused}
+use Rattle.bed.specs.Steps.{first_line, Rows, text_fault}
 use Rattle.bed.proofs.PartLaws.{lines_step, lines_none, first_taken, first_dropped, first_within, first_some}
 use Rattle.bed.proofs.LineLaws.{good_said, name_parts, same_is}
 use Rattle.bed.proofs.RowLaws.{not_false}
@@ -143,28 +146,22 @@ module _ (text s e : List ℕ) (at rows : ℕ) (g : Going text s e at rows) (h :
   unfolding lines_from
   no_fault = sym g.rules ∙ ap (λ (ls : List (List ℕ)). first_of (lines_from (name_in text) rows ls)) none_left
 
-  pub ended : (r : Found) → r.fault ≡ 0 → r.rows ≡ rows → Scanned text s e r
-  ended r f k = record { fault = f ∙ sym no_fault; rows = λ z. rw k all }
-    where
-      all : Rows text s e rows
-      all =
-          let n = ap length none_left in
-          let c = g.count in
-          record {
-            count = omega arith;
-            few = g.few;
-            sound = no_fault;
-            starts = sym (append-nil (take rows s)) ∙ sym (ap (λ (ls : List (List ℕ)). take rows s ++ map start_in ls) none_left) ∙ g.starts;
-            ends = sym (append-nil (take rows e)) ∙ sym (ap (λ (ls : List (List ℕ)). take rows e ++ map end_in ls) none_left) ∙ g.ends;
-          }
+  pub ended : Rows text s e rows
+  ended =
+      let n = ap length none_left in
+      let c = g.count in
+      record {
+        count = omega arith;
+        few = g.few;
+        sound = no_fault;
+        starts = sym (append-nil (take rows s)) ∙ sym (ap (λ (ls : List (List ℕ)). take rows s ++ map start_in ls) none_left) ∙ g.starts;
+        ends = sym (append-nil (take rows e)) ∙ sym (ap (λ (ls : List (List ℕ)). take rows e ++ map end_in ls) none_left) ∙ g.ends;
+      }
 
 -- the names, as the code has them
 pub names_told : {xs a b : List ℕ} {r : Bool} (line text : List ℕ) → a ≡ up_to tab xs → xs ≡ line → b ≡ up_to tab text → r ≡ same_bytes a b
     → r ≡ same_bytes (name_in line) (name_in text)
 names_told {xs} {a} {b} line text p e q t = t ∙ ap (λ (l : List ℕ). same_bytes l b) (p ∙ ap (up_to tab) e) ∙ ap (same_bytes (name_in line)) q
-
-pub scan_refused : {text s e : List ℕ} {r : Found} {n : ℕ} → r.fault ≡ n → (n ≡ 0 → ⊥) → n ≡ first_of (text_rules text) → Scanned text s e r
-scan_refused f h e = record { fault = f ∙ e; rows = λ z. absurd (h (sym f ∙ z)) }
 
 -- ---- 7 and 8 behind the lines' faults
 
@@ -177,30 +174,21 @@ pub text_passed : (text : List ℕ) → first_of (text_rules text) ≡ 0 → Pas
 unfolding text_rules
 text_passed text z = none_given (lines_from (name_in text) 0 (lines_of text)) (lines_numbered (name_in text) 0 (lines_of text)) z
 
-module _ {text s e : List ℕ} {found : Found} (w : Scanned text s e found) where
-  pub check_stopped : (found.fault ≡ 0 → ⊥) → Checked text s e found
-  check_stopped h = record { fault = stops (text_rules text) _ found.fault w.fault h; rows = λ z. absurd (h z) }
+pub lines_fault : (text : List ℕ) (refusal : Refusal) → refusal_number refusal ≡ first_of (text_rules text) → refusal_number refusal ≡ text_fault text
+lines_fault text refusal e = stops (text_rules text) _ _ e (never_zero refusal)
 
-  module _ (z : found.fault ≡ 0) where
-    abbrev gathered : Rows text s e found.rows
-    gathered = w.rows z
+module _ {text s e : List ℕ} {n : ℕ} (w : Rows text s e n) where
+  after : {f : ℕ} → f ≡ first_of (bound_rules (starts_in text) (ends_in text)) → f ≡ text_fault text
+  after e = goes_on (text_rules text) _ _ (text_passed text w.sound) e
 
-    after : {f : ℕ} → f ≡ first_of (bound_rules (starts_in text) (ends_in text)) → f ≡ first_of (text_rules text ++ bound_rules (starts_in text) (ends_in text))
-    after e = goes_on (text_rules text) _ _ (text_passed text gathered.sound) e
+  pub no_rows : n ≡ 0 → text_fault text ≡ 0
+  no_rows z =
+      let none : starts_in text ≡ [] = sym w.starts ∙ ap (λ (k : ℕ). take k s) z in
+      sym (after (no_bounds (starts_in text) (ends_in text) none))
 
-    pub check_empty : found.rows ≡ 0 → Checked text s e found
-    check_empty n =
-        let none : starts_in text ≡ [] = sym gathered.starts ∙ ap (λ (k : ℕ). take k s) n in
-        record { fault = z ∙ after (no_bounds (starts_in text) (ends_in text) none); rows = λ q. gathered }
-
-    of_numbers : {f : ℕ} → f ≡ first_of (bound_rules (take found.rows s) (take found.rows e)) → f ≡ first_of (bound_rules (starts_in text) (ends_in text))
-    of_numbers q = q ∙ ap (λ (l : List ℕ). first_of (bound_rules l (take found.rows e))) gathered.starts ∙ ap (λ (l : List ℕ). first_of (bound_rules (starts_in text) l)) gathered.ends
-
-    pub check_refused : {f : ℕ} {r : Found} → f ≡ first_of (bound_rules (take found.rows s) (take found.rows e)) → (f ≡ 0 → ⊥) → r.fault ≡ f → Checked text s e r
-    check_refused q h k = record { fault = k ∙ after (of_numbers q); rows = λ y. absurd (h (sym k ∙ y)) }
-
-    pub check_passed : {f : ℕ} → f ≡ first_of (bound_rules (take found.rows s) (take found.rows e)) → f ≡ 0 → Checked text s e found
-    check_passed q k = record { fault = z ∙ sym k ∙ after (of_numbers q); rows = λ y. gathered }
+  pub of_numbers : {f : ℕ} → f ≡ first_of (bound_rules (take n s) (take n e)) → f ≡ text_fault text
+  of_numbers q =
+      after (q ∙ ap (λ (l : List ℕ). first_of (bound_rules l (take n e))) w.starts ∙ ap (λ (l : List ℕ). first_of (bound_rules (starts_in text) l)) w.ends)
 
 -- ---- the whole
 
@@ -235,28 +223,29 @@ pub little_ends : (text : List ℕ) (a b : ℕ) → 64 ≤ a → b < 64 → 6 �
 unfolding read_fault
 little_ends text a b l h = rw (le-ltb a 64 l, lt-ltb b 64 h)
 
-pub enough : (text : List ℕ) (a b : ℕ) {f : ℕ} → 64 ≤ a → 64 ≤ b → f ≡ first_of (text_rules text ++ bound_rules (starts_in text) (ends_in text)) → f ≡ read_fault text a b
+pub enough : (text : List ℕ) (a b : ℕ) {f : ℕ} → 64 ≤ a → 64 ≤ b → f ≡ text_fault text → f ≡ read_fault text a b
 unfolding read_fault
 enough text a b l h e = rw (le-ltb a 64 l, le-ltb b 64 h) e
 
 -- what a refusal answers and leaves, and what an accepted call does
-pub refused_read : (fault : ℕ) (text starts ends name : List ℕ) {n : ℕ} → n ≡ fault → (n ≡ 0 → ⊥)
-    → (Refused n ≡ read_answer fault text)
+pub refused_read : (fault : ℕ) (text starts ends name : List ℕ) {refusal : Refusal} → refusal_number refusal ≡ fault
+    → (Err refusal ≡ read_answer fault text)
     × ((starts ≡ placed starts (unless_refused fault (starts_in text)))
     × ((ends ≡ placed ends (unless_refused fault (ends_in text)))
     × (name ≡ placed name (unless_refused fault (name_in text)))))
 unfolding read_answer unless_refused
-refused_read fault text starts ends name e h =
-    let z = ne_eqb fault 0 (λ q. h (e ∙ q)) in
-    (rw z (ap Refused e), (rw z refl, (rw z refl, rw z refl)))
+refused_read fault text starts ends name {refusal} e =
+    let z = ne_eqb fault 0 (λ q. never_zero refusal (e ∙ q)) in
+    (rw z (ap Err (numbered_is refusal fault e)), (rw z refl, (rw z refl, rw z refl)))
 
-pub accepted_read : (fault : ℕ) (text starts ends name : List ℕ) {starts' ends' name' : List ℕ} {n width : ℕ} → 0 ≡ fault
-    → n ≡ length (lines_of text) → width ≡ length (name_in text) → starts' ≡ placed starts (starts_in text) → ends' ≡ placed ends (ends_in text) → name' ≡ placed name (name_in text)
-    → (Table n width ≡ read_answer fault text)
+pub accepted_read : (fault : ℕ) (text starts ends name : List ℕ) {starts' ends' name' : List ℕ} {counts : Counts} → 0 ≡ fault
+    → counts.rows ≡ length (lines_of text) → counts.width ≡ length (name_in text)
+    → starts' ≡ placed starts (starts_in text) → ends' ≡ placed ends (ends_in text) → name' ≡ placed name (name_in text)
+    → (Ok counts ≡ read_answer fault text)
     × ((starts' ≡ placed starts (unless_refused fault (starts_in text)))
     × ((ends' ≡ placed ends (unless_refused fault (ends_in text)))
     × (name' ≡ placed name (unless_refused fault (name_in text)))))
 unfolding read_answer unless_refused
 accepted_read fault text starts ends name e n w p q r =
     let z = eq-eqb fault 0 (sym e) in
-    (rw (z, n, w) refl, (rw z p, (rw z q, rw z r)))
+    (rw (z, sym n, sym w) refl, (rw z p, (rw z q, rw z r)))

@@ -1,9 +1,10 @@
 -- Document 02, P4: what a text says, and by which rule it is refused. A line is good exactly where it is the text of a name, a start and an end (Bed).
-use Rattle.std.specs.Prelude.{ℕ, suc, ◌+◌, ◌-◌, ◌*◌, Bool, true, false, not, cond, ◌&&◌, ◌||◌, List, [], ◌∷◌, ◌++◌, map, leb, ltb, eqb, length, drop}
+use Rattle.std.specs.Prelude.{ℕ, suc, ◌+◌, ◌-◌, ◌*◌, Bool, true, false, not, cond, ◌&&◌, ◌||◌, List, [], ◌∷◌, ◌++◌, map, leb, ltb, eqb, length, drop, Result, Ok, Err}
+use Rattle.metrics.specs.declared.refusals.Refusal.{Refusal}
+use Rattle.metrics.specs.Refusals.{refusal_of}
 use Rattle.params.specs.Numbers.{Rule, rule, first_of, bound_rules}
 use Rattle.bed.specs.Bed.{good_name, tab, newline, bed_line}
-use Rattle.bed.specs.declared.BedRead.{BedRead}
-use Rattle.bed.specs.declared.BedRead.TheVariants.{Table, Refused}
+use Rattle.bed.specs.declared.Counts.{Counts}
 
 unfoldable pub same_bytes : List ℕ → List ℕ → Bool
 same_bytes [] [] = true
@@ -95,17 +96,13 @@ unfoldable pub read_fault : List ℕ → ℕ → ℕ → ℕ
 read_fault text starts ends = first_of (rule 6 (under64 starts ends) ∷ (text_rules text ++ bound_rules (starts_in text) (ends_in text)))
 
 -- how many rows, and how long the name is
-unfoldable pub read_answer : ℕ → List ℕ → BedRead
-read_answer fault text = cond (eqb fault 0) (Table (length (lines_of text)) (length (name_in text))) (Refused fault)
+unfoldable pub read_answer : ℕ → List ℕ → Result Counts Refusal
+read_answer fault text = cond (eqb fault 0) (Ok (record { rows = length (lines_of text); width = length (name_in text) })) (Err (refusal_of fault))
 
--- the same as a number, 0 for an accepted text, and the two counts, both 0 on a refusal
-abbrev pub read_number : BedRead → ℕ
-read_number (Table rows width) = 0
-read_number (Refused n) = n
-
-abbrev pub read_counts : BedRead → List ℕ
-read_counts (Table rows width) = rows ∷ width ∷ []
-read_counts (Refused n) = 0 ∷ 0 ∷ []
+-- the two counts, both 0 on a refusal
+abbrev pub read_counts : Result Counts Refusal → List ℕ
+read_counts (Ok counts) = counts.rows ∷ counts.width ∷ []
+read_counts (Err refusal) = 0 ∷ 0 ∷ []
 
 -- what is laid down at the front of a lent buffer: nothing on a refusal
 unfoldable pub unless_refused : ℕ → List ℕ → List ℕ

@@ -1,10 +1,11 @@
 -- What the private functions of the crate speak of. No public promise cites this file.
-use Rattle.std.specs.Prelude.{ℕ, suc, ◌<◌, ◌≤◌, ◌≡◌, true, false, Option, Some, None, List, ◌++◌, length, take}
+use Rattle.std.specs.Prelude.{ℕ, suc, ◌<◌, ◌≤◌, ◌≡◌, true, false, Option, Some, None, Result, Ok, Err, List, ◌++◌, length, take}
+use Rattle.metrics.specs.declared.refusals.Refusal.{Refusal}
+use Rattle.metrics.specs.Refusals.{refusal_number}
 use Rattle.params.specs.Numbers.{first_of, bound_rules}
 use Rattle.bed.specs.Bed.{newline}
 use Rattle.bed.specs.Reading.{up_to, start_in, end_in, good_line, lines_of, text_rules, starts_in, ends_in}
 use Rattle.bed.specs.declared.lines.Bounds.{Bounds}
-use Rattle.bed.specs.declared.table.Found.{Found}
 
 -- the first line of a text, with its newline
 unfoldable pub first_line : List ℕ → List ℕ
@@ -27,12 +28,15 @@ pub record Rows (text s e : List ℕ) (rows : ℕ) : Type 0 where
   pub starts : take rows s ≡ starts_in text
   pub ends : take rows e ≡ ends_in text
 
--- the first fault of a text, and its rows where there is none
-pub record Scanned (text s e : List ℕ) (r : Found) : Type 0 where
-  pub fault : r.fault ≡ first_of (text_rules text)
-  pub rows : r.fault ≡ 0 → Rows text s e r.rows
+-- the first fault of a text, or its rows where there is none
+abbrev pub Scanned : List ℕ → List ℕ → List ℕ → Result ℕ Refusal → Type 0
+Scanned text s e (Ok rows) = Rows text s e rows
+Scanned text s e (Err refusal) = refusal_number refusal ≡ first_of (text_rules text)
 
 -- the same with the faults of its numbers behind
-pub record Checked (text s e : List ℕ) (r : Found) : Type 0 where
-  pub fault : r.fault ≡ first_of (text_rules text ++ bound_rules (starts_in text) (ends_in text))
-  pub rows : r.fault ≡ 0 → Rows text s e r.rows
+abbrev pub text_fault : List ℕ → ℕ
+text_fault text = first_of (text_rules text ++ bound_rules (starts_in text) (ends_in text))
+
+abbrev pub Checked : List ℕ → List ℕ → List ℕ → Result ℕ Refusal → Type 0
+Checked text s e (Ok rows) = (text_fault text ≡ 0) × Rows text s e rows
+Checked text s e (Err refusal) = refusal_number refusal ≡ text_fault text

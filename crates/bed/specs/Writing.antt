@@ -1,9 +1,9 @@
 -- Document 02, P4: the text of the chosen rows of a table, and by which rule the writing is refused.
-use Rattle.std.specs.Prelude.{ℕ, Bool, false, not, cond, ◌&&◌, ◌||◌, List, [], ◌∷◌, map, leb, ltb, eqb, length, get_or}
+use Rattle.std.specs.Prelude.{ℕ, Bool, false, not, cond, ◌&&◌, ◌||◌, List, [], ◌∷◌, map, leb, ltb, eqb, length, get_or, Result, Ok, Err}
+use Rattle.metrics.specs.declared.refusals.Refusal.{Refusal}
+use Rattle.metrics.specs.Refusals.{refusal_of}
 use Rattle.params.specs.Numbers.{rule, first_of, disagrees}
 use Rattle.bed.specs.Bed.{good_name, bed_text}
-use Rattle.bed.specs.declared.BedWritten.{BedWritten}
-use Rattle.bed.specs.declared.BedWritten.TheVariants.{Bytes, Refused}
 
 -- the chosen rows' numbers, in the rows' order
 unfoldable pub chosen_of : List ℕ → List ℕ → List ℕ
@@ -34,14 +34,10 @@ write_fault name starts ends rows room = first_of
     ∷ []))))
 
 -- how many bytes were written
-unfoldable pub write_answer : ℕ → List ℕ → BedWritten
-write_answer fault text = cond (eqb fault 0) (Bytes (length text)) (Refused fault)
+unfoldable pub write_answer : ℕ → List ℕ → Result ℕ Refusal
+write_answer fault text = cond (eqb fault 0) (Ok (length text)) (Err (refusal_of fault))
 
--- the same as a number, 0 for an accepted call, and how many bytes, 0 on a refusal
-abbrev pub written_number : BedWritten → ℕ
-written_number (Bytes n) = 0
-written_number (Refused n) = n
-
-abbrev pub written_bytes : BedWritten → ℕ
-written_bytes (Bytes n) = n
-written_bytes (Refused n) = 0
+-- 0 on a refusal
+abbrev pub written_bytes : Result ℕ Refusal → ℕ
+written_bytes (Ok n) = n
+written_bytes (Err refusal) = 0

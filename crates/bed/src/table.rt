@@ -2,21 +2,16 @@
 ghost use Rattle.std.specs.Prelude.{◌≡◌, ◌≤◌, length, take};
 ghost use Rattle.params.specs.Numbers.{first_of, bound_rules};
 ghost use Rattle.metrics.specs.Placed.{placed};
+ghost use Rattle.metrics.specs.Refusals.{told};
 ghost use Rattle.bed.specs.Steps.{Scanned, Checked};
 
 use crate::lines::line_of;
 use crate::parts::{first, line_len};
-use metrics::refusals::{ACCEPTED, BAD_LINE, SECOND_NAME, TOO_MANY_LINES};
+use metrics::refusals::Refusal;
 use params::checks::count_fault;
 
-// The first fault, 0 for none, and then how many rows there are.
-#[derive(Clone, Copy)]
-pub(crate) struct Found {
-    pub(crate) fault: u32,
-    pub(crate) rows: usize,
-}
-
-fn scan(text: &[u8], s: &mut [u64], e: &mut [u64]) -> Found
+// The rows of a text, gathered at the front of both buffers: how many there are.
+fn scan(text: &[u8], s: &mut [u64], e: &mut [u64]) -> Result<usize, Refusal>
     requires { (length s.old ≡ 64) × (length e.old ≡ 64) }
     ensures { Scanned text.now s.new e.new result }
 {
@@ -25,59 +20,44 @@ fn scan(text: &[u8], s: &mut [u64], e: &mut [u64]) -> Found
     // `at` goes on by lines of differing length.
     while at < text.len() {
         if rows >= 64 {
-            return refused(TOO_MANY_LINES);
+            return Err(Refusal::TooManyLines);
         }
         let rest = &text[at..];
         let n = line_len(rest);
         let line = &rest[..n];
         let Some(bounds) = line_of(line) else {
-            return refused(BAD_LINE);
+            return Err(Refusal::BadLine);
         };
         if first(line, b'\t') != first(text, b'\t') {
-            return refused(SECOND_NAME);
+            return Err(Refusal::SecondName);
         }
         s[rows] = bounds.start;
         e[rows] = bounds.end;
         rows += 1;
         at += n;
     }
-    Found {
-        fault: ACCEPTED,
-        rows,
-    }
-}
-
-fn refused(fault: u32) -> Found
-    ensures { (result.fault ≡ fault) × (result.rows ≡ 0) }
-{
-    Found { fault, rows: 0 }
+    Ok(rows)
 }
 
 // 7 and 8 of the first n rows, by the check of a table.
-fn bounds_fault(s: &[u64], e: &[u64], n: usize) -> u32
+fn bounds_fault(s: &[u64], e: &[u64], n: usize) -> Result<(), Refusal>
     requires { (1 ≤ n) × ((n ≤ 64) × ((length s.now ≡ 64) × (length e.now ≡ 64))) }
-    ensures { result ≡ first_of (bound_rules (take n s.now) (take n e.now)) }
+    ensures { told result ≡ first_of (bound_rules (take n s.now) (take n e.now)) }
 {
     count_fault(&s[..n], &e[..n], 0)
 }
 
-pub(crate) fn check(text: &[u8], s: &mut [u64], e: &mut [u64]) -> Found
+// The same with 7 and 8 behind the faults of the text.
+pub(crate) fn check(text: &[u8], s: &mut [u64], e: &mut [u64]) -> Result<usize, Refusal>
     requires { (length s.old ≡ 64) × (length e.old ≡ 64) }
     ensures { Checked text.now s.new e.new result }
 {
-    let found = scan(text, s, e);
-    let n = found.rows;
-    if found.fault != 0 {
-        return found;
+    let rows = scan(text, s, e)?;
+    if rows == 0 {
+        return Ok(0);
     }
-    if n == 0 {
-        return found;
-    }
-    let fault = bounds_fault(s, e, n);
-    if fault != 0 {
-        return refused(fault);
-    }
-    found
+    bounds_fault(s, e, rows)?;
+    Ok(rows)
 }
 
 // The first n numbers to the front of a buffer.

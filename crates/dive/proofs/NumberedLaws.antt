@@ -4,7 +4,8 @@
 use Prim.Native.Nat.{ℕ, zero, suc, ◌≤◌}
 use native.Mathlib.Omega.{arith}
 use mathlib.Core.Path.{◌≡◌, refl, sym, ap, ◌∙◌}
-use mathlib.Core.Bool.{◌&&◌}
+use mathlib.Core.Bool.{Bool, true, false, cond, ◌&&◌}
+use borrow.Author.Tests.{eqb-true, eqb-false}
 use mathlib.Core.List.{List, [], ◌++◌}
 use lib.Dec.{eqb}
 use lib.ListN.{length, take, drop, length-append}
@@ -14,7 +15,7 @@ use Rattle.params.specs.Numbers.{Call, first_fault}
 use Rattle.kplib.specs.Answer.{answer_with, none_found, in_search_mode, found_after, answer_of, rows_of, searches}
 use Rattle.kplib.specs.declared.traverse.Answer.{Answer}
 use Rattle.dive.specs.Numbered.{Numbered, numbered_fault, numbered_answer, numbered_rows, records_at, records_of, numbered_searches}
-use Rattle.params.specs.TableOrder.{earlier_of}
+use Rattle.params.specs.TableOrder.{earlier_of, first_in_table}
 use Rattle.params.proofs.TableOrderLaws.{still_refused}
 use Rattle.dive.specs.NumberChecks.{number_fault}
 use Rattle.dive.proofs.NumberLaws.{numbers_good, numbers_refused, records_suffice}
@@ -34,13 +35,16 @@ module _ (n : Numbered) where
   own = number_fault (length n.call.table.starts) 1 n.numbers n.record_room
 
   -- ---- the fault, by what the two checks found
-  module _ {found other : ℕ} (is : found ≡ own) (others : other ≡ first_fault n.call) where
-    pub fault_other : found ≡ 0 → other ≡ numbered_fault n
-    fault_other good = others ∙ sym (numbers_good n (sym is ∙ good))
+  joined : first_in_table (first_fault n.call) own ≡ numbered_fault n
+  joined = go (eqb own 0) refl
+    where
+      go : (t : Bool) → eqb own 0 ≡ t → cond t (first_fault n.call) (earlier_of (first_fault n.call) own) ≡ numbered_fault n
+      go true e = sym (numbers_good n (eqb-true own 0 e))
+      go false e = sym (numbers_refused n (eqb-false own 0 e))
 
-    pub fault_earlier : (found ≡ 0 → ⊥) → {fault : ℕ} → fault ≡ earlier_of other found → fault ≡ numbered_fault n
-    fault_earlier h f =
-        f ∙ (ap (λ (m : ℕ). earlier_of m found) others ∙ (ap (λ (m : ℕ). earlier_of (first_fault n.call) m) is ∙ sym (numbers_refused n (λ z. h (is ∙ z)))))
+  pub fault_joined : {found other fault : ℕ} → found ≡ own → other ≡ first_fault n.call → fault ≡ first_in_table other found → fault ≡ numbered_fault n
+  fault_joined {found} is others f =
+      f ∙ (ap (λ (m : ℕ). first_in_table m found) others ∙ (ap (λ (m : ℕ). first_in_table (first_fault n.call) m) is ∙ joined))
 
   -- ---- the numbers are refused
   nothing_found : (fault : ℕ) → numbered_fault n ≡ fault → (fault ≡ 0 → ⊥) → (numbered_answer n ≡ answer_with fault none_found) × (numbered_rows n ≡ [])

@@ -5,12 +5,12 @@ use native.Mathlib.Omega.{arith}
 use mathlib.Core.Path.{◌≡◌, refl, sym, ap, ◌∙◌}
 use mathlib.Core.Bool.{Bool, true, false, cond}
 use mathlib.Core.List.{List, [], ◌∷◌, ◌++◌}
-use borrow.Author.Tests.{ltb-true}
+use borrow.Author.Tests.{ltb-true, ne_eqb}
 use lib.Dec.{ltb, eqb}
 use lib.ListN.{length}
 use Rattle.params.specs.Numbers.{Parts, Rule, rule, first_of, disagrees, no_variants, little_queue_room, little_answer_room, settings_rules, shape_rules, bound_rules, limit_rules}
 use Rattle.params.specs.Several.{Several, haplotypes, bad_count, stretches_disagree, shared_parts, several_fault}
-use Rattle.params.specs.TableOrder.{earlier_of}
+use Rattle.params.specs.TableOrder.{earlier_of, first_in_table}
 use Rattle.params.proofs.SeveralLaws.{over_sixteen}
 use Rattle.params.proofs.TableOrderLaws.{stands, still_refused}
 use Rattle.dive.specs.Numbered.{repeated_number}
@@ -124,7 +124,9 @@ module _ (n : NumberedSeveral) where
       go false false l m e = none_asked whole six fourteen twelve e
 
   -- by what the two checks found
-  pub joined_fault : {found other fault : ℕ} → found ≡ own → (found ≡ 0 → ⊥) → other ≡ several_fault whole → fault ≡ earlier_of other found → (fault ≡ numbered_several_fault n) × (fault ≡ 0 → ⊥)
+  pub joined_fault : {found other fault : ℕ} → found ≡ own → (found ≡ 0 → ⊥) → other ≡ several_fault whole → fault ≡ first_in_table other found
+      → (fault ≡ numbered_several_fault n) × (fault ≡ 0 → ⊥)
   joined_fault {found} {other} is h others f =
+      let e = rw (ne_eqb found 0 h) at f in
       let same : earlier_of other found ≡ earlier_of (several_fault whole) own = ap (λ (m : ℕ). earlier_of m found) others ∙ ap (λ (m : ℕ). earlier_of (several_fault whole) m) is in
-      (f ∙ (same ∙ sym (several_refused (λ z. h (is ∙ z)))), λ z. still_refused other found h (sym f ∙ z))
+      (e ∙ (same ∙ sym (several_refused (λ z. h (is ∙ z)))), λ z. still_refused other found h (sym e ∙ z))

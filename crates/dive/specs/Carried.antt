@@ -1,5 +1,6 @@
 -- Document 02, P12: each answer, a refused one too, has the target's own data unchecked and unchanged, in one-to-one too.
-use Rattle.std.specs.Prelude.{List}
+use Rattle.std.specs.Prelude.{◌≡◌, List}
+use Rattle.metrics.specs.Refusals.{told}
 use Rattle.meta.specs.declared.HaplotypeMeta.{HaplotypeMeta}
 use Rattle.dive.specs.declared.told.Told.{Told}
 use Rattle.dive.specs.declared.told.ToldSeveral.{ToldSeveral}
@@ -10,5 +11,5 @@ abbrev pub told_of : Numbered → HaplotypeMeta → Told
 told_of n meta = record { answer = numbered_answer n; meta = meta }
 
 -- for several haplotypes each has its own, whatever is refused
-abbrev pub told_several_of : NumberedSeveral → List HaplotypeMeta → ToldSeveral
-told_several_of n metas = record { refusal = numbered_several_fault n; metas = metas }
+abbrev pub ToldSeveralOf : NumberedSeveral → List HaplotypeMeta → ToldSeveral → Type 0
+ToldSeveralOf n metas r = (told r.found ≡ numbered_several_fault n) × (r.metas ≡ metas)

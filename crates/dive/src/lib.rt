@@ -15,45 +15,27 @@ use crate::records::{put_all_records, put_records};
 use kplib::haplotypes::apply_haplotypes;
 use kplib::pathscore::Target;
 use kplib::traverse::{Answer, apply_haplotype};
-use metrics::refusals::ACCEPTED;
-use params::Settings;
+use metrics::refusals::{Refusal, told};
 use params::checks::{call_fault, queue_room};
-use params::order::earlier;
+use params::order::first_in_table;
 use params::several::several_fault;
+use params::{Parts, Settings, Table};
 
-// The number of the first refusal of a call whose variants carry record numbers, 0 where it is accepted.
+// The first refusal of a call whose variants carry record numbers.
 pub fn numbered_fault(
     s: Settings,
-    starts: &[u64],
-    ends: &[u64],
-    sizes: &[i32],
-    features: &[i32],
+    table: &Table,
     numbers: &[u32],
-    part_sizes: &[i32],
-    part_features: &[i32],
+    parts: &Parts,
     queue_room: usize,
     answer_room: usize,
     record_room: usize,
-) -> u32
-    ensures { NumberedFaultPromise s starts.now ends.now sizes.now features.now numbers.now
-        part_sizes.now part_features.now queue_room answer_room record_room result }
+) -> Result<(), Refusal>
+    ensures { NumberedFaultPromise s table.now numbers.now parts.now queue_room answer_room record_room result }
 {
-    let other = call_fault(
-        s,
-        starts,
-        ends,
-        sizes,
-        features,
-        part_sizes,
-        part_features,
-        queue_room,
-        answer_room,
-    );
-    let own = number_fault(starts.len(), 1, numbers, record_room);
-    if own == ACCEPTED {
-        return other;
-    }
-    earlier(other, own)
+    let own = number_fault(table.starts.len(), 1, numbers, record_room);
+    let other = call_fault(s, table, parts, queue_room, answer_room);
+    first_in_table(other, own)
 }
 
 // A refusal: no rows, no part list, three zeros.
@@ -76,52 +58,23 @@ fn refused(refusal: u32) -> Answer
 // What is asked of the numbers is asked first, because it is little; where it refuses, an earlier refusal of the call goes before it.
 pub fn apply_numbered(
     s: Settings,
-    starts: &[u64],
-    ends: &[u64],
-    sizes: &[i32],
-    features: &[i32],
+    table: &Table,
     numbers: &[u32],
-    part_sizes: &[i32],
-    part_features: &[i32],
+    parts: &Parts,
     links: &mut [u32],
     keys: &mut [u64],
     rows: &mut [u32],
     records: &mut [u32],
 ) -> Answer
-    ensures { ApplyNumberedPromise s starts.now ends.now sizes.now features.now numbers.now
-        part_sizes.now part_features.now links.old keys.old rows.old records.old
+    ensures { ApplyNumberedPromise s table.now numbers.now parts.now links.old keys.old rows.old records.old
         links.new keys.new rows.new records.new result }
 {
-    let own = number_fault(starts.len(), 1, numbers, records.len());
-    if own != ACCEPTED {
+    if let Err(refusal) = number_fault(table.starts.len(), 1, numbers, records.len()) {
         let room = queue_room(links.len(), keys.len());
-        let fault = numbered_fault(
-            s,
-            starts,
-            ends,
-            sizes,
-            features,
-            numbers,
-            part_sizes,
-            part_features,
-            room,
-            rows.len(),
-            records.len(),
-        );
-        return refused(fault);
+        let other = call_fault(s, table, parts, room, rows.len());
+        return refused(told(first_in_table(other, Err(refusal))));
     }
-    let answer = apply_haplotype(
-        s,
-        starts,
-        ends,
-        sizes,
-        features,
-        part_sizes,
-        part_features,
-        links,
-        keys,
-        rows,
-    );
+    let answer = apply_haplotype(s, table, parts, links, keys, rows);
     put_records(numbers, rows, answer.rows as usize, records);
     answer
 }
@@ -129,69 +82,48 @@ pub fn apply_numbered(
 // `apply_haplotypes` over variants that carry record numbers: those of each haplotype's rows stand in its own V of `records`.
 pub fn apply_numbered_haplotypes(
     s: Settings,
-    starts: &[u64],
-    ends: &[u64],
-    sizes: &[i32],
-    features: &[i32],
+    table: &Table,
     numbers: &[u32],
     part_ends: &[u64],
     feature_ends: &[u64],
-    part_sizes: &[i32],
-    part_features: &[i32],
+    parts: &Parts,
     links: &mut [u32],
     keys: &mut [u64],
     rows: &mut [u32],
     records: &mut [u32],
     reports: &mut [u32],
-) -> u32
-    ensures { ApplyNumberedHaplotypesPromise s starts.now ends.now sizes.now features.now numbers.now
-        part_ends.now feature_ends.now part_sizes.now part_features.now links.old keys.old
-        rows.old records.old reports.old links.new keys.new rows.new records.new reports.new result }
+) -> Result<(), Refusal>
+    ensures { ApplyNumberedHaplotypesPromise s table.now numbers.now part_ends.now feature_ends.now parts.now
+        links.old keys.old rows.old records.old reports.old
+        links.new keys.new rows.new records.new reports.new result }
 {
-    let own = number_fault(starts.len(), part_ends.len(), numbers, records.len());
-    if own != ACCEPTED {
+    let v = table.starts.len();
+    let n = part_ends.len();
+    if let Err(refusal) = number_fault(v, n, numbers, records.len()) {
         let room = queue_room(links.len(), keys.len());
         let other = several_fault(
             s,
-            starts,
-            ends,
-            sizes,
-            features,
+            table,
             part_ends,
             feature_ends,
-            part_sizes,
-            part_features,
+            parts,
             room,
             rows.len(),
             reports.len(),
         );
-        return earlier(other, own);
+        return first_in_table(other, Err(refusal));
     }
-    let refusal = apply_haplotypes(
+    apply_haplotypes(
         s,
-        starts,
-        ends,
-        sizes,
-        features,
+        table,
         part_ends,
         feature_ends,
-        part_sizes,
-        part_features,
+        parts,
         links,
         keys,
         rows,
         reports,
-    );
-    if refusal != ACCEPTED {
-        return refusal;
-    }
-    put_all_records(
-        starts.len(),
-        part_ends.len(),
-        numbers,
-        rows,
-        reports,
-        records,
-    );
-    ACCEPTED
+    )?;
+    put_all_records(v, n, numbers, rows, reports, records);
+    Ok(())
 }

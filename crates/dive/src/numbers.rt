@@ -1,10 +1,11 @@
 // The refusals that concern record numbers alone.
 ghost use Rattle.std.specs.Prelude.{◌≡◌, ◌<◌, eqb, length, get_or};
+ghost use Rattle.metrics.specs.Refusals.{told};
 ghost use Rattle.params.specs.Numbers.{any_below};
 ghost use Rattle.dive.specs.Numbered.{repeated_number};
 ghost use Rattle.dive.specs.NumberChecks.{number_fault};
 
-use metrics::refusals::{ACCEPTED, ANSWER_ROOM, BAD_LENGTHS, REPEATED_NUMBER};
+use metrics::refusals::Refusal;
 
 // Whether an earlier variant has the number of variant s. All are asked, in a form that the compiler turns into vector instructions.
 fn repeats(numbers: &[u32], s: usize) -> bool
@@ -31,23 +32,26 @@ fn repeated_number(numbers: &[u32]) -> bool
 
 // 6, 14 and 12 of V record numbers and their room for n haplotypes. The numbers are compared each with each, so more than 64 are left to the 5 that comes before,
 // and more than 16 haplotypes to the 27.
-pub(crate) fn number_fault(v: usize, n: usize, numbers: &[u32], record_room: usize) -> u32
-    ensures { result ≡ number_fault v n numbers.now record_room }
+#[tactic(auto, unfolding(crate::specs::NumberChecks::number_fault), using(params::proofs::CheckLaws::few_in_all))]
+pub(crate) fn number_fault(
+    v: usize,
+    n: usize,
+    numbers: &[u32],
+    record_room: usize,
+) -> Result<(), Refusal>
+    ensures { told result ≡ number_fault v n numbers.now record_room }
 {
-    if 64 < v {
-        return ACCEPTED;
-    }
-    if 16 < n {
-        return ACCEPTED;
+    if v > 64 || n > 16 {
+        return Ok(());
     }
     if numbers.len() != v {
-        return BAD_LENGTHS;
+        return Err(Refusal::BadLengths);
     }
     if repeated_number(numbers) {
-        return REPEATED_NUMBER;
+        return Err(Refusal::RepeatedNumber);
     }
     if record_room < v * n {
-        return ANSWER_ROOM;
+        return Err(Refusal::AnswerRoom);
     }
-    ACCEPTED
+    Ok(())
 }

@@ -4,7 +4,8 @@ ghost use Rattle.dive.specs.Promises.{ApplyWithMetaPromise, ApplyHaplotypesWithM
 use crate::{apply_numbered, apply_numbered_haplotypes};
 use kplib::traverse::Answer;
 use meta::HaplotypeMeta;
-use params::Settings;
+use metrics::refusals::Refusal;
+use params::{Parts, Settings, Table};
 
 // An answer, a refused one too, and the haplotype's own data.
 #[derive(Clone, Copy)]
@@ -16,59 +17,37 @@ pub struct Told {
 // What several haplotypes came to, and the data of each: entry i is haplotype i's.
 #[derive(Clone, Copy)]
 pub struct ToldSeveral {
-    pub refusal: u32,
+    pub found: Result<(), Refusal>,
     pub metas: [HaplotypeMeta; 16],
 }
 
 // `apply_numbered` for a haplotype that carries data.
 pub fn apply_with_meta(
     s: Settings,
-    starts: &[u64],
-    ends: &[u64],
-    sizes: &[i32],
-    features: &[i32],
+    table: &Table,
     numbers: &[u32],
-    part_sizes: &[i32],
-    part_features: &[i32],
+    parts: &Parts,
     meta: HaplotypeMeta,
     links: &mut [u32],
     keys: &mut [u64],
     rows: &mut [u32],
     records: &mut [u32],
 ) -> Told
-    ensures { ApplyWithMetaPromise s starts.now ends.now sizes.now features.now numbers.now
-        part_sizes.now part_features.now meta links.old keys.old rows.old records.old
+    ensures { ApplyWithMetaPromise s table.now numbers.now parts.now meta links.old keys.old rows.old records.old
         links.new keys.new rows.new records.new result }
 {
-    let answer = apply_numbered(
-        s,
-        starts,
-        ends,
-        sizes,
-        features,
-        numbers,
-        part_sizes,
-        part_features,
-        links,
-        keys,
-        rows,
-        records,
-    );
+    let answer = apply_numbered(s, table, numbers, parts, links, keys, rows, records);
     Told { answer, meta }
 }
 
 // `apply_numbered_haplotypes` for haplotypes that carry data.
 pub fn apply_haplotypes_with_meta(
     s: Settings,
-    starts: &[u64],
-    ends: &[u64],
-    sizes: &[i32],
-    features: &[i32],
+    table: &Table,
     numbers: &[u32],
     part_ends: &[u64],
     feature_ends: &[u64],
-    part_sizes: &[i32],
-    part_features: &[i32],
+    parts: &Parts,
     metas: [HaplotypeMeta; 16],
     links: &mut [u32],
     keys: &mut [u64],
@@ -76,26 +55,22 @@ pub fn apply_haplotypes_with_meta(
     records: &mut [u32],
     reports: &mut [u32],
 ) -> ToldSeveral
-    ensures { ApplyHaplotypesWithMetaPromise s starts.now ends.now sizes.now features.now numbers.now
-        part_ends.now feature_ends.now part_sizes.now part_features.now metas links.old keys.old
-        rows.old records.old reports.old links.new keys.new rows.new records.new reports.new result }
+    ensures { ApplyHaplotypesWithMetaPromise s table.now numbers.now part_ends.now feature_ends.now parts.now metas
+        links.old keys.old rows.old records.old reports.old
+        links.new keys.new rows.new records.new reports.new result }
 {
-    let refusal = apply_numbered_haplotypes(
+    let found = apply_numbered_haplotypes(
         s,
-        starts,
-        ends,
-        sizes,
-        features,
+        table,
         numbers,
         part_ends,
         feature_ends,
-        part_sizes,
-        part_features,
+        parts,
         links,
         keys,
         rows,
         records,
         reports,
     );
-    ToldSeveral { refusal, metas }
+    ToldSeveral { found, metas }
 }

@@ -1,108 +1,46 @@
 -- Each refusal in its place; then the rows gathered are laid down, and the name.
-use Prim.Native.Nat.{◌≤◌}
-use mathlib.Core.Path.{sym, ap, ◌∙◌}
-use lib.ListN.{length}
+use Rattle.std.proofs.Common.{◌≡◌, ℕ, ◌≤◌, rules, sym, ap, ◌∙◌, length}
 use Rattle.metrics.specs.Placed.{placed}
 use Rattle.text.proofs.PieceLaws.{written_as}
 use Rattle.bed.specs.Reading.{read_fault, name_in}
 use Rattle.bed.proofs.StoredLaws.{stored_length, stored_placed}
 use Rattle.bed.proofs.TableLaws.{little_starts, little_ends, enough, name_fits, refused_read, accepted_read}
 use native.Mathlib.Omega.{arith}
+use Rattle.bed.proofs.read_bed.Goals.{Start, then-starts-lt64-via-then-starts-lt64, then-starts-lt64-via-else-starts-lt64+then-ends-lt64}
 use Rattle.bed.proofs.read_bed.Goals as goal
+
+abbrev fault : Start → ℕ
+fault c = let a = c.args in read_fault a.text.now (length a.starts.now) (length a.ends.now)
 
 pub returns-then-starts-lt64 : goal.returns-then-starts-lt64
 returns-then-starts-lt64 c =
+    let at = goal.at.returns-then-starts-lt64 c in
     let a = c.args in
-    let text = a.text.now in
-    let starts = a.starts.now in
-    let ends = a.ends.now in
-    let name = a.name.now in
-    let fault = read_fault text (length starts) (length ends) in
-    refused_read fault text starts ends name (little_starts text (length starts) (length ends) c.if-starts-lt64.true) (λ z. omega arith)
+    let starts = length a.starts.now in
+    let ends = length a.ends.now in
+    let little : 6 ≡ fault at.Start = elim c.then-starts-lt64.branch [
+      | then-starts-lt64-via-then-starts-lt64 w ↦ little_starts a.text.now starts ends w.if-starts-lt64.true
+      | then-starts-lt64-via-else-starts-lt64+then-ends-lt64 w ↦ little_ends a.text.now starts ends w.if-starts-lt64.false w.if-ends-lt64.true
+    ] in
+    refused_read (fault at.Start) a.text.now a.starts.now a.ends.now a.name.now little
 
-pub returns-then-ends-lt64 : goal.returns-then-ends-lt64
-returns-then-ends-lt64 c =
+pub returns-in_err-rows : goal.returns-in_err-rows
+returns-in_err-rows c =
+    let at = goal.at.returns-in_err-rows c in
     let a = c.args in
-    let text = a.text.now in
-    let starts = a.starts.now in
-    let ends = a.ends.now in
-    let name = a.name.now in
-    let fault = read_fault text (length starts) (length ends) in
-    refused_read fault text starts ends name (little_ends text (length starts) (length ends) c.if-starts-lt64.false c.if-ends-lt64.true) (λ z. omega arith)
-
-pub check-found-requires : goal.check-found-requires
-check-found-requires c = (omega arith, omega arith)
-
-pub returns-then-found-ne0 : goal.returns-then-found-ne0
-returns-then-found-ne0 c =
-    let a = c.args in
-    let text = a.text.now in
-    let starts = a.starts.now in
-    let ends = a.ends.now in
-    let name = a.name.now in
-    let fault = read_fault text (length starts) (length ends) in
-    refused_read fault text starts ends name (enough text (length starts) (length ends) c.if-starts-lt64.false c.if-ends-lt64.false c.check-found.ensures.fault) c.if-found-ne0.true
-
-pub lay-requires : goal.lay-requires
-lay-requires c =
-    let found = c.check-found.ensures in
-    let none = c.if-found-ne0.false in
-    let rows = found.rows none in
-    let few = rows.few in
-    let room = c.if-starts-lt64.false in
-    (omega arith, omega arith)
-
-pub lay-requires-2 : goal.lay-requires-2
-lay-requires-2 c =
-    let found = c.check-found.ensures in
-    let none = c.if-found-ne0.false in
-    let rows = found.rows none in
-    let few = rows.few in
-    let room = c.if-ends-lt64.false in
-    (omega arith, omega arith)
-
-pub overflow_cast-result : goal.overflow_cast-result
-overflow_cast-result c =
-    let found = c.check-found.ensures in
-    let none = c.if-found-ne0.false in
-    let rows = found.rows none in
-    let few = rows.few in
-    omega arith
-
-pub overflow_cast-result-2 : goal.overflow_cast-result-2
-overflow_cast-result-2 c =
-    let a = c.args in
-    let text = a.text.now in
-    let starts = a.starts.now in
-    let ends = a.ends.now in
-    let name = a.name.now in
-    let fault = read_fault text (length starts) (length ends) in
-    let found = c.check-found.ensures in
-    let none = c.if-found-ne0.false in
-    let rows = found.rows none in
-    let few = rows.few in
-    let first = c.first.ensures in
-    let short : length (name_in text) ≤ length name = let s = name_fits text rows.sound in omega (arith, c.put_bytes-arg-1.given, s) in
-    let put = written_as c.put_bytes-width.ensures first in
-    let w = stored_length name (name_in text) put short in
-    let s = name_fits text rows.sound in
-    omega arith
+    let room = enough a.text.now (length a.starts.now) (length a.ends.now) c.if-starts-lt64.false c.if-ends-lt64.false c.in_err-rows.ensures in
+    let h = refused_read (fault at.Start) a.text.now a.starts.now a.ends.now a.name.now room in
+    search (rules, h)
 
 pub returns : goal.returns
 returns c =
+    let at = goal.at.returns c in
     let a = c.args in
     let text = a.text.now in
-    let starts = a.starts.now in
-    let ends = a.ends.now in
     let name = a.name.now in
-    let fault = read_fault text (length starts) (length ends) in
-    let found = c.check-found.ensures in
-    let none = c.if-found-ne0.false in
-    let rows = found.rows none in
-    let few = rows.few in
-    let sound = enough text (length starts) (length ends) c.if-starts-lt64.false c.if-ends-lt64.false found.fault in
-    let first = c.first.ensures in
-    let short : length (name_in text) ≤ length name = let s = name_fits text rows.sound in omega (arith, c.put_bytes-arg-1.given, s) in
-    let put = written_as c.put_bytes-width.ensures first in
-    accepted_read fault text starts ends name (sym none ∙ sound) rows.count (stored_length name (name_in text) put short)
-    (c.lay.ensures ∙ ap (placed starts) rows.starts) (c.lay-2.ensures ∙ ap (placed ends) rows.ends) (stored_placed name (name_in text) put short)
+    let rows = c.in_ok-rows.ensures.1 in
+    let sound = enough text (length a.starts.now) (length a.ends.now) c.if-starts-lt64.false c.if-ends-lt64.false (sym c.in_ok-rows.ensures.0) in
+    let short : length (name_in text) ≤ length name = let s = name_fits text rows.sound in omega arith in
+    let put = written_as c.put_bytes-width.ensures c.first.ensures in
+    accepted_read (fault at.Start) text a.starts.now a.ends.now name sound rows.count (stored_length name (name_in text) put short)
+    (c.lay.ensures ∙ ap (placed a.starts.now) rows.starts) (c.lay-2.ensures ∙ ap (placed a.ends.now) rows.ends) (stored_placed name (name_in text) put short)

@@ -1,23 +1,16 @@
--- The call's own fault where the numbers are not refused, else the earlier of the two.
-use Rattle.params.specs.Numbers.{table_of, parts_of, call_of}
-use Rattle.dive.proofs.NumberedLaws.{fault_other, fault_earlier}
+-- The first in the table of what the two checks found.
+use Rattle.params.specs.Held.{table_held, parts_held}
+use Rattle.params.specs.Numbers.{call_of}
+use Rattle.dive.specs.Numbered.{Numbered}
+use Rattle.dive.proofs.NumberedLaws.{fault_joined}
 use Rattle.dive.proofs.numbered_fault.Goals as goal
-
-pub returns-then-own-eq-ACCEPTED : goal.returns-then-own-eq-ACCEPTED
-returns-then-own-eq-ACCEPTED c = fault_other ((let a = c.args in record {
-  call = call_of a.s (table_of a.starts.now a.ends.now a.sizes.now a.features.now)
-      (parts_of a.part_sizes.now a.part_features.now) a.queue_room a.answer_room;
-  numbers = a.numbers.now;
-  record_room = a.record_room;
-})) c.number_fault-own.ensures
-    c.call_fault-other.ensures c.if-own-eq-ACCEPTED.true
 
 pub returns : goal.returns
 returns c =
-    fault_earlier ((let a = c.args in record {
-      call = call_of a.s (table_of a.starts.now a.ends.now a.sizes.now a.features.now) (parts_of a.part_sizes.now a.part_features.now)
-          a.queue_room a.answer_room;
+    let a = c.args in
+    let whole : Numbered = record {
+      call = call_of a.s (table_held a.table.now) (parts_held a.parts.now) a.queue_room a.answer_room;
       numbers = a.numbers.now;
       record_room = a.record_room;
-    })) c.number_fault-own.ensures c.call_fault-other.ensures c.if-own-eq-ACCEPTED.false
-    c.earlier.ensures
+    } in
+    fault_joined whole c.number_fault-own.ensures c.call_fault-other.ensures c.first_in_table.ensures

@@ -6,14 +6,6 @@ use Rattle.params.proofs.BoundLaws.{count_bounds}
 use native.Mathlib.Omega.{arith}
 use Rattle.bed.proofs.table.bounds_fault.Goals as goal
 
-pub slice_bounds-count_fault-end : goal.slice_bounds-count_fault-end
-slice_bounds-count_fault-end c =
-    let a = c.args in let p = c.requires in sym (length-take-le a.n a.s.now (omega arith))
-
-pub slice_bounds-count_fault-end-2 : goal.slice_bounds-count_fault-end-2
-slice_bounds-count_fault-end-2 c =
-    let a = c.args in let p = c.requires in sym (length-take-le a.n a.e.now (omega arith))
-
 pub returns : goal.returns
 returns c =
     let a = c.args in

@@ -1,26 +1,24 @@
 -- The lines' own fault, or that of the numbers.
-use Rattle.bed.proofs.TableLaws.{check_stopped, check_empty, check_refused, check_passed}
-use native.Mathlib.Omega.{arith}
+use Rattle.std.proofs.Common.{◌≡◌, rules, sym}
+use Rattle.metrics.specs.Refusals.{refusal_number}
+use Rattle.bed.specs.Steps.{text_fault}
+use Rattle.bed.proofs.TableLaws.{lines_fault, no_rows, of_numbers}
 use Rattle.bed.proofs.table.check.Goals as goal
 
-pub returns-then-found-ne0 : goal.returns-then-found-ne0
-returns-then-found-ne0 c =
-    check_stopped c.scan-found.ensures c.if-found-ne0.true
+pub returns-in_err-rows : goal.returns-in_err-rows
+returns-in_err-rows c =
+    let h : refusal_number c.in_err-rows.field-0.0 ≡ text_fault c.args.text.now = lines_fault _ _ c.in_err-rows.ensures in
+    search (rules, h)
 
-pub returns-then-n-eq0 : goal.returns-then-n-eq0
-returns-then-n-eq0 c =
-    check_empty c.scan-found.ensures c.if-found-ne0.false c.if-n-eq0.true
+pub returns-then-rows-eq0 : goal.returns-then-rows-eq0
+returns-then-rows-eq0 c =
+    let rows = c.in_ok-rows.ensures in
+    (no_rows rows c.if-rows-eq0.true, rw (sym c.if-rows-eq0.true) rows)
 
-pub bounds_fault-fault-requires : goal.bounds_fault-fault-requires
-bounds_fault-fault-requires c =
-    let few = (c.scan-found.ensures.rows c.if-found-ne0.false).few in
-    let some = c.if-n-eq0.false in
-    (omega arith, (few, (omega arith, omega arith)))
-
-pub returns-then-fault-ne0 : goal.returns-then-fault-ne0
-returns-then-fault-ne0 c =
-    check_refused c.scan-found.ensures c.if-found-ne0.false c.bounds_fault-fault.ensures c.if-fault-ne0.true c.refused.ensures.0
+pub returns-in_err-bounds_fault : goal.returns-in_err-bounds_fault
+returns-in_err-bounds_fault c =
+    let h : refusal_number c.in_err-bounds_fault.field-0.0 ≡ text_fault c.args.text.now = of_numbers c.in_ok-rows.ensures c.in_err-bounds_fault.ensures in
+    search (rules, h)
 
 pub returns : goal.returns
-returns c =
-    check_passed c.scan-found.ensures c.if-found-ne0.false c.bounds_fault-fault.ensures c.if-fault-ne0.false
+returns c = (sym (of_numbers c.in_ok-rows.ensures c.in_ok-bounds_fault.ensures), c.in_ok-rows.ensures)

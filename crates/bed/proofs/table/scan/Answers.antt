@@ -1,12 +1,12 @@
 -- The rules and the rows from here on are those of the whole (TableLaws).
 use Prim.Native.Nat.{◌-◌}
-use mathlib.Core.Path.{refl, sym, ◌∙◌}
+use mathlib.Core.Path.{sym, ◌∙◌}
 use lib.ListN.{length, take, drop}
 use lib.Seq.{length-take-le}
 use Rattle.bed.proofs.PartLaws.{first_within}
 use Rattle.bed.proofs.LineLaws.{judged_as, same_pointwise}
 use Rattle.bed.proofs.RowLaws.{not_true, not_false}
-use Rattle.bed.proofs.TableLaws.{begun, over_64, line_is, length_is, bad_line_lem, names_told, second_name_lem, went_on, ended, scan_refused}
+use Rattle.bed.proofs.TableLaws.{begun, over_64, line_is, length_is, bad_line_lem, names_told, second_name_lem, went_on, ended}
 use native.Mathlib.Omega.{arith}
 use Rattle.std.proofs.Common.{Some, None}
 use Rattle.bed.proofs.table.scan.Goals as goal
@@ -19,7 +19,7 @@ pub returns-then-rows-ge64 : goal.returns-then-rows-ge64
 returns-then-rows-ge64 c =
     let l = c.loop-at in
     let a = c.args in
-    scan_refused c.refused.ensures.0 (λ z. omega arith) (over_64 a.text.now l.s l.e l.at l.rows l.invariant c.loop-at-test.true c.if-rows-ge64.true)
+    over_64 a.text.now l.s l.e l.at l.rows l.invariant c.loop-at-test.true c.if-rows-ge64.true
 
 pub slice_bounds-line-end : goal.slice_bounds-line-end
 slice_bounds-line-end c =
@@ -40,7 +40,7 @@ returns-in_default c =
     let line = line_is a.text.now l.s l.e l.at l.rows l.invariant t n in
     let few = c.if-rows-ge64.false in
     let bad = judged_as None line c.in_default.ensures in
-    scan_refused c.refused-in_default.ensures.0 (λ z. omega arith) (bad_line_lem a.text.now l.s l.e l.at l.rows l.invariant t few bad)
+    bad_line_lem a.text.now l.s l.e l.at l.rows l.invariant t few bad
 
 pub returns-then-ne : goal.returns-then-ne
 returns-then-ne c =
@@ -53,7 +53,7 @@ returns-then-ne c =
     let j = judged_as (Some c.in-Some.bounds) line c.in-Some.ensures in
     let good = j.0 in
     let names = names_told _ a.text.now c.first.ensures line c.first-in-loop-at.ensures (same_pointwise _ _) in
-    scan_refused c.refused-then-ne.ensures.0 (λ z. omega arith) (second_name_lem a.text.now l.s l.e l.at l.rows l.invariant t few good (sym names ∙ not_true (sym c.ne.ensures ∙ c.if-ne.true)))
+    second_name_lem a.text.now l.s l.e l.at l.rows l.invariant t few good (sym names ∙ not_true (sym c.ne.ensures ∙ c.if-ne.true))
 
 pub overflow_add-at : goal.overflow_add-at
 overflow_add-at c =
@@ -91,4 +91,4 @@ pub returns : goal.returns
 returns c =
     let l = c.loop-at in
     let a = c.args in
-    ended a.text.now l.s l.e l.at l.rows l.invariant c.loop-at-test.false _ refl refl
+    ended a.text.now l.s l.e l.at l.rows l.invariant c.loop-at-test.false
