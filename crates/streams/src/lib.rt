@@ -15,9 +15,8 @@ pub fn read_full<R: Read>(reader: &mut R, into: &mut [u8]) -> usize
     while done < into.len() {
         let read = reader.read(&mut into[done..]);
         match read {
-            Ok(0) => break,
+            Ok(0) | Err(_) => break,
             Ok(got) => done += got,
-            Err(_) => break,
         }
     }
     done
