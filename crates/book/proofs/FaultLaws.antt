@@ -14,8 +14,11 @@ use Rattle.params.proofs.CheckLaws.{given, passed, Passed, stops, goes_on, none_
 use Rattle.form.specs.Form.{all_zero}
 use Rattle.form.specs.Settings41.{settings41_rules, settings41_fault}
 use Rattle.book.specs.Book.{book_kind, record_len, place_of, versions_of, saved_in, settings_at, good_record, bad_version, broken, version_record}
-use Rattle.book.specs.Changes.{room_rules, save_rules, read_rules, save_fault, read_fault, restore_fault, appended, changed_unless, saved_case, saved_of, after_save, restored_of, after_restore}
-use Rattle.book.specs.declared.Saved.TheVariants.{Version, Refused}
+use Rattle.book.specs.Changes.{room_rules, save_rules, read_rules, save_fault, read_fault, restore_fault, appended, changed_unless, refused_or, saved_of, after_save, restored_of, after_restore}
+use Rattle.std.specs.Prelude.{Ok, Err}
+use Rattle.metrics.specs.declared.refusals.Refusal.{Refusal}
+use Rattle.metrics.specs.Refusals.{refusal_number}
+use Rattle.metrics.proofs.RefusalLaws.{never_zero, numbered_is}
 
 -- ---- a record that passes every test
 pub record Good (book : List ℕ) (at version : ℕ) : Type 0 where
@@ -83,10 +86,10 @@ module _ (book : List ℕ) (v : ℕ) where
     pub high : v ≤ versions_of book
     pub whole : place_of (v - 1) + record_len ≤ length book
 
-  pub found : (fault : ℕ) → fault ≡ read_fault book v → fault ≡ 0 → Found
+  pub found : 0 ≡ read_fault book v → Found
   unfolding read_fault
-  found fault e z =
-      let p = none_given (read_rules book v) refl (sym e ∙ z) in
+  found e =
+      let p = none_given (read_rules book v) refl (sym e) in
       let there = and_both _ _ (not-false _ p.1.0) in
       let l : 1 ≤ v = leb-true _ _ there.0 in
       let h : v ≤ versions_of book = leb-true _ _ there.1 in
@@ -133,38 +136,35 @@ module _ (book settings : List ℕ) where
   unfolding save_fault settings41_fault
   save_settings sound fault e h = passed _ _ _ _ sound (stops (settings41_rules settings) (room_rules book) fault e h)
 
-  pub save_room : broken book ≡ false → (fault : ℕ) → fault ≡ settings41_fault settings → fault ≡ 0 → (room : ℕ) → room ≡ first_of (room_rules book)
-      → room ≡ save_fault book settings
+  pub save_room : broken book ≡ false → 0 ≡ settings41_fault settings → (room : ℕ) → room ≡ first_of (room_rules book) → room ≡ save_fault book settings
   unfolding save_fault settings41_fault
-  save_room sound fault e z room h =
-      passed _ _ _ _ sound (goes_on (settings41_rules settings) (room_rules book) room (none_given (settings41_rules settings) refl (sym e ∙ z)) h)
+  save_room sound e room h =
+      passed _ _ _ _ sound (goes_on (settings41_rules settings) (room_rules book) room (none_given (settings41_rules settings) refl (sym e)) h)
 
 -- ---- going back: 48, 45, then room
-module _ (book : List ℕ) (v fault : ℕ) (e : fault ≡ read_fault book v) where
-  pub restore_first : (fault ≡ 0 → ⊥) → fault ≡ restore_fault book v
+module _ (book : List ℕ) (v : ℕ) where
+  pub restore_first : (fault : ℕ) → fault ≡ read_fault book v → (fault ≡ 0 → ⊥) → fault ≡ restore_fault book v
   unfolding restore_fault read_fault
-  restore_first h = stops (read_rules book v) (room_rules book) fault e h
+  restore_first fault e h = stops (read_rules book v) (room_rules book) fault e h
 
-  pub restore_room : fault ≡ 0 → (room : ℕ) → room ≡ first_of (room_rules book) → room ≡ restore_fault book v
+  pub restore_room : 0 ≡ read_fault book v → (room : ℕ) → room ≡ first_of (room_rules book) → room ≡ restore_fault book v
   unfolding restore_fault read_fault
-  restore_room z room h = goes_on (read_rules book v) (room_rules book) room (none_given (read_rules book v) refl (sym e ∙ z)) h
+  restore_room e room h = goes_on (read_rules book v) (room_rules book) room (none_given (read_rules book v) refl (sym e)) h
 
 -- ---- what is answered, and what the buffer holds then
-refused_case : (f g n : ℕ) → f ≡ g → (f ≡ 0 → ⊥) → Refused f ≡ saved_case g n
-refused_case f zero n e h = absurd (h e)
-refused_case f (suc g) n e h = ap Refused e
+refused_case : (refusal : Refusal) (g n : ℕ) → refusal_number refusal ≡ g → Err refusal ≡ refused_or g n
+refused_case refusal zero n e = absurd (never_zero refusal e)
+refused_case refusal (suc g) n e = ap (λ (r : Refusal). Err r) (numbered_is refusal (suc g) e)
 
 pub kept_refused : (f g : ℕ) (new old : List ℕ) → f ≡ g → (f ≡ 0 → ⊥) → old ≡ changed_unless g new old
 kept_refused f zero new old e h = absurd (h e)
 kept_refused f (suc g) new old e h = refl
 
-version_case : (f g n : ℕ) → f ≡ g → f ≡ 0 → Version n ≡ saved_case g n
-version_case f zero n e z = refl
-version_case f (suc g) n e z = absurd (omega arith)
+version_case : {m n g : ℕ} → m ≡ n → 0 ≡ g → Ok (m + 1) ≡ refused_or g (n + 1)
+version_case is e = rw (sym e) (ap (λ (m : ℕ). Ok (m + 1)) is)
 
-pub changed : (f g : ℕ) (new old : List ℕ) → f ≡ g → f ≡ 0 → new ≡ changed_unless g new old
-changed f zero new old e z = refl
-changed f (suc g) new old e z = absurd (omega arith)
+pub changed : {g : ℕ} (new old : List ℕ) → 0 ≡ g → new ≡ changed_unless g new old
+changed new old e = rw (sym e)
 
 -- the bytes from a place on up to the next record are its settings
 pub slice_settings : (book : List ℕ) (at : ℕ) → take (at + 2 + 41 - (at + 2)) (drop (at + 2) book) ≡ saved_in book at
@@ -190,55 +190,54 @@ line_room_lem book settings line n version l is e r =
     let long : length line ≡ 43 = ap length e ∙ ap (λ (m : ℕ). suc (suc m)) l in
     let room = r.room in omega arith
 
-module _ (book settings : List ℕ) (fault : ℕ) (e : fault ≡ save_fault book settings) where
-  pub save_refused : (fault ≡ 0 → ⊥) → (Refused fault ≡ saved_of book settings) × (book ≡ after_save book settings)
-  unfolding saved_of after_save
-  save_refused h = (refused_case fault _ _ e h, kept_refused fault _ _ _ e h)
+pub save_refused : (book settings : List ℕ) (refusal : Refusal) → refusal_number refusal ≡ save_fault book settings
+    → (Err refusal ≡ saved_of book settings) × (book ≡ after_save book settings)
+unfolding saved_of after_save
+save_refused book settings refusal e = (refused_case refusal _ _ e, kept_refused _ _ _ _ e (never_zero refusal))
 
-  pub save_ready : fault ≡ 0 → Ready book
+module _ (book settings : List ℕ) (e : 0 ≡ save_fault book settings) where
+  pub save_ready : Ready book
   unfolding save_fault
-  save_ready z =
-      let p = none_given (save_rules book settings) refl (sym e ∙ z) in
+  save_ready =
+      let p = none_given (save_rules book settings) refl (sym e) in
       ready book p.0 (rooms (settings41_rules settings) (room_rules book) p.1)
 
-  pub save_done : fault ≡ 0 → length settings ≡ 41 → (n : ℕ) → n ≡ versions_of book → (line : List ℕ) → line ≡ version_record (n + 1) settings
+  pub save_done : length settings ≡ 41 → (n : ℕ) → n ≡ versions_of book → (line : List ℕ) → line ≡ version_record (n + 1) settings
       → (after : List ℕ) → after ≡ take (43 * n) book ++ line ++ drop (43 * n + length line) book
-      → (Version (n + 1) ≡ saved_of book settings) × (after ≡ after_save book settings)
+      → (Ok (n + 1) ≡ saved_of book settings) × (after ≡ after_save book settings)
   unfolding saved_of after_save
-  save_done z l n is line r after a =
-      (ap (λ (m : ℕ). Version (m + 1)) is ∙ version_case fault _ _ e z, a ∙ laid_record book settings line n l is r ∙ changed fault _ _ _ e z)
+  save_done l n is line r after a = (version_case is e, a ∙ laid_record book settings line n l is r ∙ changed _ _ e)
 
-module _ (book : List ℕ) (v fault : ℕ) (e : fault ≡ restore_fault book v) where
-  pub restore_refused : (fault ≡ 0 → ⊥) → (Refused fault ≡ restored_of book v) × (book ≡ after_restore book v)
-  unfolding restored_of after_restore
-  restore_refused h = (refused_case fault _ _ e h, kept_refused fault _ _ _ e h)
+pub restore_refused : (book : List ℕ) (v : ℕ) (refusal : Refusal) → refusal_number refusal ≡ restore_fault book v
+    → (Err refusal ≡ restored_of book v) × (book ≡ after_restore book v)
+unfolding restored_of after_restore
+restore_refused book v refusal e = (refused_case refusal _ _ e, kept_refused _ _ _ _ e (never_zero refusal))
 
-  none_first : fault ≡ 0 → Passed (read_rules book v ++ room_rules book)
+module _ (book : List ℕ) (v : ℕ) (e : 0 ≡ restore_fault book v) where
+  none_first : Passed (read_rules book v ++ room_rules book)
   unfolding restore_fault
-  none_first z = none_given (read_rules book v ++ room_rules book) refl (sym e ∙ z)
+  none_first = none_given (read_rules book v ++ room_rules book) refl (sym e)
 
-  pub restore_found : fault ≡ 0 → Found book v
+  pub restore_found : Found book v
   unfolding read_fault
-  restore_found z =
-      let p = none_first z in
-      found book v 0 (passed _ _ _ _ p.0 (passed _ _ _ _ p.1.0 refl)) refl
+  restore_found = let p = none_first in found book v (passed _ _ _ _ p.0 (passed _ _ _ _ p.1.0 refl))
 
-  pub restore_ready : fault ≡ 0 → Ready book
-  restore_ready z = let p = none_first z in ready book p.0 (rooms (read_rules book v) (room_rules book) p)
+  pub restore_ready : Ready book
+  restore_ready = let p = none_first in ready book p.0 (rooms (read_rules book v) (room_rules book) p)
 
-  pub restore_done : fault ≡ 0 → (n : ℕ) → n ≡ versions_of book → (line : List ℕ) → line ≡ version_record (n + 1) (take (43 * (v - 1) + 2 + 41 - (43 * (v - 1) + 2)) (drop (43 * (v - 1) + 2) book))
+  pub restore_done : (n : ℕ) → n ≡ versions_of book → (line : List ℕ) → line ≡ version_record (n + 1) (take (43 * (v - 1) + 2 + 41 - (43 * (v - 1) + 2)) (drop (43 * (v - 1) + 2) book))
       → (after : List ℕ) → after ≡ take (43 * n) book ++ line ++ drop (43 * n + length line) book
-      → (Version (n + 1) ≡ restored_of book v) × (after ≡ after_restore book v)
+      → (Ok (n + 1) ≡ restored_of book v) × (after ≡ after_restore book v)
   unfolding restored_of after_restore settings_at
-  restore_done z n is line r after a =
+  restore_done n is line r after a =
       let settings : List ℕ = saved_in book (place_of (v - 1)) in
-      let long : length settings ≡ 41 = long_settings book (place_of (v - 1)) (restore_found z).whole in
+      let long : length settings ≡ 41 = long_settings book (place_of (v - 1)) restore_found.whole in
       let r' : line ≡ version_record (n + 1) settings = r ∙ ap (version_record (n + 1)) (slice_settings book (43 * (v - 1))) in
-      (ap (λ (m : ℕ). Version (m + 1)) is ∙ version_case fault _ _ e z, a ∙ laid_record book settings line n long is r' ∙ changed fault _ _ _ e z)
+      (version_case is e, a ∙ laid_record book settings line n long is r' ∙ changed _ _ e)
 
 -- settings read: they take the whole of the place that was lent
-pub read_done : (book settings : List ℕ) (v fault : ℕ) → fault ≡ read_fault book v → fault ≡ 0 → (after : List ℕ)
+pub read_done : (book settings : List ℕ) (v : ℕ) → 0 ≡ read_fault book v → (after : List ℕ)
     → after ≡ take (43 * (v - 1) + 2 + 41 - (43 * (v - 1) + 2)) (drop (43 * (v - 1) + 2) book)
     → (0 ≡ read_fault book v) × (after ≡ changed_unless (read_fault book v) (settings_at book v) settings)
 unfolding settings_at
-read_done book settings v fault e z after a = (sym z ∙ e, a ∙ slice_settings book (43 * (v - 1)) ∙ changed fault _ _ _ e z)
+read_done book settings v e after a = (e, a ∙ slice_settings book (43 * (v - 1)) ∙ changed _ _ e)

@@ -10,7 +10,7 @@ use lib.ListN.{length, get_or, replicate}
 use Rattle.form.specs.Form.{all_zero}
 use Rattle.form.specs.Settings41.{settings41_fault}
 use Rattle.book.specs.Book.{saved_len, place_of, versions_of, saved_in, settings_at}
-use Rattle.book.specs.Changes.{save_fault, read_fault, restore_fault, next_version, appended, changed_unless, saved_case, saved_of, after_save, restored_of, after_restore}
+use Rattle.book.specs.Changes.{save_fault, read_fault, restore_fault, next_version, appended, changed_unless, refused_or, saved_of, after_save, restored_of, after_restore}
 use Rattle.book.specs.Kept.{Sound, Change, Save, Restore, after_all, SavedWhole, BookKept}
 use Rattle.book.proofs.FaultLaws.{Good, good_at, read_there, Found, found, save_room, restore_room, restore_found, kept_refused, changed, long_settings}
 use Rattle.book.proofs.SavedLaws.{versions_are, sound_made, before_kept, new_there, behind_kept, long_kept, settings_new, versions_new, sound_new, old_settings}
@@ -20,7 +20,7 @@ abbrev Reads : List ℕ → ℕ → List ℕ → Type 0
 Reads book v settings = (read_fault book v ≡ 0) × (settings_at book v ≡ settings)
 
 there : (book : List ℕ) (v : ℕ) → read_fault book v ≡ 0 → Found book v
-there book v e = found book v 0 (sym e) refl
+there book v e = found book v (sym e)
 
 module _ (book settings : List ℕ) (long : length settings ≡ saved_len) (none : save_fault book settings ≡ 0) where
   reads_new : Reads (appended book settings) (next_version book) settings
@@ -44,7 +44,7 @@ module _ (book settings : List ℕ) (long : length settings ≡ saved_len) (none
 -- ---- what one change makes of the book
 after_save_lem : (book settings : List ℕ) → save_fault book settings ≡ 0 → after_save book settings ≡ appended book settings
 unfolding after_save
-after_save_lem book settings e = sym (changed 0 _ (appended book settings) book (sym e) refl)
+after_save_lem book settings e = sym (changed (appended book settings) book (sym e))
 
 after_refused : (book settings : List ℕ) → (save_fault book settings ≡ 0 → ⊥) → after_save book settings ≡ book
 unfolding after_save
@@ -61,18 +61,18 @@ module _ (book : List ℕ) (v : ℕ) (e : read_fault book v ≡ 0) where
   long_held = long_settings book (place_of (v - 1)) (there book v e).whole
 
   same_fault : restore_fault book v ≡ save_fault book (settings_at book v)
-  same_fault = sym (restore_room book v 0 (sym e) refl _ refl) ∙ save_room book (settings_at book v) (there book v e).sound 0 (sym held) refl _ refl
+  same_fault = sym (restore_room book v (sym e) _ refl) ∙ save_room book (settings_at book v) (there book v e).sound (sym held) _ refl
 
   again : (restored_of book v ≡ saved_of book (settings_at book v)) × (after_restore book v ≡ after_save book (settings_at book v))
   unfolding restored_of saved_of after_restore after_save
   again = (
-    ap (λ (f : ℕ). saved_case f (next_version book)) same_fault,
+    ap (λ (f : ℕ). refused_or f (next_version book)) same_fault,
     ap (λ (f : ℕ). changed_unless f (appended book (settings_at book v)) book) same_fault,
   )
 
 restored : (book : List ℕ) (v : ℕ) → restore_fault book v ≡ 0 → read_fault book v ≡ 0
 restored book v e =
-    let f = restore_found book v 0 (sym e) refl in
+    let f = restore_found book v (sym e) in
     sym (read_there book v f.sound f.low (versions_of book) refl f.high)
 
 restore_refused : (book : List ℕ) (v : ℕ) → (restore_fault book v ≡ 0 → ⊥) → after_restore book v ≡ book

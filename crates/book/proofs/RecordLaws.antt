@@ -9,6 +9,10 @@ use lib.Dec.{eqb}
 use lib.ListN.{length, get_or, drop, drop_of_length-le, get_or-eq_default}
 use lib.Seq.{drop-cons}
 use borrow.Author.Tests.{eq-eqb, ne_eqb, le-leb, lt-leb}
+use Rattle.std.specs.Prelude.{Result, Ok, Err, is_ok}
+use Rattle.metrics.specs.declared.refusals.Refusal.{Refusal}
+use Rattle.metrics.specs.Refusals.{refusal_number, told}
+use Rattle.metrics.proofs.RefusalLaws.{never_zero}
 use Rattle.params.specs.Numbers.{any_below}
 use Rattle.params.proofs.CheckLaws.{any_here}
 use Rattle.form.specs.Form.{all_zero}
@@ -67,6 +71,11 @@ module _ (book : List ℕ) (at version : ℕ) where
       → eqb (settings41_fault (saved_in book at)) 0 ≡ good_record book at version
   unfolding good_record
   by_settings k h v = rw (eq-eqb (get_or book at 0) book_kind k, le-leb (at + record_len) (length book) (omega arith), eq-eqb (get_or book (at + 1) 0) version v)
+
+-- settings are accepted where no refusal is told
+pub told_none : (found : Result Unit Refusal) → is_ok found ≡ eqb (told found) 0
+told_none (Ok tt) = refl
+told_none (Err refusal) = rw (ne_eqb (refusal_number refusal) 0 (never_zero refusal))
 
 -- ---- zeros to the end
 module _ (book : List ℕ) (i : ℕ) where

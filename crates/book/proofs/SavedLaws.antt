@@ -79,7 +79,7 @@ module _ (book settings : List ℕ) (long : length settings ≡ 41) (none : save
   new = appended book settings
 
   room : Ready book
-  room = save_ready book settings 0 (sym none) refl
+  room = save_ready book settings (sym none)
 
   accepted : settings41_fault settings ≡ 0
   unfolding save_fault settings41_fault

@@ -1,10 +1,10 @@
 -- Document 02, P9: saving adds the next version, reading one gives the settings saved under it, going back to one saves its settings again under a new number.
-use Rattle.std.specs.Prelude.{ℕ, zero, suc, ◌+◌, ◌-◌, Bool, not, ◌&&◌, List, [], ◌∷◌, ◌++◌, leb, ltb, length, take, drop}
+use Rattle.std.specs.Prelude.{ℕ, zero, suc, ◌+◌, ◌-◌, Bool, not, ◌&&◌, List, [], ◌∷◌, ◌++◌, leb, ltb, length, take, drop, Result, Ok, Err}
+use Rattle.metrics.specs.declared.refusals.Refusal.{Refusal}
+use Rattle.metrics.specs.Refusals.{refusal_of}
 use Rattle.params.specs.Numbers.{Rule, rule, first_of}
 use Rattle.form.specs.Settings41.{settings41_rules}
 use Rattle.book.specs.Book.{record_len, place_of, versions_of, settings_at, broken, version_record}
-use Rattle.book.specs.declared.Saved.{Saved}
-use Rattle.book.specs.declared.Saved.TheVariants.{Version, Refused}
 
 -- 45: a version that isn't there
 abbrev pub missing : List ℕ → ℕ → Bool
@@ -54,29 +54,26 @@ abbrev pub changed_unless : {A : Type 0} → ℕ → A → A → A
 changed_unless zero new old = new
 changed_unless (suc f) new old = old
 
-abbrev pub saved_case : ℕ → ℕ → Saved
-saved_case zero version = Version version
-saved_case (suc f) version = Refused (suc f)
+-- the refusal that has this number, or the version where the number is 0
+abbrev pub refused_or : ℕ → ℕ → Result ℕ Refusal
+refused_or zero version = Ok version
+refused_or (suc f) version = Err (refusal_of (suc f))
 
 -- what saving answers, and the book after it
-unfoldable pub saved_of : List ℕ → List ℕ → Saved
-saved_of book settings = saved_case (save_fault book settings) (next_version book)
+unfoldable pub saved_of : List ℕ → List ℕ → Result ℕ Refusal
+saved_of book settings = refused_or (save_fault book settings) (next_version book)
 
 unfoldable pub after_save : List ℕ → List ℕ → List ℕ
 after_save book settings = changed_unless (save_fault book settings) (appended book settings) book
 
 -- and going back
-unfoldable pub restored_of : List ℕ → ℕ → Saved
-restored_of book v = saved_case (restore_fault book v) (next_version book)
+unfoldable pub restored_of : List ℕ → ℕ → Result ℕ Refusal
+restored_of book v = refused_or (restore_fault book v) (next_version book)
 
 unfoldable pub after_restore : List ℕ → ℕ → List ℕ
 after_restore book v = changed_unless (restore_fault book v) (appended book (settings_at book v)) book
 
--- each case as a number, 0 for an accepted call, and its version; 0 on a refusal
-abbrev pub saved_number : Saved → ℕ
-saved_number (Version n) = 0
-saved_number (Refused n) = n
-
-abbrev pub saved_version : Saved → ℕ
-saved_version (Version n) = n
-saved_version (Refused n) = 0
+-- its version; 0 on a refusal
+abbrev pub saved_version : Result ℕ Refusal → ℕ
+saved_version (Ok version) = version
+saved_version (Err refusal) = 0

@@ -4,7 +4,6 @@ ghost use Rattle.form.specs.Form.{all_zero};
 ghost use Rattle.book.specs.Book.{versions_of, good_record, broken, version_record};
 
 use form::settings::settings41_fault;
-use metrics::refusals::ACCEPTED;
 
 // the byte that begins a record
 const KIND: u8 = 0x21;
@@ -44,7 +43,7 @@ fn good_record(book: &[u8], at: usize, version: usize) -> bool
         return false;
     }
     let from = at + SETTINGS_PLACE;
-    settings41_fault(&book[from..from + SETTINGS]) == ACCEPTED
+    settings41_fault(&book[from..from + SETTINGS]).is_ok()
 }
 
 fn zeros_from(book: &[u8], at: usize) -> bool

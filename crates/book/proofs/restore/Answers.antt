@@ -1,17 +1,23 @@
 -- Nothing is changed on a refusal; the record of the old settings is laid behind the last. Assumes nothing.
-use native.Mathlib.Omega.{arith}
+use Rattle.std.proofs.Common.{◌≡◌, rules, arith}
+use Rattle.std.specs.Prelude.{Err}
+use Rattle.book.specs.Changes.{restored_of, after_restore}
 use Rattle.book.proofs.FaultLaws.{Found, Ready, slice_long, line_room_lem, restore_refused, restore_found, restore_ready, restore_done}
 use Rattle.book.proofs.restore.Goals.{After-versions-n}
 use Rattle.book.proofs.restore.Goals as goal
 
 there : (c : After-versions-n) → let a = c.args in Found a.book.now a.version
-there c = restore_found _ _ _ c.restore_fault-fault.ensures c.if-fault-ne-ACCEPTED.false
+there c = restore_found _ _ c.in_ok-restore_fault.ensures
 
 room : (c : After-versions-n) → Ready c.args.book.now
-room c = restore_ready _ _ _ c.restore_fault-fault.ensures c.if-fault-ne-ACCEPTED.false
+room c = restore_ready _ _ c.in_ok-restore_fault.ensures
 
-pub returns-then-fault-ne-ACCEPTED : goal.returns-then-fault-ne-ACCEPTED
-returns-then-fault-ne-ACCEPTED c = restore_refused _ _ _ c.restore_fault-fault.ensures c.if-fault-ne-ACCEPTED.true
+pub returns-in_err-restore_fault : goal.returns-in_err-restore_fault
+returns-in_err-restore_fault c =
+    let a = c.args in
+    let h : (Err c.in_err-restore_fault.field-0.0 ≡ restored_of a.book.now a.version) × (a.book.now ≡ after_restore a.book.now a.version) =
+    restore_refused _ _ _ c.in_err-restore_fault.ensures in
+    search (rules, h)
 
 pub overflow_sub-from : goal.overflow_sub-from
 overflow_sub-from c = (there (goal.at.overflow_sub-from c).After-versions-n).low
@@ -35,5 +41,4 @@ overflow_cast-result c =
 
 pub returns : goal.returns
 returns c =
-    restore_done _ _ _ c.restore_fault-fault.ensures c.if-fault-ne-ACCEPTED.false _ c.versions-n.ensures.0 _
-    c.record_of-record.ensures _ c.lay.ensures
+    restore_done _ _ c.in_ok-restore_fault.ensures _ c.versions-n.ensures.0 _ c.record_of-record.ensures _ c.lay.ensures

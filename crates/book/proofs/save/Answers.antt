@@ -1,15 +1,20 @@
 -- Nothing is changed on a refusal; an accepted record is laid behind the last. Assumes nothing.
-use native.Mathlib.Omega.{arith}
+use Rattle.std.proofs.Common.{◌≡◌, rules, arith}
+use Rattle.std.specs.Prelude.{Err}
+use Rattle.book.specs.Changes.{saved_of, after_save}
 use Rattle.book.proofs.FaultLaws.{Ready, line_room_lem, save_refused, save_ready, save_done}
-use borrow.Author.Rules.{rules}
 use Rattle.book.proofs.save.Goals.{After-versions-n}
 use Rattle.book.proofs.save.Goals as goal
 
 room : (c : After-versions-n) → Ready c.args.book.now
-room c = save_ready _ _ _ c.save_fault-fault.ensures c.if-fault-ne-ACCEPTED.false
+room c = save_ready _ _ c.in_ok-save_fault.ensures
 
-pub returns-then-fault-ne-ACCEPTED : goal.returns-then-fault-ne-ACCEPTED
-returns-then-fault-ne-ACCEPTED c = save_refused _ _ _ c.save_fault-fault.ensures c.if-fault-ne-ACCEPTED.true
+pub returns-in_err-save_fault : goal.returns-in_err-save_fault
+returns-in_err-save_fault c =
+    let a = c.args in
+    let h : (Err c.in_err-save_fault.field-0.0 ≡ saved_of a.book.now a.settings.now) × (a.book.now ≡ after_save a.book.now a.settings.now) =
+    save_refused _ _ _ c.in_err-save_fault.ensures in
+    search (rules, h)
 
 pub record_of-record-requires : goal.record_of-record-requires
 record_of-record-requires c =
@@ -26,6 +31,4 @@ overflow_cast-result c =
     omega arith
 
 pub returns : goal.returns
-returns c =
-    save_done _ _ _ c.save_fault-fault.ensures c.if-fault-ne-ACCEPTED.false (search rules) _ c.versions-n.ensures.0 _
-    c.record_of-record.ensures _ c.lay.ensures
+returns c = save_done _ _ c.in_ok-save_fault.ensures (search rules) _ c.versions-n.ensures.0 _ c.record_of-record.ensures _ c.lay.ensures

@@ -7,7 +7,7 @@ use Prim.Native.Nat.{ℕ}
 use lib.Dec.{eqb}
 use Rattle.form.specs.Settings41.{settings41_fault}
 use Rattle.book.proofs.FaultLaws.{slice_settings}
-use Rattle.book.proofs.RecordLaws.{other_kind, cut_short, other_version, by_settings}
+use Rattle.book.proofs.RecordLaws.{other_kind, cut_short, other_version, by_settings, told_none}
 use Rattle.book.proofs.records.good_record.Goals as goal
 
 pub returns-then-book-at-ne-KIND : goal.returns-then-book-at-ne-KIND
@@ -25,5 +25,6 @@ returns-then-book-at c = other_version _ _ _ c.if-book-at-ne-KIND.false c.if-boo
 pub returns : goal.returns
 returns c =
     let a = c.args in
-    ap (λ (f : ℕ). eqb f 0) c.settings41_fault.ensures ∙ ap (λ (s : List ℕ). eqb (settings41_fault s) 0) (slice_settings a.book.now a.at)
+    c.is_ok.ensures.value ∙ told_none _ ∙ ap (λ (f : ℕ). eqb f 0) c.settings41_fault.ensures
+    ∙ ap (λ (s : List ℕ). eqb (settings41_fault s) 0) (slice_settings a.book.now a.at)
     ∙ by_settings _ _ _ c.if-book-at-ne-KIND.false c.if-book-at-lt-RECORD.false c.if-book-at.false
