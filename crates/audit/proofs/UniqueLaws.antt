@@ -1,9 +1,15 @@
 -- A promise that is an equation fixes its result; where a slice's equation speaks of the value, the values agree first, and where it holds under a condition, the condition is given.
-use mathlib.Core.Path.{◌≡◌, sym, ap, ◌∙◌}
+use mathlib.Core.Path.{◌≡◌, refl, sym, ap, ◌∙◌}
 use mathlib.Core.Bool.{Bool, false}
 use mathlib.Core.List.{List, []}
 use Prim.Native.Nat.{ℕ}
+use Rattle.std.specs.Prelude.{Result}
+use Rattle.metrics.specs.declared.refusals.Refusal.{Refusal}
+use Rattle.metrics.specs.Refusals.{told}
 use Rattle.metrics.specs.Letters.{counts_by, row_after}
+use Rattle.metrics.proofs.RefusalLaws.{told_apart}
+use Rattle.meta.specs.declared.HaplotypeMeta.{HaplotypeMeta}
+use Rattle.dive.specs.declared.told.ToldSeveral.{ToldSeveral}
 use Rattle.form.specs.Job.{job_bytes}
 use Rattle.form.specs.declared.records.Edition.TheVariants.{One, Two}
 use Rattle.editions.specs.Moving.{moved_over, out_after as movedAfter}
@@ -17,6 +23,13 @@ one x y p q = p ∙ sym q
 
 two : {A B : Type 0} {a : A} {b : B} (x y : A) (u v : B) → (u ≡ b) × (x ≡ a) → (v ≡ b) × (y ≡ a) → (x ≡ y) × (u ≡ v)
 two x y u v p q = (p.1 ∙ sym q.1, p.0 ∙ sym q.0)
+
+-- a refusal, or none, by its number
+told_one : {n : ℕ} (x y : Result Unit Refusal) → told x ≡ n → told y ≡ n → x ≡ y
+told_one x y p q = told_apart x y (p ∙ sym q)
+
+told_two : {A : Type 0} {a : A} {n : ℕ} (x y : A) (u v : Result Unit Refusal) → (told u ≡ n) × (x ≡ a) → (told v ≡ n) × (y ≡ a) → (x ≡ y) × (u ≡ v)
+told_two x y u v p q = (p.1 ∙ sym q.1, told_one u v p.0 q.0)
 
 -- the slice's equation speaks of the value
 through : {A B : Type 0} {b : B} (f : B → A) (x y : A) (u v : B) → (u ≡ b) × (x ≡ f u) → (v ≡ b) × (y ≡ f v) → (x ≡ y) × (u ≡ v)
@@ -56,6 +69,15 @@ recorded_both x p =
     let q = both x.1 (p.0, p.1.1.1) in
     recorded x (q.0, (p.1.0, (p.1.1.0, q.1)))
 
+-- the same where what is said last is a refusal, or none
+told_agree : {B : Type 0} {searching : Bool} {links keys rows : List ℕ} {b : B} {n : ℕ}
+    → Agree (B × Result Unit Refusal) searching (λ x. (told x.says.1 ≡ n) × ((x.rows ≡ rows) × ((x.says.0 ≡ b) × (Kept searching links x.links × Kept searching keys x.keys))))
+told_agree x y p q = agree x y (recorded x.says (refl, p.1)) (recorded y.says (told_one _ _ q.0 p.0, q.1))
+
+told_agree_both : {A B : Type 0} {searching : Bool} {links keys rows : List ℕ} {a : A} {b : B} {n : ℕ}
+    → Agree (A × (B × Result Unit Refusal)) searching (λ x. (told x.says.1.1 ≡ n) × ((x.rows ≡ rows) × ((x.says.0 ≡ a) × ((x.says.1.0 ≡ b) × (Kept searching links x.links × Kept searching keys x.keys)))))
+told_agree_both x y p q = agree x y (recorded_both x.says (refl, p.1)) (recorded_both y.says (told_one _ _ q.0 p.0, q.1))
+
 -- three slices, each by an equation of its own
 filled : {B : Type 0} {starts ends name : List ℕ} {b : B} (x y : Filled) (u v : B)
     → (u ≡ b) × ((x.starts ≡ starts) × ((x.ends ≡ ends) × (x.name ≡ name))) → (v ≡ b) × ((y.starts ≡ starts) × ((y.ends ≡ ends) × (y.name ≡ name)))
@@ -71,6 +93,19 @@ removed : {starts ends : List ℕ} {c : Companions} {n : ℕ} (x y : List Bool �
     → (u ≡ n) × (lent_of starts ends x.0 x.1 ≡ c) → (v ≡ n) × (lent_of starts ends y.0 y.1 ≡ c) → (x ≡ y) × (u ≡ v)
 removed x y u v p q = (ap (λ (c : Companions). (c.sheet, c.rows)) (p.1 ∙ sym q.1), p.0 ∙ sym q.0)
 
+-- what several haplotypes came to, with their data
+several_agree : {A B : Type 0} {searching : Bool} {links keys rows : List ℕ} {a : A} {b : B} {n : ℕ} {metas : List HaplotypeMeta}
+    → Agree (A × (B × ToldSeveral)) searching (λ x. ((told x.says.1.1.found ≡ n) × (x.says.1.1.metas ≡ metas))
+    × ((x.rows ≡ rows) × ((x.says.0 ≡ a) × ((x.says.1.0 ≡ b) × (Kept searching links x.links × Kept searching keys x.keys)))))
+several_agree x y p q = agree x y (recorded_both x.says (refl, p.1)) (recorded_both y.says (same, q.1))
+  where
+    same : y.says.1.1 ≡ x.says.1.1
+    same = let f = told_one _ _ q.0.0 p.0.0 in let m = q.0.1 ∙ sym p.0.1 in λ i. record { found = f i; metas = m i }
+
+told_removed : {starts ends : List ℕ} {c : Companions} {n : ℕ} (x y : List Bool × ℕ) (u v : Result Unit Refusal)
+    → (told u ≡ n) × (lent_of starts ends x.0 x.1 ≡ c) → (told v ≡ n) × (lent_of starts ends y.0 y.1 ≡ c) → (x ≡ y) × (u ≡ v)
+told_removed x y u v p q = (ap (λ (c : Companions). (c.sheet, c.rows)) (p.1 ∙ sym q.1), told_one u v p.0 q.0)
+
 pub unique : Unique
 unique = record {
   sizesim = λ a b. one;
@@ -82,35 +117,33 @@ unique = record {
   clear_row = λ row. one;
   entries = λ k. one;
   magnitude = λ x. one;
+  told = λ found. one;
   row_over = λ a limit. one;
   search_mode = λ s v. one;
-  settings_fault = λ s. one;
+  settings_fault = λ s. told_one;
   queue_room = λ links keys. one;
-  call_fault = λ s starts ends sizes features part_sizes part_features queue_room answer_room. one;
-  parts_fault = λ k part_sizes part_features. one;
-  several_fault = λ s starts ends sizes features part_ends feature_ends part_sizes part_features queue_room answer_room report_room. one;
+  call_fault = λ s table parts queue_room answer_room. told_one;
+  parts_fault = λ k parts. told_one;
+  several_fault = λ s table part_ends feature_ends parts queue_room answer_room report_room. told_one;
   earlier = λ other own. one;
-  count_fault = λ starts ends cap. one;
+  first_in_table = λ other own. told_one;
+  count_fault = λ starts ends cap. told_one;
   count_chains = λ starts ends full cap. one;
-  apply_haplotype = λ s starts ends sizes features part_sizes part_features links keys rows. agree;
-  check_path = λ s starts ends sizes features part_sizes part_features rows positions score. one;
+  apply_haplotype = λ s table parts links keys rows. agree;
+  check_path = λ s table parts rows positions score. one;
   put_report = λ answer report. one;
-  apply_haplotypes = λ s starts ends sizes features part_ends feature_ends part_sizes part_features links keys rows reports x y p q.
-      agree x y (recorded x.says p) (recorded y.says q);
-  numbered_fault = λ s starts ends sizes features numbers part_sizes part_features queue_room answer_room record_room. one;
-  apply_numbered = λ s starts ends sizes features numbers part_sizes part_features links keys rows records x y p q. agree x y (recorded x.says p) (recorded y.says q);
-  apply_numbered_haplotypes = λ s starts ends sizes features numbers part_ends feature_ends part_sizes part_features links keys rows records reports x y p q.
-      agree x y (recorded_both x.says p) (recorded_both y.says q);
+  apply_haplotypes = λ s table part_ends feature_ends parts links keys rows reports. told_agree;
+  numbered_fault = λ s table numbers parts queue_room answer_room record_room. told_one;
+  apply_numbered = λ s table numbers parts links keys rows records x y p q. agree x y (recorded x.says p) (recorded y.says q);
+  apply_numbered_haplotypes = λ s table numbers part_ends feature_ends parts links keys rows records reports. told_agree_both;
   new = λ index samples. one;
   new_blank = λ samples. one;
   combine = λ left right. one;
   meta_of_words = λ words. one;
   words_of_meta = λ meta. one;
   combine_all = λ metas. one;
-  apply_with_meta = λ s starts ends sizes features numbers part_sizes part_features meta links keys rows records x y p q.
-      agree x y (recorded x.says p) (recorded y.says q);
-  apply_haplotypes_with_meta = λ s starts ends sizes features numbers part_ends feature_ends part_sizes part_features metas links keys rows records reports x y p q.
-      agree x y (recorded_both x.says p) (recorded_both y.says q);
+  apply_with_meta = λ s table numbers parts meta links keys rows records x y p q. agree x y (recorded x.says p) (recorded y.says q);
+  apply_haplotypes_with_meta = λ s table numbers part_ends feature_ends parts metas links keys rows records reports. several_agree;
   u8_at = λ s at. one;
   u32_at = λ s at. one;
   u64_at = λ s at. one;
@@ -126,7 +159,7 @@ unique = record {
   read_settings = λ b. one;
   read_settings41 = λ b. one;
   settings_by = λ e b. one;
-  settings41_fault = λ b. one;
+  settings41_fault = λ b. told_one;
   write_settings = λ out at s. one;
   write_settings41 = λ out at s. one;
   edition_of = λ s. one;
@@ -143,12 +176,12 @@ unique = record {
   put_answer = λ out at rows records a. stored;
   read_bed = λ text starts ends name. filled;
   write_bed = λ name starts ends rows text. two;
-  add = λ starts ends sheet rows start end. two;
-  remove = λ starts ends sheet rows. removed;
+  add = λ starts ends sheet rows start end. told_two;
+  remove = λ starts ends sheet rows. told_removed;
   together = λ starts ends sheet rows a b. one;
   count = λ starts ends sheet rows row. one;
   save = λ book settings. two;
-  read = λ book version settings. two;
+  read = λ book version settings. told_two;
   restore = λ book version. two;
   answer = λ input out. two;
   nd_seq_to_kmer = λ text k negative reading row. two;

@@ -1,11 +1,10 @@
 -- Document 01, "Bench examples to prove": one list of the twelve, the last as document 02, P5, has it, and what each says of the definitions that the promises cite.
-use Rattle.std.specs.Prelude.{ℕ, ◌≡◌, Bool, true, false, List, [], ◌∷◌, ℤ, pos, negsuc, replicate}
+use Rattle.std.specs.Prelude.{ℕ, ◌≡◌, Bool, true, false, List, [], ◌∷◌, ℤ, pos, negsuc, replicate, Float, Result, Ok}
 use Rattle.std.specs.Float.{binary32}
 use Rattle.std.specs.Float.Ieee.{of_bits}
 use Rattle.metrics.specs.Letters.{counts_of}
 use Rattle.metrics.specs.Similarity.{sizesim_of, seqsim_of, sum_d, sum_n}
-use Rattle.metrics.specs.declared.Sim.{Sim}
-use Rattle.metrics.specs.declared.Sim.TheVariants.{Value}
+use Rattle.metrics.specs.declared.refusals.Refusal.{Refusal}
 use Rattle.kplib.specs.Parts.{part_lists}
 use Rattle.kplib.specs.Graph.{chains_of, is_chain_in}
 
@@ -23,8 +22,8 @@ pub data Example : Type 0 where
   -- starts, ends, N, rows (last row first) that are no chain, and rows that are one
   paths : List ℕ → List ℕ → ℕ → List ℕ → List ℕ → Example
 
-abbrev pub like : ℕ → Sim
-like bits = Value (of_bits binary32 bits)
+abbrev pub like : ℕ → Result Float Refusal
+like bits = Ok (of_bits binary32 bits)
 
 abbrev pub Holds : Example → Type 0
 Holds (counting k negative letters row) = counts_of k negative letters ≡ row

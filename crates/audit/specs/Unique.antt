@@ -1,17 +1,16 @@
 -- Document 01, "No empty promises": two results that meet a public function's promise coincide, the value and what each lent slice holds at exit.
 -- A field for each function, named as it is; the promise is the very predicate that the function's `ensures` cites (specs/Promises of its crate).
 -- The queue's slices after a search are the one exception (docs/PROMISES.md): of them only what stands there where no search runs is promised.
-use Rattle.std.specs.Prelude.{ℕ, ◌≡◌, Bool, false, List, ℤ, Float}
-use Rattle.metrics.specs.declared.Sim.{Sim}
-use Rattle.metrics.specs.declared.kmer.Counted.{Counted}
-use Rattle.metrics.specs.Promises.{SizesimPromise, SimilarityPromise, SeqsimPromise, OverlapsPromise, BitsOfPromise}
+use Rattle.std.specs.Prelude.{ℕ, ◌≡◌, Bool, false, List, ℤ, Float, Result}
+use Rattle.metrics.specs.declared.refusals.Refusal.{Refusal}
+use Rattle.metrics.specs.Promises.{SizesimPromise, SimilarityPromise, SeqsimPromise, OverlapsPromise, BitsOfPromise, ToldPromise}
 use Rattle.metrics.specs.Promises.{SeqToKmerPromise, ClearRowPromise, EntriesPromise, MagnitudePromise, RowOverPromise}
 use Rattle.params.specs.declared.Settings.{Settings}
-use Rattle.params.specs.Promises.{SearchModePromise, SettingsFaultPromise, QueueRoomPromise, CallFaultPromise, PartsFaultPromise, CountFaultPromise, SeveralFaultPromise, EarlierPromise}
+use Rattle.params.specs.declared.Table.{Table}
+use Rattle.params.specs.declared.Parts.{Parts}
+use Rattle.params.specs.Promises.{SearchModePromise, SettingsFaultPromise, QueueRoomPromise, CallFaultPromise, PartsFaultPromise, CountFaultPromise, SeveralFaultPromise, EarlierPromise, FirstInTablePromise}
 use Rattle.kplib.specs.Answer.{searches}
-use Rattle.kplib.specs.declared.vargraph.ChainCount.{ChainCount}
 use Rattle.kplib.specs.declared.traverse.Answer.{Answer}
-use Rattle.kplib.specs.declared.checkpath.PathCheck.{PathCheck}
 use Rattle.kplib.specs.Haplotypes.{several_searches}
 use Rattle.kplib.specs.Promises.{call_lent, several_lent, CountChainsPromise, ApplyHaplotypePromise, PutReportPromise, ApplyHaplotypesPromise, CheckPathPromise}
 use Rattle.dive.specs.Numbered.{numbered_searches}
@@ -21,17 +20,11 @@ use Rattle.dive.specs.Promises.{ApplyWithMetaPromise, ApplyHaplotypesWithMetaPro
 use Rattle.dive.specs.declared.told.Told.{Told}
 use Rattle.dive.specs.declared.told.ToldSeveral.{ToldSeveral}
 use Rattle.meta.specs.declared.HaplotypeMeta.{HaplotypeMeta}
-use Rattle.meta.specs.declared.Made.{Made}
-use Rattle.meta.specs.declared.Combined.{Combined}
 use Rattle.meta.specs.Promises.{NewPromise, NewBlankPromise, CombinePromise, MetaOfWordsPromise, WordsOfMetaPromise, CombineAllPromise}
 use Rattle.form.specs.declared.records.Edition.{Edition}
 use Rattle.form.specs.declared.records.Kind.{Kind}
 use Rattle.form.specs.declared.records.Record.{Record}
-use Rattle.form.specs.declared.records.Scan.{Scan}
-use Rattle.reader.specs.declared.Reading.{Reading}
-use Rattle.reader.specs.declared.numbers.Numbering.{Numbering}
-use Rattle.writer.specs.declared.Writing.{Writing}
-use Rattle.editions.specs.declared.Moving.{Moving}
+use Rattle.form.specs.declared.records.Counts.{Counts}
 use Rattle.editions.specs.Promises.{MoveJobPromise}
 use Rattle.form.specs.Lent.{Lent}
 use Rattle.fields.specs.Promises.{U8AtPromise, U32AtPromise, U64AtPromise, I32OfPromise, U32OfPromise, FloatOfPromise, PutU8Promise, PutU32Promise, PutU64Promise}
@@ -40,19 +33,15 @@ use Rattle.form.specs.Promises.{EditionOfPromise, SettingsByPromise, WriteSettin
 use Rattle.reader.specs.Promises.{ReadJobPromise, ReadNumbersPromise}
 use Rattle.writer.specs.Promises.{WriteJobPromise, WriteNumberedJobPromise}
 use Rattle.text.specs.Promises.{PutBytesPromise, PutDigitsPromise, PutRefusedPromise, PutHapPromise, PutAnswerPromise}
-use Rattle.bed.specs.declared.BedRead.{BedRead}
-use Rattle.bed.specs.declared.BedWritten.{BedWritten}
+use Rattle.bed.specs.declared.Counts as BedCounts
 use Rattle.bed.specs.Promises.{ReadBedPromise, WriteBedPromise}
 use Rattle.companions.specs.Companions.{Companions}
-use Rattle.companions.specs.declared.Paired.{Paired}
-use Rattle.companions.specs.declared.Later.{Later}
 use Rattle.companions.specs.Promises.{AddPromise, RemovePromise, TogetherPromise, CountPromise}
-use Rattle.book.specs.declared.Saved.{Saved}
 use Rattle.book.specs.Promises.{SavePromise, ReadPromise, RestorePromise}
 use Rattle.desk.specs.Promises.{AnswerPromise}
 use Rattle.capi.specs.Words.{settings_of_words}
 use Rattle.capi.specs.Promises.{NdSeqToKmerPromise, NdSeqsimPromise, NdSizesimPromise, NdCountChainsPromise, NdAnswerPromise, NdApplyHaplotypePromise, NdApplyHaplotypesPromise}
-use Rattle.capi.specs.Promises.{NdReadBedPromise, NdWriteBedPromise, NdCheckPathPromise}
+use Rattle.capi.specs.Promises.{numbered_call, numbered_several_call, NdReadBedPromise, NdWriteBedPromise, NdCheckPathPromise}
 use Rattle.capi.specs.Promises.{NdCompanionsAddPromise, NdCompanionsRemovePromise, NdCompanionsTogetherPromise, NdCompanionsCountPromise}
 use Rattle.capi.specs.Promises.{NdMetaNewPromise, NdMetaBlankPromise, NdMetaCombinePromise}
 use Rattle.capi.specs.Promises.{NdBookSavePromise, NdBookReadPromise, NdBookRestorePromise, NdMoveJobPromise}
@@ -65,7 +54,7 @@ abbrev pub Two : (A B : Type 0) → (A → B → Type 0) → Type 0
 Two A B promise = (x y : A) (u v : B) → promise x u → promise y v → (x ≡ y) × (u ≡ v)
 
 -- the ten slices of a job, lent by what they hold
-abbrev pub ReadsInto : List ℕ → Lent → Lent → Reading → Type 0
+abbrev pub ReadsInto : List ℕ → Lent → Lent → Result (Settings × Counts) Refusal → Type 0
 ReadsInto bytes t u r =
     ReadJobPromise bytes t.starts t.ends t.sizes t.negatives t.counts t.part_sizes t.part_negatives t.part_counts t.breaks t.letters
     u.starts u.ends u.sizes u.negatives u.counts u.part_sizes u.part_negatives u.part_counts u.breaks u.letters r
@@ -90,65 +79,66 @@ pub record Filled : Type 0 where
   pub name : List ℕ
 
 pub record Unique : Type 0 where
-  pub sizesim : (a b : ℕ) → One Sim (SizesimPromise a b)
+  pub sizesim : (a b : ℕ) → One (Result Float Refusal) (SizesimPromise a b)
   pub similarity : (d n : ℕ) → One Float (SimilarityPromise d n)
-  pub seqsim : (a b : List ℤ) (minkfreq : ℕ) → One Sim (SeqsimPromise a b minkfreq)
+  pub seqsim : (a b : List ℤ) (minkfreq : ℕ) → One (Result Float Refusal) (SeqsimPromise a b minkfreq)
   pub bits_of : (x : Float) → One ℕ (BitsOfPromise x)
   pub overlaps : (s1 e1 s2 e2 : ℕ) → One Bool (OverlapsPromise s1 e1 s2 e2)
-  pub seq_to_kmer : (seq : List ℕ) (k : ℕ) (negative : Bool) (reading : ℕ) (out : List ℤ) → Two (List ℤ) Counted (SeqToKmerPromise seq k negative reading out)
+  pub seq_to_kmer : (seq : List ℕ) (k : ℕ) (negative : Bool) (reading : ℕ) (out : List ℤ) → Two (List ℤ) (Result Unit Refusal) (SeqToKmerPromise seq k negative reading out)
   pub clear_row : (row : List ℤ) → One (List ℤ) (ClearRowPromise row)
   pub entries : (k : ℕ) → One ℕ (EntriesPromise k)
   pub magnitude : (x : ℤ) → One ℕ (MagnitudePromise x)
+  pub told : (found : Result Unit Refusal) → One ℕ (ToldPromise found)
   pub row_over : (a : List ℤ) (limit : ℕ) → One Bool (RowOverPromise a limit)
   pub search_mode : (s : Settings) (v : ℕ) → One Bool (SearchModePromise s v)
-  pub settings_fault : (s : Settings) → One ℕ (SettingsFaultPromise s)
+  pub settings_fault : (s : Settings) → One (Result Unit Refusal) (SettingsFaultPromise s)
   pub queue_room : (links keys : ℕ) → One ℕ (QueueRoomPromise links keys)
-  pub call_fault : (s : Settings) (starts ends : List ℕ) (sizes features part_sizes part_features : List ℤ) (queue_room answer_room : ℕ)
-      → One ℕ (CallFaultPromise s starts ends sizes features part_sizes part_features queue_room answer_room)
-  pub parts_fault : (k : ℕ) (part_sizes part_features : List ℤ) → One ℕ (PartsFaultPromise k part_sizes part_features)
-  pub several_fault : (s : Settings) (starts ends : List ℕ) (sizes features : List ℤ) (part_ends feature_ends : List ℕ) (part_sizes part_features : List ℤ)
-      (queue_room answer_room report_room : ℕ) → One ℕ (SeveralFaultPromise s starts ends sizes features part_ends feature_ends part_sizes part_features queue_room answer_room report_room)
+  pub call_fault : (s : Settings) (table : Table) (parts : Parts) (queue_room answer_room : ℕ) → One (Result Unit Refusal) (CallFaultPromise s table parts queue_room answer_room)
+  pub parts_fault : (k : ℕ) (parts : Parts) → One (Result Unit Refusal) (PartsFaultPromise k parts)
+  pub several_fault : (s : Settings) (table : Table) (part_ends feature_ends : List ℕ) (parts : Parts) (queue_room answer_room report_room : ℕ)
+      → One (Result Unit Refusal) (SeveralFaultPromise s table part_ends feature_ends parts queue_room answer_room report_room)
   pub earlier : (other own : ℕ) → One ℕ (EarlierPromise other own)
-  pub count_fault : (starts ends : List ℕ) (cap : ℕ) → One ℕ (CountFaultPromise starts ends cap)
-  pub count_chains : (starts ends : List ℕ) (full : Bool) (cap : ℕ) → One ChainCount (CountChainsPromise starts ends full cap)
-  pub apply_haplotype : (s : Settings) (starts ends : List ℕ) (sizes features part_sizes part_features : List ℤ) (links keys rows : List ℕ)
-      → Agree Answer (searches (call_lent s starts ends sizes features part_sizes part_features links keys rows))
-      (λ x. ApplyHaplotypePromise s starts ends sizes features part_sizes part_features links keys rows x.links x.keys x.rows x.says)
-  pub check_path : (s : Settings) (starts ends : List ℕ) (sizes features part_sizes part_features : List ℤ) (rows positions : List ℕ) (score : Float)
-      → One PathCheck (CheckPathPromise s starts ends sizes features part_sizes part_features rows positions score)
+  pub first_in_table : (other own : Result Unit Refusal) → One (Result Unit Refusal) (FirstInTablePromise other own)
+  pub count_fault : (starts ends : List ℕ) (cap : ℕ) → One (Result Unit Refusal) (CountFaultPromise starts ends cap)
+  pub count_chains : (starts ends : List ℕ) (full : Bool) (cap : ℕ) → One (Result ℕ Refusal) (CountChainsPromise starts ends full cap)
+  pub apply_haplotype : (s : Settings) (table : Table) (parts : Parts) (links keys rows : List ℕ)
+      → Agree Answer (searches (call_lent s table parts links keys rows))
+      (λ x. ApplyHaplotypePromise s table parts links keys rows x.links x.keys x.rows x.says)
+  pub check_path : (s : Settings) (table : Table) (parts : Parts) (rows positions : List ℕ) (score : Float)
+      → One (Result Bool Refusal) (CheckPathPromise s table parts rows positions score)
   pub put_report : (answer : Answer) (report : List ℕ) → One (List ℕ) (PutReportPromise answer report)
-  pub apply_haplotypes : (s : Settings) (starts ends : List ℕ) (sizes features : List ℤ) (part_ends feature_ends : List ℕ) (part_sizes part_features : List ℤ) (links keys rows reports : List ℕ)
-      → Agree (List ℕ × ℕ) (several_searches (several_lent s starts ends sizes features part_ends feature_ends part_sizes part_features links keys rows reports))
-      (λ x. ApplyHaplotypesPromise s starts ends sizes features part_ends feature_ends part_sizes part_features links keys rows reports
+  pub apply_haplotypes : (s : Settings) (table : Table) (part_ends feature_ends : List ℕ) (parts : Parts) (links keys rows reports : List ℕ)
+      → Agree (List ℕ × Result Unit Refusal) (several_searches (several_lent s table part_ends feature_ends parts links keys rows reports))
+      (λ x. ApplyHaplotypesPromise s table part_ends feature_ends parts links keys rows reports
       x.links x.keys x.rows x.says.0 x.says.1)
-  pub numbered_fault : (s : Settings) (starts ends : List ℕ) (sizes features : List ℤ) (numbers : List ℕ) (part_sizes part_features : List ℤ) (queue_room answer_room record_room : ℕ)
-      → One ℕ (NumberedFaultPromise s starts ends sizes features numbers part_sizes part_features queue_room answer_room record_room)
-  pub apply_numbered : (s : Settings) (starts ends : List ℕ) (sizes features : List ℤ) (numbers : List ℕ) (part_sizes part_features : List ℤ) (links keys rows records : List ℕ)
-      → Agree (List ℕ × Answer) (numbered_searches (numbered_lent s starts ends sizes features numbers part_sizes part_features links keys rows records))
-      (λ x. ApplyNumberedPromise s starts ends sizes features numbers part_sizes part_features links keys rows records
+  pub numbered_fault : (s : Settings) (table : Table) (numbers : List ℕ) (parts : Parts) (queue_room answer_room record_room : ℕ)
+      → One (Result Unit Refusal) (NumberedFaultPromise s table numbers parts queue_room answer_room record_room)
+  pub apply_numbered : (s : Settings) (table : Table) (numbers : List ℕ) (parts : Parts) (links keys rows records : List ℕ)
+      → Agree (List ℕ × Answer) (numbered_searches (numbered_lent s table numbers parts links keys rows records))
+      (λ x. ApplyNumberedPromise s table numbers parts links keys rows records
       x.links x.keys x.rows x.says.0 x.says.1)
-  pub apply_numbered_haplotypes : (s : Settings) (starts ends : List ℕ) (sizes features : List ℤ) (numbers part_ends feature_ends : List ℕ) (part_sizes part_features : List ℤ)
+  pub apply_numbered_haplotypes : (s : Settings) (table : Table) (numbers part_ends feature_ends : List ℕ) (parts : Parts)
       (links keys rows records reports : List ℕ)
-      → Agree (List ℕ × (List ℕ × ℕ)) (numbered_several_searches
-      (numbered_several_lent s starts ends sizes features numbers part_ends feature_ends part_sizes part_features links keys rows records reports))
-      (λ x. ApplyNumberedHaplotypesPromise s starts ends sizes features numbers part_ends feature_ends part_sizes part_features links keys rows records reports
+      → Agree (List ℕ × (List ℕ × Result Unit Refusal)) (numbered_several_searches
+      (numbered_several_lent s table numbers part_ends feature_ends parts links keys rows records reports))
+      (λ x. ApplyNumberedHaplotypesPromise s table numbers part_ends feature_ends parts links keys rows records reports
       x.links x.keys x.rows x.says.0 x.says.1.0 x.says.1.1)
-  pub new : (index samples : ℕ) → One Made (NewPromise index samples)
-  pub new_blank : (samples : ℕ) → One Made (NewBlankPromise samples)
-  pub combine : (left right : HaplotypeMeta) → One Combined (CombinePromise left right)
+  pub new : (index samples : ℕ) → One (Result HaplotypeMeta Refusal) (NewPromise index samples)
+  pub new_blank : (samples : ℕ) → One (Result HaplotypeMeta Refusal) (NewBlankPromise samples)
+  pub combine : (left right : HaplotypeMeta) → One (Result HaplotypeMeta Refusal) (CombinePromise left right)
   pub meta_of_words : (words : List ℕ) → One HaplotypeMeta (MetaOfWordsPromise words)
   pub words_of_meta : (meta : HaplotypeMeta) → One (List ℕ) (WordsOfMetaPromise meta)
-  pub combine_all : (metas : List ℕ) → One Made (CombineAllPromise metas)
-  pub apply_with_meta : (s : Settings) (starts ends : List ℕ) (sizes features : List ℤ) (numbers : List ℕ) (part_sizes part_features : List ℤ) (meta : HaplotypeMeta)
+  pub combine_all : (metas : List ℕ) → One (Result HaplotypeMeta Refusal) (CombineAllPromise metas)
+  pub apply_with_meta : (s : Settings) (table : Table) (numbers : List ℕ) (parts : Parts) (meta : HaplotypeMeta)
       (links keys rows records : List ℕ)
-      → Agree (List ℕ × Told) (numbered_searches (numbered_lent s starts ends sizes features numbers part_sizes part_features links keys rows records))
-      (λ x. ApplyWithMetaPromise s starts ends sizes features numbers part_sizes part_features meta links keys rows records
+      → Agree (List ℕ × Told) (numbered_searches (numbered_lent s table numbers parts links keys rows records))
+      (λ x. ApplyWithMetaPromise s table numbers parts meta links keys rows records
       x.links x.keys x.rows x.says.0 x.says.1)
-  pub apply_haplotypes_with_meta : (s : Settings) (starts ends : List ℕ) (sizes features : List ℤ) (numbers part_ends feature_ends : List ℕ) (part_sizes part_features : List ℤ)
+  pub apply_haplotypes_with_meta : (s : Settings) (table : Table) (numbers part_ends feature_ends : List ℕ) (parts : Parts)
       (metas : List HaplotypeMeta) (links keys rows records reports : List ℕ)
       → Agree (List ℕ × (List ℕ × ToldSeveral)) (numbered_several_searches
-      (numbered_several_lent s starts ends sizes features numbers part_ends feature_ends part_sizes part_features links keys rows records reports))
-      (λ x. ApplyHaplotypesWithMetaPromise s starts ends sizes features numbers part_ends feature_ends part_sizes part_features metas links keys rows records reports
+      (numbered_several_lent s table numbers part_ends feature_ends parts links keys rows records reports))
+      (λ x. ApplyHaplotypesWithMetaPromise s table numbers part_ends feature_ends parts metas links keys rows records reports
       x.links x.keys x.rows x.says.0 x.says.1.0 x.says.1.1)
   pub u8_at : (s : List ℕ) (at : ℕ) → One ℕ (U8AtPromise s at)
   pub u32_at : (s : List ℕ) (at : ℕ) → One ℕ (U32AtPromise s at)
@@ -165,34 +155,34 @@ pub record Unique : Type 0 where
   pub read_settings : (b : List ℕ) → One Settings (ReadSettingsPromise b)
   pub read_settings41 : (b : List ℕ) → One Settings (ReadSettings41Promise b)
   pub settings_by : (e : Edition) (b : List ℕ) → One Settings (SettingsByPromise e b)
-  pub settings41_fault : (b : List ℕ) → One ℕ (Settings41FaultPromise b)
+  pub settings41_fault : (b : List ℕ) → One (Result Unit Refusal) (Settings41FaultPromise b)
   pub write_settings : (out : List ℕ) (at : ℕ) (s : Settings) → One (List ℕ) (WriteSettingsPromise out at s)
   pub write_settings41 : (out : List ℕ) (at : ℕ) (s : Settings) → One (List ℕ) (WriteSettings41Promise out at s)
   pub edition_of : (s : List ℕ) → One Edition (EditionOfPromise s)
-  pub scan : (bytes : List ℕ) → One Scan (ScanPromise bytes)
-  pub read_job : (bytes : List ℕ) (t : Lent) → Two Lent Reading (ReadsInto bytes t)
+  pub scan : (bytes : List ℕ) → One (Result Counts Refusal) (ScanPromise bytes)
+  pub read_job : (bytes : List ℕ) (t : Lent) → Two Lent (Result (Settings × Counts) Refusal) (ReadsInto bytes t)
   pub write_job : (s : Settings) (t : Lent) (out : List ℕ)
-      → Two (List ℕ) Writing (WriteJobPromise s t.starts t.ends t.sizes t.negatives t.counts t.part_sizes t.part_negatives t.part_counts t.breaks t.letters out)
+      → Two (List ℕ) (Result ℕ Refusal) (WriteJobPromise s t.starts t.ends t.sizes t.negatives t.counts t.part_sizes t.part_negatives t.part_counts t.breaks t.letters out)
   pub write_numbered_job : (s : Settings) (numbers : List ℕ) (t : Lent) (out : List ℕ)
-      → Two (List ℕ) Writing (WriteNumberedJobPromise s numbers t.starts t.ends t.sizes t.negatives t.counts
+      → Two (List ℕ) (Result ℕ Refusal) (WriteNumberedJobPromise s numbers t.starts t.ends t.sizes t.negatives t.counts
       t.part_sizes t.part_negatives t.part_counts t.breaks t.letters out)
-  pub read_numbers : (bytes numbers : List ℕ) → Two (List ℕ) Numbering (ReadNumbersPromise bytes numbers)
-  pub move_job : (job : List ℕ) (edition : ℕ) (out : List ℕ) → Two (List ℕ) Moving (MoveJobPromise job edition out)
+  pub read_numbers : (bytes numbers : List ℕ) → Two (List ℕ) (Result ℕ Refusal) (ReadNumbersPromise bytes numbers)
+  pub move_job : (job : List ℕ) (edition : ℕ) (out : List ℕ) → Two (List ℕ) (Result ℕ Refusal) (MoveJobPromise job edition out)
   pub put_bytes : (out : List ℕ) (at : ℕ) (src : List ℕ) → Two (List ℕ) ℕ (PutBytesPromise out at src)
   pub put_digits : (out : List ℕ) (at n left : ℕ) → Two (List ℕ) ℕ (PutDigitsPromise out at n left)
   pub put_refused : (out : List ℕ) (at n : ℕ) → Two (List ℕ) ℕ (PutRefusedPromise out at n)
   pub put_hap : (out : List ℕ) (at i : ℕ) → Two (List ℕ) ℕ (PutHapPromise out at i)
   pub put_answer : (out : List ℕ) (at : ℕ) (rows records : List ℕ) (a : Answer) → Two (List ℕ) ℕ (PutAnswerPromise out at rows records a)
-  pub read_bed : (text starts ends name : List ℕ) → Two Filled BedRead (λ x. ReadBedPromise text starts ends name x.starts x.ends x.name)
-  pub write_bed : (name starts ends rows text : List ℕ) → Two (List ℕ) BedWritten (WriteBedPromise name starts ends rows text)
+  pub read_bed : (text starts ends name : List ℕ) → Two Filled (Result BedCounts.Counts Refusal) (λ x. ReadBedPromise text starts ends name x.starts x.ends x.name)
+  pub write_bed : (name starts ends rows text : List ℕ) → Two (List ℕ) (Result ℕ Refusal) (WriteBedPromise name starts ends rows text)
   pub add : (starts ends : List ℕ) (sheet : List Bool) (rows start end : ℕ)
-      → Two Companions ℕ (λ x. AddPromise starts ends sheet rows start end x.starts x.ends x.sheet x.rows)
-  pub remove : (starts ends : List ℕ) (sheet : List Bool) (rows : ℕ) → Two (List Bool × ℕ) ℕ (λ x. RemovePromise starts ends sheet rows x.0 x.1)
-  pub together : (starts ends : List ℕ) (sheet : List Bool) (rows a b : ℕ) → One Paired (TogetherPromise starts ends sheet rows a b)
-  pub count : (starts ends : List ℕ) (sheet : List Bool) (rows row : ℕ) → One Later (CountPromise starts ends sheet rows row)
-  pub save : (book settings : List ℕ) → Two (List ℕ) Saved (SavePromise book settings)
-  pub read : (book : List ℕ) (version : ℕ) (settings : List ℕ) → Two (List ℕ) ℕ (ReadPromise book version settings)
-  pub restore : (book : List ℕ) (version : ℕ) → Two (List ℕ) Saved (RestorePromise book version)
+      → Two Companions (Result Unit Refusal) (λ x. AddPromise starts ends sheet rows start end x.starts x.ends x.sheet x.rows)
+  pub remove : (starts ends : List ℕ) (sheet : List Bool) (rows : ℕ) → Two (List Bool × ℕ) (Result Unit Refusal) (λ x. RemovePromise starts ends sheet rows x.0 x.1)
+  pub together : (starts ends : List ℕ) (sheet : List Bool) (rows a b : ℕ) → One (Result Bool Refusal) (TogetherPromise starts ends sheet rows a b)
+  pub count : (starts ends : List ℕ) (sheet : List Bool) (rows row : ℕ) → One (Result ℕ Refusal) (CountPromise starts ends sheet rows row)
+  pub save : (book settings : List ℕ) → Two (List ℕ) (Result ℕ Refusal) (SavePromise book settings)
+  pub read : (book : List ℕ) (version : ℕ) (settings : List ℕ) → Two (List ℕ) (Result Unit Refusal) (ReadPromise book version settings)
+  pub restore : (book : List ℕ) (version : ℕ) → Two (List ℕ) (Result ℕ Refusal) (RestorePromise book version)
   pub answer : (input out : List ℕ) → Two (List ℕ) ℕ (AnswerPromise input out)
   pub nd_seq_to_kmer : (text : List ℕ) (k : ℕ) (negative : Bool) (reading : ℕ) (row : List ℤ) → Two (List ℤ) ℕ (NdSeqToKmerPromise text k negative reading row)
   pub nd_seqsim : (a b : List ℤ) (minkfreq : ℕ) (place : Float) → Two Float ℕ (NdSeqsimPromise a b minkfreq place)
@@ -200,13 +190,13 @@ pub record Unique : Type 0 where
   pub nd_count_chains : (starts ends : List ℕ) (full : Bool) (cap count : ℕ) → Two ℕ ℕ (NdCountChainsPromise starts ends full cap count)
   pub nd_answer : (job text : List ℕ) → Two (List ℕ) ℕ (NdAnswerPromise job text)
   pub nd_apply_haplotype : (settings starts ends : List ℕ) (sizes features : List ℤ) (numbers : List ℕ) (part_sizes part_features : List ℤ) (links keys rows records report : List ℕ)
-      → Agree (List ℕ × (List ℕ × ℕ)) (numbered_searches (numbered_lent (settings_of_words settings) starts ends sizes features numbers part_sizes part_features links keys rows records))
+      → Agree (List ℕ × (List ℕ × ℕ)) (numbered_searches (numbered_call (settings_of_words settings) starts ends sizes features numbers part_sizes part_features links keys rows records))
       (λ x. NdApplyHaplotypePromise settings starts ends sizes features numbers part_sizes part_features links keys rows records report
       x.links x.keys x.rows x.says.0 x.says.1.0 x.says.1.1)
   pub nd_apply_haplotypes : (settings starts ends : List ℕ) (sizes features : List ℤ) (numbers part_ends feature_ends : List ℕ) (part_sizes part_features : List ℤ)
       (links keys rows records reports : List ℕ)
       → Agree (List ℕ × (List ℕ × ℕ)) (numbered_several_searches
-      (numbered_several_lent (settings_of_words settings) starts ends sizes features numbers part_ends feature_ends part_sizes part_features links keys rows records reports))
+      (numbered_several_call (settings_of_words settings) starts ends sizes features numbers part_ends feature_ends part_sizes part_features links keys rows records reports))
       (λ x. NdApplyHaplotypesPromise settings starts ends sizes features numbers part_ends feature_ends part_sizes part_features links keys rows records reports
       x.links x.keys x.rows x.says.0 x.says.1.0 x.says.1.1)
   pub nd_read_bed : (text starts ends name counts : List ℕ) → Two Filled (List ℕ × ℕ)

@@ -1,12 +1,7 @@
--- What C is told of a move: the number, 0 for an accepted call, and how many bytes were written, 0 on a refusal.
-use Rattle.std.specs.Prelude.{ℕ}
-use Rattle.editions.specs.declared.Moving.{Moving}
-use Rattle.editions.specs.declared.Moving.TheVariants.{Refused, Wrote}
+-- What C is told of a move: how many bytes were written, 0 on a refusal.
+use Rattle.std.specs.Prelude.{ℕ, Result, Ok, Err}
+use Rattle.metrics.specs.declared.refusals.Refusal.{Refusal}
 
-abbrev pub moving_number : Moving → ℕ
-moving_number (Refused n) = n
-moving_number (Wrote n) = 0
-
-abbrev pub moving_bytes : Moving → ℕ
-moving_bytes (Refused n) = 0
-moving_bytes (Wrote n) = n
+abbrev pub moving_bytes : Result ℕ Refusal → ℕ
+moving_bytes (Ok n) = n
+moving_bytes (Err refusal) = 0

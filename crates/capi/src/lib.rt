@@ -9,77 +9,62 @@ ghost use Rattle.capi.specs.Promises.{NdMetaNewPromise, NdMetaBlankPromise, NdMe
 ghost use Rattle.capi.specs.Promises.{NdBookSavePromise, NdBookReadPromise, NdBookRestorePromise};
 ghost use Rattle.capi.specs.Promises.{NdMoveJobPromise};
 
-use crate::words::{length_word, settings_of_words, word_of_flag};
-use bed::{BedRead, BedWritten};
-use book::Saved;
-use companions::{Later, Paired};
-use editions::Moving;
-use kplib::checkpath::PathCheck;
+ghost use Rattle.std.specs.Prelude.{◌≡◌};
+ghost use Rattle.metrics.specs.Refusals.{told};
+ghost use Rattle.std.specs.Result.{result_unwrap_or};
+
+use crate::words::{length_word, settings_of_words};
 use kplib::report::put_report;
-use kplib::vargraph::ChainCount;
 use meta::words::{meta_of_words, words_of_meta};
-use metrics::Sim;
-use metrics::kmer::Counted;
-use metrics::refusals::ACCEPTED;
+use metrics::refusals::{ACCEPTED, Refusal, told};
+use params::{Parts, Table};
 
 mod words;
+
+// The data of nobody, of one sample, as words.
+const BLANK: [u64; 28] = [
+    0, 1, 0, 0, 0, 0, 0, 0, 0, 0, 0, 0, 0, 0, 0, 0, 0, 0, 0, 0, 0, 0, 0, 0, 0, 0, 0, 0,
+];
+
+// A call's value at its place, or what stands there for a refusal; and the call's number.
+fn place<T: Copy>(came: Result<T, Refusal>, at: &mut T, refused: T) -> u32
+    ensures number { result ≡ told came }
+    ensures value { at.new ≡ result_unwrap_or came refused }
+{
+    match came {
+        Ok(value) => {
+            *at = value;
+            ACCEPTED
+        }
+        Err(refusal) => {
+            *at = refused;
+            refusal.into()
+        }
+    }
+}
 
 pub fn nd_seq_to_kmer(text: &[u8], k: u8, negative: bool, letters: u8, row: &mut [i32]) -> u32
     ensures { NdSeqToKmerPromise text.now k negative letters row.old row.new result }
 {
-    let counted = metrics::kmer::seq_to_kmer(text, k, negative, letters, row);
-    match counted {
-        Counted::Done => ACCEPTED,
-        Counted::Refused(n) => n,
-    }
+    told(metrics::kmer::seq_to_kmer(text, k, negative, letters, row))
 }
 
-pub fn nd_seqsim(a: &[i32], b: &[i32], minkfreq: u32, place: &mut f32) -> u32
-    ensures { NdSeqsimPromise a.now b.now minkfreq place.old place.new result }
+pub fn nd_seqsim(a: &[i32], b: &[i32], minkfreq: u32, place_of: &mut f32) -> u32
+    ensures { NdSeqsimPromise a.now b.now minkfreq place_of.old place_of.new result }
 {
-    let sim = metrics::seqsim(a, b, minkfreq);
-    match sim {
-        Sim::Value(x) => {
-            *place = x;
-            ACCEPTED
-        }
-        Sim::Refused(n) => {
-            *place = 0.0;
-            n
-        }
-    }
+    place(metrics::seqsim(a, b, minkfreq), place_of, 0.0)
 }
 
-pub fn nd_sizesim(a: u64, b: u64, place: &mut f32) -> u32
-    ensures { NdSizesimPromise a b place.old place.new result }
+pub fn nd_sizesim(a: u64, b: u64, place_of: &mut f32) -> u32
+    ensures { NdSizesimPromise a b place_of.old place_of.new result }
 {
-    let sim = metrics::sizesim(a, b);
-    match sim {
-        Sim::Value(x) => {
-            *place = x;
-            ACCEPTED
-        }
-        Sim::Refused(n) => {
-            *place = 0.0;
-            n
-        }
-    }
+    place(metrics::sizesim(a, b), place_of, 0.0)
 }
 
 pub fn nd_count_chains(starts: &[u64], ends: &[u64], full: bool, cap: u32, count: &mut u32) -> u32
     ensures { NdCountChainsPromise starts.now ends.now full cap count.old count.new result }
 {
-    let counted = kplib::vargraph::count_chains(starts, ends, full, cap);
-    match counted {
-        ChainCount::Chains(n) => {
-            *count = n;
-            ACCEPTED
-        }
-        ChainCount::Refused(n) => {
-            *count = 0;
-            n
-        }
-    }
+    place(kplib::vargraph::count_chains(starts, ends, full, cap), count, 0)
 }
 
 // The program's answer to a job's bytes, at the front of `text`. Returns how long it is.
@@ -111,15 +96,21 @@ pub fn nd_apply_haplotype(
         records.old report.old links.new keys.new rows.new records.new report.new result }
 {
     let s = settings_of_words(settings);
-    let answer = dive::apply_numbered(
-        s,
+    let table = Table {
         starts,
         ends,
         sizes,
         features,
+    };
+    let parts = Parts {
+        sizes: part_sizes,
+        features: part_features,
+    };
+    let answer = dive::apply_numbered(
+        s,
+        &table,
         record_numbers,
-        part_sizes,
-        part_features,
+        &parts,
         links,
         keys,
         rows,
@@ -153,23 +144,29 @@ pub fn nd_apply_haplotypes(
         links.new keys.new rows.new records.new reports.new result }
 {
     let s = settings_of_words(settings);
-    dive::apply_numbered_haplotypes(
-        s,
+    let table = Table {
         starts,
         ends,
         sizes,
         features,
+    };
+    let parts = Parts {
+        sizes: part_sizes,
+        features: part_features,
+    };
+    told(dive::apply_numbered_haplotypes(
+        s,
+        &table,
         record_numbers,
         part_ends,
         feature_ends,
-        part_sizes,
-        part_features,
+        &parts,
         links,
         keys,
         rows,
         records,
         reports,
-    )
+    ))
 }
 
 // The counts are how many rows there are and how long the name is; both 0 on a refusal.
@@ -184,16 +181,7 @@ pub fn nd_read_bed(
         starts.new ends.new name.new counts.new result }
 {
     let read = bed::read_bed(text, starts, ends, name);
-    match read {
-        BedRead::Table(rows, width) => {
-            *counts = [rows, width];
-            ACCEPTED
-        }
-        BedRead::Refused(n) => {
-            *counts = [0, 0];
-            n
-        }
-    }
+    place(read.map(|found| [found.rows, found.width]), counts, [0, 0])
 }
 
 // How many bytes are written; 0 on a refusal.
@@ -209,16 +197,7 @@ pub fn nd_write_bed(
         text.new written.new result }
 {
     let wrote = bed::write_bed(name, starts, ends, rows, text);
-    match wrote {
-        BedWritten::Bytes(n) => {
-            *written = n as u64;
-            ACCEPTED
-        }
-        BedWritten::Refused(n) => {
-            *written = 0;
-            n
-        }
-    }
+    place(wrote.map(|bytes| bytes as u64), written, 0)
 }
 
 // A row at the end of a table, and the table's sheet with it.
@@ -233,7 +212,7 @@ pub fn nd_companions_add(
     ensures { NdCompanionsAddPromise starts.old ends.old sheet.old rows.old start end
         starts.new ends.new sheet.new rows.new result }
 {
-    companions::add(starts, ends, sheet, rows, start, end)
+    told(companions::add(starts, ends, sheet, rows, start, end))
 }
 
 // The last row taken away.
@@ -245,7 +224,7 @@ pub fn nd_companions_remove(
 ) -> u32
     ensures { NdCompanionsRemovePromise starts.now ends.now sheet.old rows.old sheet.new rows.new result }
 {
-    companions::remove(starts, ends, sheet, rows)
+    told(companions::remove(starts, ends, sheet, rows))
 }
 
 // Yes is 1, no is 0; 0 on a refusal.
@@ -261,16 +240,7 @@ pub fn nd_companions_together(
     ensures { NdCompanionsTogetherPromise starts.now ends.now sheet.now rows a b yes.old yes.new result }
 {
     let paired = companions::together(starts, ends, sheet, rows, a, b);
-    match paired {
-        Paired::Answer(may) => {
-            *yes = word_of_flag(may);
-            ACCEPTED
-        }
-        Paired::Refused(n) => {
-            *yes = 0u32;
-            n
-        }
-    }
+    place(paired.map(|may| may as u32), yes, 0)
 }
 
 // How many later companions a row has; 0 on a refusal.
@@ -284,53 +254,34 @@ pub fn nd_companions_count(
 ) -> u32
     ensures { NdCompanionsCountPromise starts.now ends.now sheet.now rows row count.old count.new result }
 {
-    let counted = companions::count(starts, ends, sheet, rows, row);
-    match counted {
-        Later::Count(n) => {
-            *count = n;
-            ACCEPTED
-        }
-        Later::Refused(n) => {
-            *count = 0u32;
-            n
-        }
-    }
+    place(companions::count(starts, ends, sheet, rows, row), count, 0)
 }
 
 // One read of one sample, as 28 words; a blank of one sample on a refusal.
 pub fn nd_meta_new(index: u64, samples: u64, meta: &mut [u64; 28]) -> u32
     ensures { NdMetaNewPromise index samples meta.old meta.new result }
 {
-    let made = meta::new(index, samples);
-    let one = made.meta;
-    *meta = words_of_meta(one);
-    made.refusal
+    place(meta::new(index, samples).map(words_of_meta), meta, BLANK)
 }
 
 // No read of any sample; a blank of one sample on a refusal.
 pub fn nd_meta_blank(samples: u64, meta: &mut [u64; 28]) -> u32
     ensures { NdMetaBlankPromise samples meta.old meta.new result }
 {
-    let told = meta::new_blank(samples);
-    let blank = told.meta;
-    *meta = words_of_meta(blank);
-    told.refusal
+    place(meta::new_blank(samples).map(words_of_meta), meta, BLANK)
 }
 
 // The two combined, on the left, which a refusal leaves as it was.
 pub fn nd_meta_combine(left: &mut [u64; 28], right: &[u64; 28]) -> u32
     ensures { NdMetaCombinePromise left.old right.now left.new result }
 {
-    let own = meta_of_words(left);
-    let its = meta_of_words(right);
-    let combined = meta::combine(own, its);
-    let refusal = combined.refusal;
-    if refusal != ACCEPTED {
-        return refusal;
+    match meta::combine(meta_of_words(left), meta_of_words(right)) {
+        Ok(both) => {
+            *left = words_of_meta(both);
+            ACCEPTED
+        }
+        Err(refusal) => refusal.into(),
     }
-    let both = combined.left;
-    *left = words_of_meta(both);
-    ACCEPTED
 }
 
 // Whether a path that someone else proposes is one that the search could have found. Yes is 1, no is 0; 0 on a refusal.
@@ -351,72 +302,38 @@ pub fn nd_check_path(
         part_sizes.now part_features.now rows.now positions.now score yes.old yes.new result }
 {
     let s = settings_of_words(settings);
-    let checked = kplib::checkpath::check_path(
-        s,
+    let table = Table {
         starts,
         ends,
         sizes,
         features,
-        part_sizes,
-        part_features,
-        rows,
-        positions,
-        score,
-    );
-    match checked {
-        PathCheck::Yes => {
-            *yes = 1;
-            ACCEPTED
-        }
-        PathCheck::No => {
-            *yes = 0;
-            ACCEPTED
-        }
-        PathCheck::Refused(n) => {
-            *yes = 0;
-            n
-        }
-    }
+    };
+    let parts = Parts {
+        sizes: part_sizes,
+        features: part_features,
+    };
+    let checked = kplib::checkpath::check_path(s, &table, &parts, rows, positions, score);
+    place(checked.map(|good| good as u32), yes, 0)
 }
 
 // The settings under the next version of a book, which is told; 0 on a refusal.
 pub fn nd_book_save(book: &mut [u8], settings: &[u8; 41], version: &mut u32) -> u32
     ensures { NdBookSavePromise book.old settings.now version.old book.new version.new result }
 {
-    let saved = book::save(book, settings);
-    match saved {
-        Saved::Version(n) => {
-            *version = n;
-            ACCEPTED
-        }
-        Saved::Refused(n) => {
-            *version = 0;
-            n
-        }
-    }
+    place(book::save(book, settings), version, 0)
 }
 
 pub fn nd_book_read(book: &[u8], version: u32, settings: &mut [u8; 41]) -> u32
     ensures { NdBookReadPromise book.now version settings.old settings.new result }
 {
-    book::read(book, version, settings)
+    told(book::read(book, version, settings))
 }
 
 // The settings of a version saved again under the next, which is told; 0 on a refusal.
 pub fn nd_book_restore(book: &mut [u8], version: u32, added: &mut u32) -> u32
     ensures { NdBookRestorePromise book.old version added.old book.new added.new result }
 {
-    let restored = book::restore(book, version);
-    match restored {
-        Saved::Version(n) => {
-            *added = n;
-            ACCEPTED
-        }
-        Saved::Refused(n) => {
-            *added = 0;
-            n
-        }
-    }
+    place(book::restore(book, version), added, 0)
 }
 
 // A job's bytes in the edition asked for, 1 or 2. How many are written; 0 on a refusal.
@@ -424,14 +341,5 @@ pub fn nd_move_job(job: &[u8], edition: u32, out: &mut [u8], written: &mut u64) 
     ensures { NdMoveJobPromise job.now edition out.old written.old out.new written.new result }
 {
     let moved = editions::move_job(job, edition, out);
-    match moved {
-        Moving::Wrote(bytes) => {
-            *written = bytes as u64;
-            ACCEPTED
-        }
-        Moving::Refused(n) => {
-            *written = 0u64;
-            n
-        }
-    }
+    place(moved.map(|bytes| bytes as u64), written, 0)
 }
