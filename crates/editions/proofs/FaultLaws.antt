@@ -16,17 +16,18 @@ use Rattle.form.specs.declared.records.Edition.TheVariants.{One, Two}
 use Rattle.form.specs.declared.records.Counts.{Counts}
 use Rattle.form.specs.declared.records.Kind.{Kind}
 use Rattle.form.specs.declared.records.Kind.TheVariants.{End, Settings, Variant, Part, Letters, Next, Settings2, Variant2, Unknown}
-use Rattle.form.specs.declared.records.Scan.{Scan}
-use Rattle.form.specs.declared.records.Scan.TheVariants.{Good, Refused as Broken}
+use Rattle.std.specs.Prelude.{Result, Ok, Err}
+use Rattle.metrics.specs.declared.refusals.Refusal.{Refusal}
+use Rattle.metrics.specs.Refusals.{refusal_of, refusal_number}
+use Rattle.metrics.proofs.RefusalLaws.{never_zero, numbered_is}
 use Rattle.form.specs.Form.{kind_of, is_settings, is_second, body_len, run, outset}
 use Rattle.form.specs.Settings41.{settings41_in}
 use Rattle.form.specs.Job.{Read, Faulty, Held, read_of, read_job, job_of, edition_of, settings_by, numbers_by, numbers_of, number_here, gather}
 use Rattle.form.specs.Lent.{job_counts, scan_of}
 use Rattle.form.proofs.FormLaws.{mixed}
-use Rattle.editions.specs.Moving.{other_edition, moved, moved_over, off_row, wrong_edition, numbers_off, letters_one, moving_rules, moving_case, moving_of, out_after}
+use Rattle.editions.specs.Moving.{other_edition, moved, moved_over, off_row, wrong_edition, numbers_off, letters_one, moving_rules, moving_case, moving_by, moving_of, out_after}
 use Rattle.editions.specs.ThereAndBack.{AreBytes}
 use Rattle.editions.specs.Steps.{Put}
-use Rattle.editions.specs.declared.Moving.TheVariants.{Refused, Wrote}
 use Rattle.editions.proofs.RuleLaws.{edition_first, numbers_second, letters_third, many_rows, little_room_lem, enough_room, settled}
 use Rattle.editions.proofs.OrderedLaws.{Ordered, ordered}
 use Rattle.editions.proofs.EditionLaws.{First, first, starts, apart, Unlettered, Same, stays_whole, longer_whole}
@@ -168,50 +169,52 @@ module _ (asked : ℕ) (s : List ℕ) (room : ℕ) (held : read_job s ≡ Held (
 
 -- ---- the answer
 module _ (s : List ℕ) where
-  faulty : (r : Read) (n : ℕ) → Broken n ≡ scan_of r → r ≡ Faulty n
+  faulty : (r : Read) (refusal : Refusal) (fault written : ℕ) → Err refusal ≡ scan_of r → Err refusal ≡ moving_by r fault written
   unfolding scan_of
-  faulty (Faulty m) n e = cc
-  faulty (Held job) n e = let z : ◌≡◌ {A = ℕ} 0 1 = cc in let no : ⊥ = omega arith in absurd no
+  faulty (Faulty m) refusal fault written e = let same : refusal ≡ refusal_of m = cc in ap (λ (found : Refusal). Err found) same
+  faulty (Held job) refusal fault written e = let z : ◌≡◌ {A = ℕ} 0 1 = cc in let no : ⊥ = omega arith in absurd no
 
-  pub form_refused : (asked room n : ℕ) (out : List ℕ) → Broken n ≡ scan_of (read_job s) → (Refused n ≡ moving_of asked s room) × (out ≡ out_after (Refused n) (moved_over s) out)
+  pub form_refused : (asked room : ℕ) (refusal : Refusal) (out : List ℕ) → Err refusal ≡ scan_of (read_job s)
+      → (Err refusal ≡ moving_of asked s room) × (out ≡ out_after (Err refusal) (moved_over s) out)
   unfolding moving_of out_after
-  form_refused asked room n out e = (sym (rw (faulty (read_job s) n e)), refl)
+  form_refused asked room refusal out e = (faulty (read_job s) refusal _ _ e, refl)
 
   -- a job in good form, and its counts
   pub record Accepted (c : Counts) : Type 0 where
     pub held : read_job s ≡ Held (job_of s)
     pub variants : c.variants ≡ length (job_of s).variants
 
-  pub accepted : (c : Counts) → Good c ≡ scan_of (read_job s) → Accepted c
+  pub accepted : (c : Counts) → Ok c ≡ scan_of (read_job s) → Accepted c
   unfolding scan_of read_job job_counts
   accepted c e = go (run s 0 outset) refl e
     where
-      go : (v : Scan) → run s 0 outset ≡ v → Good c ≡ scan_of (read_of v (job_of s)) → Accepted c
-      go (Broken n) i h = let z : ◌≡◌ {A = ℕ} 0 1 = cc in let no : ⊥ = omega arith in absurd no
-      go (Good d) i h = let j : c ≡ job_counts (job_of s) = cc in record { held = rw i; variants = ap (λ (x : Counts). x.variants) j }
+      go : (v : Result Counts Refusal) → run s 0 outset ≡ v → Ok c ≡ scan_of (read_of v (job_of s)) → Accepted c
+      go (Err refusal) i h = let z : ◌≡◌ {A = ℕ} 0 1 = cc in let no : ⊥ = omega arith in absurd no
+      go (Ok d) i h = let j : c ≡ job_counts (job_of s) = cc in record { held = rw i; variants = ap (λ (x : Counts). x.variants) j }
 
-  module _ (held : read_job s ≡ Held (job_of s)) (asked : ℕ) (out : List ℕ) (fault : ℕ) (is : fault ≡ first_of (moving_rules asked s (length out))) where
-    pub move_refused : (fault ≡ 0 → ⊥) → (Refused fault ≡ moving_of asked s (length out)) × (out ≡ out_after (Refused fault) (moved_over s) out)
+  module _ (held : read_job s ≡ Held (job_of s)) (asked : ℕ) (out : List ℕ) where
+    pub move_refused : (refusal : Refusal) → refusal_number refusal ≡ first_of (moving_rules asked s (length out))
+        → (Err refusal ≡ moving_of asked s (length out)) × (out ≡ out_after (Err refusal) (moved_over s) out)
     unfolding moving_of out_after
-    move_refused h = (rw (held, sym is) (go fault h), refl)
+    move_refused refusal is = (rw held (go _ is), refl)
       where
-        go : (f : ℕ) → (f ≡ 0 → ⊥) → Refused f ≡ moving_case f (length (moved_over s))
-        go zero z = absurd (z refl)
-        go (suc f) z = refl
+        go : (f : ℕ) → refusal_number refusal ≡ f → Err refusal ≡ moving_case f (length (moved_over s))
+        go zero e = absurd (never_zero refusal e)
+        go (suc f) e = ap (λ (found : Refusal). Err found) (numbered_is refusal (suc f) e)
 
-    move_room : fault ≡ 0 → length (moved_over s) ≤ length out
-    move_room z =
-        let o = settled asked s (length out) (sym is ∙ z) in
-        ltb-false _ _ (or_no (ltb (length out) (length (moved_over s))) (ltb (2 ^ 32) (length (job_of s).variants)) o.roomy).0
+    module _ (none : 0 ≡ first_of (moving_rules asked s (length out))) where
+      move_room : length (moved_over s) ≤ length out
+      move_room =
+          let o = settled asked s (length out) (sym none) in
+          ltb-false _ _ (or_no (ltb (length out) (length (moved_over s))) (ltb (2 ^ 32) (length (job_of s).variants)) o.roomy).0
 
-    pub room_there : fault ≡ 0 → (e : Edition) → e ≡ other_edition (edition_of s) → length (moved e s) ≤ length out
-    room_there z e i = rw i (move_room z)
+      pub room_there : (e : Edition) → e ≡ other_edition (edition_of s) → length (moved e s) ≤ length out
+      room_there e i = rw i move_room
 
-    pub move_done : fault ≡ 0 → (laid : List ℕ) (n : ℕ) (e : Edition) → e ≡ other_edition (edition_of s) → Put out laid 0 n (moved e s)
-        → (Wrote n ≡ moving_of asked s (length out)) × (laid ≡ out_after (Wrote n) (moved_over s) out)
-    unfolding moving_of out_after
-    move_done z laid n e i p =
-        let f : first_of (moving_rules asked s (length out)) ≡ 0 = sym is ∙ z in
-        let same : moved e s ≡ moved_over s = ap (λ (d : Edition). moved d s) i in
-        let long : n ≡ length (moved_over s) = omega (arith, p.next, ap length same) in
-        (sym (rw (held, f) (ap Wrote (sym long))), p.is ∙ ap (λ (l : List ℕ). sets out 0 l) same ∙ front_placed out (moved_over s) (move_room z))
+      pub move_done : (laid : List ℕ) (n : ℕ) (e : Edition) → e ≡ other_edition (edition_of s) → Put out laid 0 n (moved e s)
+          → (Ok n ≡ moving_of asked s (length out)) × (laid ≡ out_after (Ok n) (moved_over s) out)
+      unfolding moving_of out_after
+      move_done laid n e i p =
+          let same : moved e s ≡ moved_over s = ap (λ (d : Edition). moved d s) i in
+          let long : n ≡ length (moved_over s) = omega (arith, p.next, ap length same) in
+          (sym (rw (held, sym none) (ap (λ (written : ℕ). Ok written) (sym long))), p.is ∙ ap (λ (l : List ℕ). sets out 0 l) same ∙ front_placed out (moved_over s) move_room)

@@ -13,15 +13,14 @@ use Rattle.params.proofs.CheckLaws.{or_no}
 use Rattle.form.specs.declared.records.Edition.{Edition}
 use Rattle.form.specs.declared.records.Edition.TheVariants.{One, Two}
 use Rattle.form.specs.declared.records.Counts.{Counts}
-use Rattle.form.specs.declared.records.Scan.{Scan}
-use Rattle.form.specs.declared.records.Scan.TheVariants.{Good, Refused as Broken}
+use Rattle.std.specs.Prelude.{Result, Ok, Err}
+use Rattle.metrics.specs.declared.refusals.Refusal.{Refusal}
 use Rattle.form.specs.Form.{run, outset}
 use Rattle.form.specs.Settings40.{settings_in}
 use Rattle.form.specs.Job.{Job, Held, read_of, read_job, job_of, edition_of, settings_by, numbers_by, numbers_of, row_numbers, variant_here, gather, haplotypes_in}
 use Rattle.form.proofs.CountLaws.{not_back}
 use Rattle.editions.specs.Moving.{other_edition, edition_number, moved, moved_over, off_row, no_room, moving_rules, moving_case, moving_by, moving_of}
 use Rattle.editions.specs.ThereAndBack.{AreBytes, Moves, ThereAndBack}
-use Rattle.editions.specs.declared.Moving.TheVariants.{Wrote}
 use Rattle.editions.proofs.RuleLaws.{Settled, settled, none_last}
 use Rattle.editions.proofs.OrderedLaws.{Ordered, ordered, together}
 use Rattle.editions.proofs.MoveLaws.{Alike, moved_ordered}
@@ -31,7 +30,7 @@ use Rattle.editions.proofs.EditionLaws.{First, starts, Unlettered, Same, edition
 -- ---- a job in good order, without letters, whose numbers are its rows
 pub record Movable (s : List ℕ) : Type 0 where
   pub counts : Counts
-  pub good : run s 0 outset ≡ Good counts
+  pub good : run s 0 outset ≡ Ok counts
   pub rows : off_row 0 (numbers_of s) ≡ false
   pub unlettered : Unlettered s
   pub bytes : AreBytes s
@@ -47,7 +46,7 @@ module _ (s : List ℕ) (m : Movable s) where
   same_start : (e : Edition) → Alike e outset outset
   same_start e = record { phase = refl; left = refl; variants = refl; parts = refl; breaks = refl; letters = refl }
 
-  good_moved : (e : Edition) → run (moved e s) 0 outset ≡ Good m.counts
+  good_moved : (e : Edition) → run (moved e s) 0 outset ≡ Ok m.counts
   good_moved e = together (moved_ordered e order outset (same_start e) 0)
 
   job_moved : (e : Edition) → job_of (moved e s) ≡ job_of s
@@ -102,31 +101,31 @@ module _ (s : List ℕ) (m : Movable s) where
       ∙ moved_twice (edition_of s) (other_edition (edition_of s)) order 0 ∙ own_edition
 
 -- ---- what an answer tells
-record Told (v : Scan) (fault long n : ℕ) : Type 0 where
+record Told (v : Result Counts Refusal) (fault long n : ℕ) : Type 0 where
   counts : Counts
-  good : v ≡ Good counts
+  good : v ≡ Ok counts
   none : fault ≡ 0
   is : n ≡ long
 
-told : (v : Scan) (job : Job) (fault long n : ℕ) → moving_by (read_of v job) fault long ≡ Wrote n → Told v fault long n
-told (Broken k) job fault long n e = let z : ◌≡◌ {A = ℕ} 0 1 = cc in let no : ⊥ = omega arith in absurd no
-told (Good c) job zero long n e = record { counts = c; good = refl; none = refl; is = cc }
-told (Good c) job (suc f) long n e = let z : ◌≡◌ {A = ℕ} 0 1 = cc in let no : ⊥ = omega arith in absurd no
+told : (v : Result Counts Refusal) (job : Job) (fault long n : ℕ) → moving_by (read_of v job) fault long ≡ Ok n → Told v fault long n
+told (Err refusal) job fault long n e = let z : ◌≡◌ {A = ℕ} 0 1 = cc in let no : ⊥ = omega arith in absurd no
+told (Ok c) job zero long n e = record { counts = c; good = refl; none = refl; is = cc }
+told (Ok c) job (suc f) long n e = let z : ◌≡◌ {A = ℕ} 0 1 = cc in let no : ⊥ = omega arith in absurd no
 
 module _ (asked : ℕ) (s : List ℕ) (room : ℕ) where
   -- an accepted move
   pub record Open : Type 0 where
     pub counts : Counts
-    pub good : run s 0 outset ≡ Good counts
+    pub good : run s 0 outset ≡ Ok counts
     pub rules : Settled asked s room
 
-  wrote_open : (n : ℕ) → moving_of asked s room ≡ Wrote n → Open × (n ≡ length (moved_over s))
+  wrote_open : (n : ℕ) → moving_of asked s room ≡ Ok n → Open × (n ≡ length (moved_over s))
   unfolding moving_of read_job
   wrote_open n e =
       let t = told (run s 0 outset) (job_of s) (first_of (moving_rules asked s room)) (length (moved_over s)) n e in
       (record { counts = t.counts; good = t.good; rules = settled asked s room t.none }, t.is)
 
-  open_wrote : Open → moving_of asked s room ≡ Wrote (length (moved_over s))
+  open_wrote : Open → moving_of asked s room ≡ Ok (length (moved_over s))
   unfolding moving_of read_job
   open_wrote o =
       let r = o.rules in
@@ -171,13 +170,13 @@ module _ (asked : ℕ) (s : List ℕ) (room n : ℕ) (moves : Moves asked s room
   asked_is = sym (eqb-true _ _ (not_back _ opened.rules.edition))
 
 -- ---- where the way is open
-pub held_job : (s : List ℕ) (job : Job) → read_job s ≡ Held job → (c : Counts) × ((run s 0 outset ≡ Good c) × (job_of s ≡ job))
+pub held_job : (s : List ℕ) (job : Job) → read_job s ≡ Held job → (c : Counts) × ((run s 0 outset ≡ Ok c) × (job_of s ≡ job))
 unfolding read_job
 held_job s job e = go (run s 0 outset) refl e
   where
-    go : (v : Scan) → run s 0 outset ≡ v → read_of v (job_of s) ≡ Held job → (c : Counts) × ((run s 0 outset ≡ Good c) × (job_of s ≡ job))
-    go (Broken n) i h = let z : ◌≡◌ {A = ℕ} 0 1 = cc in let no : ⊥ = omega arith in absurd no
-    go (Good c) i h = (c, (i, cc))
+    go : (v : Result Counts Refusal) → run s 0 outset ≡ v → read_of v (job_of s) ≡ Held job → (c : Counts) × ((run s 0 outset ≡ Ok c) × (job_of s ≡ job))
+    go (Err refusal) i h = let z : ◌≡◌ {A = ℕ} 0 1 = cc in let no : ⊥ = omega arith in absurd no
+    go (Ok c) i h = (c, (i, cc))
 
 -- edition 1 has row numbers and no letters
 module _ (s : List ℕ) (one : edition_of s ≡ One) where
@@ -207,7 +206,7 @@ there_and_back = record {
   moved_length = λ asked s room n m. (wrote_open asked s room n m.wrote).1;
   moved_edition = λ asked s room n m. ap edition_number (over_edition s (movable asked s room n m)) ∙ asked_is asked s room n m;
   way_back = λ asked s room n m room' h.
-      open_wrote (edition_number (edition_of s)) (moved_over s) room' (goes_back asked s room n m room' h) ∙ ap (λ (q : List ℕ). Wrote (length q)) (back s (movable asked s room n m));
+      open_wrote (edition_number (edition_of s)) (moved_over s) room' (goes_back asked s room n m room' h) ∙ ap (λ (q : List ℕ). Ok (length q)) (back s (movable asked s room n m));
   there_and_back = λ asked s room n m. back s (movable asked s room n m);
   moved_read = λ asked s room n m. read_moved s (movable asked s room n m) (other_edition (edition_of s));
   moved_numbers = λ asked s room n m. numbers_moved s (movable asked s room n m) (other_edition (edition_of s));

@@ -1,6 +1,8 @@
 -- Document 02, P7: a job moved from one edition of the form to the other, and what moving answers.
 -- What the editions share is copied byte for byte, so that a NaN's bits survive.
-use Rattle.std.specs.Prelude.{ℕ, zero, suc, ◌+◌, ◌^◌, List, [], ◌∷◌, ◌++◌, Bool, false, not, ◌||◌, cond, length, take, ltb, eqb}
+use Rattle.std.specs.Prelude.{ℕ, zero, suc, ◌+◌, ◌^◌, List, [], ◌∷◌, ◌++◌, Bool, false, not, ◌||◌, cond, length, take, ltb, eqb, Result, Ok, Err}
+use Rattle.metrics.specs.declared.refusals.Refusal.{Refusal}
+use Rattle.metrics.specs.Refusals.{refusal_of}
 use Rattle.metrics.specs.Placed.{placed}
 use Rattle.params.specs.Numbers.{Rule, rule, first_of}
 use Rattle.fields.specs.Fields.{bytes4}
@@ -9,8 +11,6 @@ use Rattle.form.specs.Job.{Read, Faulty, Held, edition_of, job_of, numbers_of, r
 use Rattle.form.specs.declared.records.Edition.{Edition}
 use Rattle.form.specs.declared.records.Edition.TheVariants.{One, Two}
 use Rattle.form.specs.declared.records.Kind.{Kind}
-use Rattle.editions.specs.declared.Moving.{Moving}
-use Rattle.editions.specs.declared.Moving.TheVariants.{Refused, Wrote}
 
 abbrev pub other_edition : Edition → Edition
 other_edition One = Two
@@ -92,19 +92,19 @@ moving_rules asked s room =
     ∷ (rule 29 (letters_one s)
     ∷ (rule 30 (no_room s room) ∷ [])))
 
-abbrev pub moving_case : ℕ → ℕ → Moving
-moving_case zero n = Wrote n
-moving_case (suc f) n = Refused (suc f)
+abbrev pub moving_case : ℕ → ℕ → Result ℕ Refusal
+moving_case zero n = Ok n
+moving_case (suc f) n = Err (refusal_of (suc f))
 
-abbrev pub moving_by : Read → ℕ → ℕ → Moving
-moving_by (Faulty n) fault written = Refused n
+abbrev pub moving_by : Read → ℕ → ℕ → Result ℕ Refusal
+moving_by (Faulty n) fault written = Err (refusal_of n)
 moving_by (Held job) fault written = moving_case fault written
 
 -- the first fault of the form, then the first of the rules; else how many bytes are written
-unfoldable pub moving_of : ℕ → List ℕ → ℕ → Moving
+unfoldable pub moving_of : ℕ → List ℕ → ℕ → Result ℕ Refusal
 moving_of asked s room = moving_by (read_job s) (first_of (moving_rules asked s room)) (length (moved_over s))
 
 -- what the lent room holds after the answer: the bytes at the front, or what it held
-unfoldable pub out_after : Moving → List ℕ → List ℕ → List ℕ
-out_after (Refused n) bytes old = old
-out_after (Wrote n) bytes old = placed old bytes
+unfoldable pub out_after : Result ℕ Refusal → List ℕ → List ℕ → List ℕ
+out_after (Err refusal) bytes old = old
+out_after (Ok n) bytes old = placed old bytes

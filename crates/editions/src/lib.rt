@@ -4,6 +4,7 @@
 mod walk;
 
 ghost use Rattle.std.specs.Prelude.{◌≡◌, length};
+ghost use Rattle.metrics.specs.Refusals.{told};
 ghost use Rattle.params.specs.Numbers.{first_of};
 ghost use Rattle.form.specs.Job.{edition_of, job_of, read_job, Held};
 ghost use Rattle.form.specs.declared.records.Edition.TheVariants.{One, Two};
@@ -11,9 +12,9 @@ ghost use Rattle.editions.specs.Moving.{other_edition, moving_rules};
 ghost use Rattle.editions.specs.Promises.{MoveJobPromise};
 
 use crate::walk::{lay_records, off_row};
-use form::records::{Edition, LETTERS_PLACE, Scan, edition_of};
+use form::records::{Edition, LETTERS_PLACE, edition_of};
 use form::scan;
-use metrics::refusals::{ACCEPTED, LETTERS_ONE, LITTLE_ROOM, NUMBER_NOT_ROW, OUT_OF_PLACE};
+use metrics::refusals::Refusal;
 
 // as many rows as the 32 bits of a record number tell apart
 const MOST_ROWS: usize = 4294967296;
@@ -21,13 +22,6 @@ const MOST_ROWS: usize = 4294967296;
 const LETTERS_SIZE: usize = 1;
 
 const NUMBER_SIZE: usize = 4;
-
-// How many bytes were written, or the refusal's number.
-#[derive(Clone, Copy)]
-pub enum Moving {
-    Refused(u32),
-    Wrote(usize),
-}
 
 fn other_edition(edition: Edition) -> Edition
     ensures { result ≡ other_edition edition }
@@ -39,48 +33,48 @@ fn other_edition(edition: Edition) -> Edition
 }
 
 // Of a job in edition 1.
-fn up_fault(job: &[u8], edition: u32, variants: usize, room: usize) -> u32
+fn up_fault(job: &[u8], edition: u32, variants: usize, room: usize) -> Result<(), Refusal>
     requires { (read_job job.now ≡ Held (job_of job.now)) × (edition_of job.now ≡ One) × (variants ≡ length (job_of job.now).variants) }
-    ensures { result ≡ first_of (moving_rules edition job.now room) }
+    ensures { told result ≡ first_of (moving_rules edition job.now room) }
 {
     if edition != 2 {
-        return OUT_OF_PLACE;
+        return Err(Refusal::OutOfPlace);
     }
     if MOST_ROWS < variants {
-        return LITTLE_ROOM;
+        return Err(Refusal::LittleRoom);
     }
     if room < job.len() + (LETTERS_SIZE + NUMBER_SIZE * variants) {
-        return LITTLE_ROOM;
+        return Err(Refusal::LittleRoom);
     }
-    ACCEPTED
+    Ok(())
 }
 
 // Of a job in edition 2.
-fn down_fault(job: &[u8], edition: u32, variants: usize, room: usize) -> u32
+fn down_fault(job: &[u8], edition: u32, variants: usize, room: usize) -> Result<(), Refusal>
     requires { (read_job job.now ≡ Held (job_of job.now)) × (edition_of job.now ≡ Two) × (variants ≡ length (job_of job.now).variants) }
-    ensures { result ≡ first_of (moving_rules edition job.now room) }
+    ensures { told result ≡ first_of (moving_rules edition job.now room) }
 {
     if edition != 1 {
-        return OUT_OF_PLACE;
+        return Err(Refusal::OutOfPlace);
     }
     if off_row(job) {
-        return NUMBER_NOT_ROW;
+        return Err(Refusal::NumberNotRow);
     }
     if job[1 + LETTERS_PLACE] == 1 {
-        return LETTERS_ONE;
+        return Err(Refusal::LettersOne);
     }
     if MOST_ROWS < variants {
-        return LITTLE_ROOM;
+        return Err(Refusal::LittleRoom);
     }
     if room < job.len() - (LETTERS_SIZE + NUMBER_SIZE * variants) {
-        return LITTLE_ROOM;
+        return Err(Refusal::LittleRoom);
     }
-    ACCEPTED
+    Ok(())
 }
 
-fn moving_fault(job: &[u8], edition: u32, variants: usize, room: usize) -> u32
+fn moving_fault(job: &[u8], edition: u32, variants: usize, room: usize) -> Result<(), Refusal>
     requires { (read_job job.now ≡ Held (job_of job.now)) × (variants ≡ length (job_of job.now).variants) }
-    ensures { result ≡ first_of (moving_rules edition job.now room) }
+    ensures { told result ≡ first_of (moving_rules edition job.now room) }
 {
     let from = edition_of(job);
     match from {
@@ -89,18 +83,11 @@ fn moving_fault(job: &[u8], edition: u32, variants: usize, room: usize) -> u32
     }
 }
 
-// A job's bytes in the edition asked for, 1 or 2, at the front of `out`. Nothing is changed on a refusal.
-pub fn move_job(job: &[u8], edition: u32, out: &mut [u8]) -> Moving
+// A job's bytes in the edition asked for, 1 or 2, at the front of `out`, and how many they are. Nothing is changed on a refusal.
+pub fn move_job(job: &[u8], edition: u32, out: &mut [u8]) -> Result<usize, Refusal>
     ensures { MoveJobPromise job.now edition out.old out.new result }
 {
-    let found = scan(job);
-    let counts = match found {
-        Scan::Refused(n) => return Moving::Refused(n),
-        Scan::Good(counts) => counts,
-    };
-    let fault = moving_fault(job, edition, counts.variants, out.len());
-    if fault != ACCEPTED {
-        return Moving::Refused(fault);
-    }
-    Moving::Wrote(lay_records(job, other_edition(edition_of(job)), out))
+    let counts = scan(job)?;
+    moving_fault(job, edition, counts.variants, out.len())?;
+    Ok(lay_records(job, other_edition(edition_of(job)), out))
 }
