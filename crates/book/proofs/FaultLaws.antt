@@ -14,10 +14,10 @@ use Rattle.params.proofs.CheckLaws.{given, passed, Passed, stops, goes_on, none_
 use Rattle.form.specs.Form.{all_zero}
 use Rattle.form.specs.Settings41.{settings41_rules, settings41_fault}
 use Rattle.book.specs.Book.{book_kind, record_len, place_of, versions_of, saved_in, settings_at, good_record, bad_version, broken, version_record}
-use Rattle.book.specs.Changes.{room_rules, save_rules, read_rules, save_fault, read_fault, restore_fault, appended, changed_unless, refused_or, saved_of, after_save, restored_of, after_restore}
+use Rattle.book.specs.Changes.{room_rules, save_rules, read_rules, save_fault, read_fault, restore_fault, appended, changed_unless, saved_of, after_save, restored_of, after_restore}
 use Rattle.std.specs.Prelude.{Ok, Err}
 use Rattle.metrics.specs.declared.refusals.Refusal.{Refusal}
-use Rattle.metrics.specs.Refusals.{refusal_number}
+use Rattle.metrics.specs.Refusals.{refusal_number, refused_or}
 use Rattle.metrics.proofs.RefusalLaws.{never_zero, numbered_is}
 
 -- ---- a record that passes every test

@@ -10,10 +10,11 @@ use lib.ListN.{length, get_or, replicate}
 use Rattle.form.specs.Form.{all_zero}
 use Rattle.form.specs.Settings41.{settings41_fault}
 use Rattle.book.specs.Book.{saved_len, place_of, versions_of, saved_in, settings_at}
-use Rattle.book.specs.Changes.{save_fault, read_fault, restore_fault, next_version, appended, changed_unless, refused_or, saved_of, after_save, restored_of, after_restore}
+use Rattle.book.specs.Changes.{save_fault, read_fault, restore_fault, next_version, appended, changed_unless, saved_of, after_save, restored_of, after_restore}
 use Rattle.book.specs.Kept.{Sound, Change, Save, Restore, after_all, SavedWhole, BookKept}
 use Rattle.book.proofs.FaultLaws.{Good, good_at, read_there, Found, found, save_room, restore_room, restore_found, kept_refused, changed, long_settings}
 use Rattle.book.proofs.SavedLaws.{versions_are, sound_made, before_kept, new_there, behind_kept, long_kept, settings_new, versions_new, sound_new, old_settings}
+use Rattle.metrics.specs.Refusals.{refused_or}
 
 -- ---- a version of a book, as it reads
 abbrev Reads : List ℕ → ℕ → List ℕ → Type 0

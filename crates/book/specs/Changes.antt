@@ -1,7 +1,7 @@
 -- Document 02, P9: saving adds the next version, reading one gives the settings saved under it, going back to one saves its settings again under a new number.
 use Rattle.std.specs.Prelude.{ℕ, zero, suc, ◌+◌, ◌-◌, Bool, not, ◌&&◌, List, [], ◌∷◌, ◌++◌, leb, ltb, length, take, drop, Result, Ok, Err}
 use Rattle.metrics.specs.declared.refusals.Refusal.{Refusal}
-use Rattle.metrics.specs.Refusals.{refusal_of}
+use Rattle.metrics.specs.Refusals.{refused_or}
 use Rattle.params.specs.Numbers.{Rule, rule, first_of}
 use Rattle.form.specs.Settings41.{settings41_rules}
 use Rattle.book.specs.Book.{record_len, place_of, versions_of, settings_at, broken, version_record}
@@ -53,11 +53,6 @@ appended book settings =
 abbrev pub changed_unless : {A : Type 0} → ℕ → A → A → A
 changed_unless zero new old = new
 changed_unless (suc f) new old = old
-
--- the refusal that has this number, or the version where the number is 0
-abbrev pub refused_or : ℕ → ℕ → Result ℕ Refusal
-refused_or zero version = Ok version
-refused_or (suc f) version = Err (refusal_of (suc f))
 
 -- what saving answers, and the book after it
 unfoldable pub saved_of : List ℕ → List ℕ → Result ℕ Refusal

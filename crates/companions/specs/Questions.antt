@@ -1,7 +1,7 @@
--- Document 02, P8: what is refused_or from the sheet: may these two rows stand together, and how many later companions has a row.
+-- Document 02, P8: what is answered from the sheet: may these two rows stand together, and how many later companions has a row.
 use Rattle.std.specs.Prelude.{ℕ, zero, suc, ◌+◌, Bool, cond, ◌||◌, List, [], ◌∷◌, leb, Result, Ok, Err}
 use Rattle.metrics.specs.declared.refusals.Refusal.{Refusal}
-use Rattle.metrics.specs.Refusals.{refusal_of}
+use Rattle.metrics.specs.Refusals.{refused_or}
 use Rattle.params.specs.Numbers.{rule, first_of}
 use Rattle.companions.specs.Companions.{Companions, sheet_flag, not_its_sheet}
 
@@ -24,11 +24,6 @@ pair_fault c a b = first_of (rule 49 (not_its_sheet c) ∷ (rule 44 (leb c.rows 
 
 unfoldable pub later_fault : Companions → ℕ → ℕ
 later_fault c row = first_of (rule 49 (not_its_sheet c) ∷ (rule 44 (leb c.rows row) ∷ []))
-
--- the refusal that has this number, or this answer where the number is 0
-abbrev pub refused_or : {A : Type 0} → ℕ → A → Result A Refusal
-refused_or zero answer = Ok answer
-refused_or (suc f) answer = Err (refusal_of (suc f))
 
 unfoldable pub pair_of : Companions → ℕ → ℕ → Result Bool Refusal
 pair_of c a b = refused_or (pair_fault c a b) (together_of c.sheet a b)

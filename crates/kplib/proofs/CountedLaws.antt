@@ -9,10 +9,9 @@ use lib.ListN.{length}
 use borrow.Author.Tests.{ltb-false, eqb-true, not-false}
 use Rattle.std.specs.Prelude.{Ok, Err}
 use Rattle.metrics.specs.declared.refusals.Refusal.{Refusal}
-use Rattle.metrics.specs.Refusals.{refusal_number}
+use Rattle.metrics.specs.Refusals.{refusal_number, refused_or}
 use Rattle.metrics.proofs.RefusalLaws.{never_zero, numbered_is}
 use Rattle.params.specs.Numbers.{falling_start, chain_count_rules, chain_count_fault}
-use Rattle.kplib.specs.Graph.{refused_or}
 use Rattle.params.proofs.CheckLaws.{none_given}
 
 pub refused_is : {A : Type 0} (refusal : Refusal) (fault : ℕ) (a : A) → refusal_number refusal ≡ fault → Err refusal ≡ refused_or fault a

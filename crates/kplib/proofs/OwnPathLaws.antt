@@ -23,7 +23,7 @@ use Rattle.params.specs.Checked.{Checked}
 use Rattle.params.specs.Numbers.{Table, Parts, Call, Rule, first_of, settings_rules, length_rules, bound_rules, limit_rules, first_fault}
 use Rattle.params.proofs.CheckLaws.{none_given, goes_on}
 use Rattle.params.proofs.CheckedLaws.{accepted}
-use Rattle.kplib.specs.Graph.{is_chain_in, refused_or}
+use Rattle.kplib.specs.Graph.{is_chain_in}
 use Rattle.kplib.specs.Parts.{part_lists}
 use Rattle.kplib.specs.Sums.{total_of}
 use Rattle.kplib.specs.Score.{start, target_of, list_score, greater_of, after_list, after_lists, total_score, chain_score, scores_of}
@@ -38,6 +38,7 @@ use Rattle.kplib.proofs.RoundingLaws.{no}
 use Rattle.kplib.proofs.MemberLaws.{member, rising_length}
 use Rattle.kplib.proofs.BestKeptLaws.{best_kept}
 use Rattle.kplib.proofs.ProposalLaws.{no_fault}
+use Rattle.metrics.specs.Refusals.{refused_or}
 
 -- ---- the list that won
 not_below_itself : (x : Float) → lt x x ≡ false

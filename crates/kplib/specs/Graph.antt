@@ -1,7 +1,7 @@
 -- Document 01, "Parts, graph, paths", and document 02, P5: nodes, edges, chains and their number N. Chains are written last row first (paths, specs/Chains).
-use Rattle.std.specs.Prelude.{ℕ, zero, suc, ◌+◌, ◌-◌, min, Bool, not, List, length, get_or, Result, Ok, Err}
+use Rattle.std.specs.Prelude.{ℕ, ◌+◌, ◌-◌, min, Bool, not, List, length, get_or, Result, Ok, Err}
 use Rattle.metrics.specs.declared.refusals.Refusal.{Refusal}
-use Rattle.metrics.specs.Refusals.{refusal_of}
+use Rattle.metrics.specs.Refusals.{refused_or}
 use Rattle.metrics.specs.Similarity.{overlaps_of}
 use Rattle.paths.specs.Chains.{extends, is_chain}
 use Rattle.paths.specs.Count.{may_follow, chain_count}
@@ -32,11 +32,6 @@ is_chain_in starts ends full = is_chain (may_follow_in starts ends full) (length
 -- N: the number of ascending lists of rows without an overlapping pair, the empty one counted; 1 in a bare graph
 abbrev pub chains_of : List ℕ → List ℕ → Bool → ℕ
 chains_of starts ends full = chain_count (edge starts ends) (length starts) full
-
--- the refusal of this number, or this answer where the number is 0
-abbrev pub refused_or : {A : Type 0} → ℕ → A → Result A Refusal
-refused_or zero a = Ok a
-refused_or (suc fault) a = Err (refusal_of (suc fault))
 
 -- the value that the paper gives a count, 0 where it is refused; its number is what it is told as
 abbrev pub count_value : Result ℕ Refusal → ℕ

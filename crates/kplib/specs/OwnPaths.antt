@@ -4,7 +4,7 @@ use Rattle.std.specs.Float.{binary32}
 use Rattle.std.specs.Float.Ieee.{to_bits, lt}
 use Rattle.metrics.specs.Similarity.{whole}
 use Rattle.params.specs.Numbers.{Table, Parts, Call, first_of, settings_rules}
-use Rattle.kplib.specs.Graph.{is_chain_in, refused_or}
+use Rattle.kplib.specs.Graph.{is_chain_in}
 use Rattle.kplib.specs.Parts.{part_lists}
 use Rattle.kplib.specs.Sums.{size_of, features_of, total_of}
 use Rattle.kplib.specs.Score.{start, after_list, scores_of}
@@ -12,6 +12,7 @@ use Rattle.kplib.specs.Answer.{answer_of, rows_of, searches}
 use Rattle.kplib.specs.Proposal.{Proposal, proposal_of, one_of, pair_score, proposal_fault, check_of, rises_below, fewest_of}
 use Rattle.params.specs.declared.Settings.{Settings}
 use Rattle.kplib.specs.declared.pathscore.Scored.{Scored}
+use Rattle.metrics.specs.Refusals.{refused_or}
 
 -- the list by which the best was last replaced, `won` where none of these replaces it
 unfoldable pub won_by : (Scored → List ℕ → Scored) → Scored → List ℕ → List (List ℕ) → List ℕ

@@ -7,13 +7,14 @@ use Rattle.metrics.specs.Similarity.{whole}
 use Rattle.metrics.specs.declared.refusals.Refusal.{Refusal}
 use Rattle.paths.specs.Sums.{same_rows}
 use Rattle.params.specs.Numbers.{Table, Parts, Rule, rule, first_of, settings_rules, length_rules, bound_rules, limit_rules}
-use Rattle.kplib.specs.Graph.{is_chain_in, refused_or}
+use Rattle.kplib.specs.Graph.{is_chain_in}
 use Rattle.kplib.specs.Parts.{part_lists}
 use Rattle.kplib.specs.Sums.{size_of, features_of, total_of}
 use Rattle.kplib.specs.Score.{list_score}
 use Rattle.kplib.specs.Scoring.{Tables, AllBelow}
 use Rattle.params.specs.declared.Settings.{Settings}
 use Rattle.kplib.specs.declared.pathscore.Scores.{Scores}
+use Rattle.metrics.specs.Refusals.{refused_or}
 
 -- a list is one of these
 abbrev pub one_of : List ℕ → List (List ℕ) → Bool

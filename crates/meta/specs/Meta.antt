@@ -1,8 +1,8 @@
 -- Document 02, P12: the data of 1 to 8 samples, and what making and combining it come to.
-use Rattle.std.specs.Prelude.{ℕ, zero, suc, ◌+◌, ◌^◌, Bool, not, cond, ◌&&◌, ◌||◌, List, [], ◌∷◌, leb, ltb, eqb, get_or, set, replicate, Result, Ok, Err}
+use Rattle.std.specs.Prelude.{ℕ, zero, suc, ◌+◌, ◌^◌, Bool, not, cond, ◌&&◌, ◌||◌, List, [], ◌∷◌, leb, ltb, eqb, get_or, set, replicate, Result}
 use Rattle.std.specs.Int.Bits.{bit_or}
 use Rattle.metrics.specs.declared.refusals.Refusal.{Refusal}
-use Rattle.metrics.specs.Refusals.{refusal_of}
+use Rattle.metrics.specs.Refusals.{refused_or}
 use Rattle.params.specs.Numbers.{Rule, rule, first_of, any_below}
 use Rattle.meta.specs.declared.HaplotypeMeta.{HaplotypeMeta}
 
@@ -94,11 +94,6 @@ abbrev pub combined_two : HaplotypeMeta → HaplotypeMeta → Combined
 combined_two a b = combined_unless (combine_fault a b) a b
 
 -- ---- what the code gives of it
-
--- the refusal that has this number, or the data where the number is 0
-abbrev pub refused_or : ℕ → HaplotypeMeta → Result HaplotypeMeta Refusal
-refused_or zero m = Ok m
-refused_or (suc f) m = Err (refusal_of (suc f))
 
 abbrev pub made_result : Made → Result HaplotypeMeta Refusal
 made_result r = refused_or r.refusal r.meta

@@ -1,5 +1,5 @@
 -- The numbers of documents 01 and 02 for the refusals. 0 is an accepted call.
-use Rattle.std.specs.Prelude.{ℕ, cond, ◌==◌, Result, Ok, Err}
+use Rattle.std.specs.Prelude.{ℕ, zero, suc, cond, ◌==◌, Result, Ok, Err}
 use Rattle.metrics.specs.declared.refusals.Refusal.{Refusal}
 use Rattle.metrics.specs.declared.refusals.Refusal.TheVariants.{BadK, BadFloat, BadNumber, NoVariants, TooMany, BadLengths, StartAfterEnd, FallingStart, BadSize, BadRow, QueueRoom, AnswerRoom, TooManyLetters, RepeatedNumber, EmptyRow, UnknownKind, CutShort, OutOfPlace, BadPadding, BadFlag, BytesAfterEnd, TooLarge, TooManyHaplotypes, NumberNotRow, LettersOne, LittleRoom, BadLine, SecondName, TooManyLines, LittleTextRoom, MissingRow, MissingVersion, VersionsUsed, LittleBookRoom, BrokenBook, NotItsSheet, BadSamples, NoSuchSample, UnequalSamples, CoverageOverflow, LongProposal}
 
@@ -62,3 +62,8 @@ refusal_of n =
 abbrev pub told : {A : Type 0} → Result A Refusal → ℕ
 told (Ok a) = 0
 told (Err refusal) = refusal_number refusal
+
+-- the refusal that has this number, or this answer where the number is 0
+abbrev pub refused_or : {A : Type 0} → ℕ → A → Result A Refusal
+refused_or zero answer = Ok answer
+refused_or (suc n) answer = Err (refusal_of (suc n))
