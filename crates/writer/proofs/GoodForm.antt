@@ -12,8 +12,9 @@ use borrow.Author.Tests.{lt-ltb, lt-leb, leb-true}
 use Rattle.params.specs.declared.Settings.{Settings}
 use Rattle.form.specs.declared.records.State.{State}
 use Rattle.form.specs.declared.records.Counts.{Counts}
-use Rattle.form.specs.declared.records.Scan.{Scan}
-use Rattle.form.specs.declared.records.Scan.TheVariants.{Good, Refused}
+use Rattle.std.specs.Prelude.{Result, Ok, Err}
+use Rattle.metrics.specs.declared.refusals.Refusal.{Refusal}
+use Rattle.metrics.specs.declared.refusals.Refusal.TheVariants.{CutShort}
 use Rattle.fields.specs.Fields.{le2, le4, bytes2, bytes4, bytes8}
 use Rattle.form.specs.Settings40.{flag}
 use Rattle.form.specs.Settings40.{settings_bytes, number_bytes, float_bytes}
@@ -156,8 +157,8 @@ owed_less st b l phase breaks o = record { phase_is = o.phase_is; breaks_are = o
         (split (leb (length l) 16))
 
 -- good, whatever the counts
-IsGood : Scan → Type 0
-IsGood v = (c : Counts) × (v ≡ Good c)
+IsGood : Result Counts Refusal → Type 0
+IsGood v = (c : Counts) × (v ≡ Ok c)
 
 -- from any state of a phase in which nothing is owed, the rest is good
 GoodFrom : List ℕ → ℕ → ℕ → Type 0
@@ -307,9 +308,9 @@ module _ (breaks phase : ℕ) (later : phase ≡ 0 → ⊥) (st : State) (o : Ow
   unfolding kind_of body_len
   end_sound = sym (fault_none_end st End [] refl 0 refl (omega arith) end_placed (sym (not_next st End refl)) end_flags end_few (sym (pad_rest st End [] refl)) refl (omega arith))
 
-  end_step : run (0 ∷ []) 0 st ≡ Good (counted st)
+  end_step : run (0 ∷ []) 0 st ≡ Ok (counted st)
   unfolding run kind_of body_len
-  end_step = judge_done (fault_of st End []) End st (Refused 21) end_sound refl
+  end_step = judge_done (fault_of st End []) End st (Err CutShort) end_sound refl
 
 end_good : (breaks : ℕ) → Later (0 ∷ []) breaks
 unfolding Later GoodFrom IsGood
@@ -381,7 +382,7 @@ table_later : (e : Edition) → table_phase e ≡ 0 → ⊥
 table_later One z = omega arith
 table_later Two z = omega arith
 
-pub job_good : (e : Edition) (numbers : List ℕ) (job : Job) → JobHolds e job → (c : Counts) × (run (job_bytes e numbers job) 0 outset ≡ Good c)
+pub job_good : (e : Edition) (numbers : List ℕ) (job : Job) → JobHolds e job → (c : Counts) × (run (job_bytes e numbers job) 0 outset ≡ Ok c)
 unfolding job_bytes IsGood GoodFrom Later
 job_good e numbers job h =
     let end : List ℕ = haplotypes_bytes job.haplotypes ++ (0 ∷ []) in

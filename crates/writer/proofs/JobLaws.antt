@@ -11,8 +11,11 @@ use lib.Seq.{sets, slice, drop-cons, sets-eq}
 use borrow.Author.Tests.{lt-ltb, le-ltb, ltb-false, eqb-true, ne_eqb}
 use Rattle.params.specs.declared.Settings.{Settings}
 use Rattle.std.specs.declared.option.Option.TheVariants.{None, Some}
-use Rattle.writer.specs.declared.Writing.{Writing}
-use Rattle.writer.specs.declared.Writing.TheVariants.{Refused, Wrote}
+use Rattle.std.specs.Prelude.{Result, Ok, Err}
+use Rattle.metrics.specs.declared.refusals.Refusal.{Refusal}
+use Rattle.metrics.specs.declared.refusals.Refusal.TheVariants.{LittleRoom}
+use Rattle.metrics.specs.Refusals.{refusal_number}
+use Rattle.metrics.proofs.RefusalLaws.{never_zero, refusal_is}
 use Rattle.fields.specs.Fields.{bytes2, bytes4}
 use Rattle.form.specs.Form.{kind_of, body_len}
 use Rattle.form.specs.Job.{records_for, sequence_bytes, part_body, settings_record, variant_record, variant_bytes, part_bytes, variants_bytes, parts_bytes, haplotypes_bytes, job_bytes, Part}
@@ -324,15 +327,15 @@ module _ (e : Edition) (numbers : List ℕ) (s : Settings) (t : Lent) (out : Lis
   least = settings_size e + 1 + length t.breaks + (total (variant_kind_by e) t.counts + total 3 t.part_counts)
 
   -- answered so, with what stands in the lent room then
-  abbrev Answered : Writing → List ℕ → Type 0
+  abbrev Answered : Result ℕ Refusal → List ℕ → Type 0
   Answered r u = (r ≡ writing_of e numbers s t (length out)) × (u ≡ out_after r bytes out)
 
-  pub write_fault_lem : (n : ℕ) → n ≡ writing_fault e numbers s t → (n ≡ 0 → ⊥) → Answered (Refused n) out
+  pub write_fault_lem : (refusal : Refusal) → refusal_number refusal ≡ writing_fault e numbers s t → Answered (Err refusal) out
   unfolding writing_of out_after
-  write_fault_lem n f some = (sym (rw (sym f, ne_eqb n 0 some)), refl)
+  write_fault_lem refusal f = (sym (rw (sym f, ne_eqb (refusal_number refusal) 0 (never_zero refusal)) (ap (λ (r : Refusal). Err r) (refusal_is refusal))), refl)
 
   module _ (none : 0 ≡ writing_fault e numbers s t) where
-    pub write_short : None ≡ left_of least (length out) → Answered (Refused 30) out
+    pub write_short : None ≡ left_of least (length out) → Answered (Err LittleRoom) out
     unfolding writing_of out_after
     write_short short =
         let h = short_had _ _ short in
@@ -347,7 +350,7 @@ module _ (e : Edition) (numbers : List ℕ) (s : Settings) (t : Lent) (out : Lis
         let k = job_total e numbers s t (agreed t ok.agrees) in
         record { agrees = ok.agrees; fits = omega (arith, h.fits, k) }
 
-    pub wrote : JobFits e numbers s t (length out) → {r : ℕ} {u : List ℕ} → Put out u 0 r bytes → Answered (Wrote r) u
+    pub wrote : JobFits e numbers s t (length out) → {r : ℕ} {u : List ℕ} → Put out u 0 r bytes → Answered (Ok r) u
     unfolding writing_of out_after
     wrote fit {r} {u} p =
         let z : 0 + length bytes ≡ length bytes = omega arith in

@@ -9,19 +9,19 @@ use lib.Dec.{ltb, eqb}
 use lib.ListN.{length, get_or, drop, length-drop, length-take}
 use lib.Seq.{slice}
 use borrow.Author.Tests.{ltb-false, eqb-true, eqb-false}
+use Rattle.std.specs.Prelude.{Result, Ok, Err}
+use Rattle.metrics.specs.declared.refusals.Refusal.{Refusal}
+use Rattle.metrics.specs.declared.refusals.Refusal.TheVariants.{LittleRoom}
+use Rattle.metrics.specs.Refusals.{refusal_of}
 use Rattle.params.specs.declared.Settings.{Settings}
 use Rattle.metrics.specs.Placed.{placed}
 use Rattle.form.specs.declared.records.Counts.{Counts}
 use Rattle.form.specs.declared.records.Edition.{Edition}
 use Rattle.form.specs.declared.records.Edition.TheVariants.{One, Two}
-use Rattle.form.specs.declared.records.Scan.{Scan}
 use Rattle.form.specs.Form.{kind_of}
 use Rattle.form.specs.Job.{Variant, Part, Job, Read, Held, job_of, read_of, read_job, edition_of, settings_by, row_numbers, numbers_by, numbers_of}
 use Rattle.form.specs.Job.{settings_record, job_bytes}
 use Rattle.form.specs.Lent.{Lent, sum, job_counts}
-use Rattle.writer.specs.declared.Writing.TheVariants.{Refused as Declined, Wrote}
-use Rattle.reader.specs.declared.Reading.TheVariants.{Job as Given}
-use Rattle.reader.specs.declared.numbers.Numbering.TheVariants.{Numbers}
 use Rattle.reader.specs.Reading.{has_room, reading_of, lent_after, numbers_fit, numbering_of, numbers_after}
 use Rattle.writer.specs.Writing.{any_over, numbers_agree, letters_lost, variants_from, parts_from, job_from, writing_fault, writing_of}
 use Rattle.writer.specs.Holds.{SettingsHold, LettersHold, VariantsHold, PartsHold, JobHolds, NumbersHold, LentHolds}
@@ -45,7 +45,7 @@ job_back e numbers job h =
     let s : List ℕ = job_bytes e numbers job in
     let p : settings_by (edition_of s) (drop 1 s) ≡ job.settings = ap (λ (x : Edition). settings_by x (drop 1 s)) (edition_back e numbers job) ∙ settings_are e numbers job h in
     let q = variants_are e numbers job h in let r = haplotypes_are e numbers job h in
-    ap (λ (v : Scan). read_of v (job_of s)) (job_good e numbers job h).1
+    ap (λ (v : Result Counts Refusal). read_of v (job_of s)) (job_good e numbers job h).1
     ∙ (λ i. Held (record { settings = p i; variants = q i; haplotypes = r i }))
 
 numbers_by_lem : (e : Edition) (numbers : List ℕ) (job : Job) → JobHolds e job → NumbersHold numbers → numbers_agree e (length numbers) (length job.variants) ≡ true
@@ -64,11 +64,11 @@ long_kept One numbers v agrees = long_rows v
 long_kept Two numbers v agrees = eqb-true _ _ agrees
 
 -- ---- a job that the writer accepts
-no_fault : (t : Bool) (f m n : ℕ) (b : Bool) → eqb f 0 ≡ t → cond t (cond b (Declined 30) (Wrote m)) (Declined f) ≡ Wrote n → f ≡ 0
+no_fault : (t : Bool) (f m n : ℕ) (b : Bool) → eqb f 0 ≡ t → cond t (cond b (Err LittleRoom) (Ok m)) (Err (refusal_of f)) ≡ Ok n → f ≡ 0
 no_fault true f m n b e h = eqb-true f 0 e
 no_fault false f m n b e h = let z : ◌≡◌ {A = ℕ} 1 0 = cc in let w : ⊥ = omega arith in absurd w
 
-accepts : (e : Edition) (numbers : List ℕ) (s : Settings) (t : Lent) (room n : ℕ) → writing_of e numbers s t room ≡ Wrote n → Sound e numbers s t
+accepts : (e : Edition) (numbers : List ℕ) (s : Settings) (t : Lent) (room n : ℕ) → writing_of e numbers s t room ≡ Ok n → Sound e numbers s t
 unfolding writing_of
 accepts e numbers s t room n h =
     sound e numbers s t (no_fault (eqb (writing_fault e numbers s t) 0) (writing_fault e numbers s t) (length (job_bytes e numbers (job_from s t))) n
@@ -106,7 +106,7 @@ module _ (t : Lent) (h : LentHolds t) where
       let k = few r in let l = short_slice p (get_or t.part_counts r 0) t.letters in
       (record { size = h.part_sizes r; letters = omega (arith, k, l) }, parts_hold few n (suc r) (p + get_or t.part_counts r 0))
 
-  module _ (e : Edition) (numbers : List ℕ) (u : NumbersHold numbers) (s : Settings) (g : SettingsHold s) (room n : ℕ) (wrote : writing_of e numbers s t room ≡ Wrote n) where
+  module _ (e : Edition) (numbers : List ℕ) (u : NumbersHold numbers) (s : Settings) (g : SettingsHold s) (room n : ℕ) (wrote : writing_of e numbers s t room ≡ Ok n) where
     abbrev bytes : List ℕ
     bytes = job_bytes e numbers (job_from s t)
 
@@ -142,7 +142,7 @@ module _ (t : Lent) (h : LentHolds t) where
     written_back : (read_job bytes ≡ Held (job_from s t)) × (numbers_of bytes ≡ kept)
     written_back = (job_back e numbers (job_from s t) job_holds, numbers_there)
 
-    read_back : (w : Lent) → has_room (lent_counts t) w ≡ true → (reading_of (read_job bytes) w ≡ Given s (lent_counts t)) × (lent_after (read_job bytes) w ≡ laid_over w t)
+    read_back : (w : Lent) → has_room (lent_counts t) w ≡ true → (reading_of (read_job bytes) w ≡ Ok (s, lent_counts t)) × (lent_after (read_job bytes) w ≡ laid_over w t)
     unfolding reading_of lent_after job_from
     read_back w fits =
         let b = written_back.0 in
@@ -152,11 +152,11 @@ module _ (t : Lent) (h : LentHolds t) where
         )
 
     numbers_read_back : (old : List ℕ) → numbers_fit kept (length old) ≡ true
-        → (numbering_of (read_job bytes) (numbers_of bytes) (length old) ≡ Numbers (length t.starts)) × (numbers_after (read_job bytes) (numbers_of bytes) old ≡ placed old kept)
+        → (numbering_of (read_job bytes) (numbers_of bytes) (length old) ≡ Ok (length t.starts)) × (numbers_after (read_job bytes) (numbers_of bytes) old ≡ placed old kept)
     unfolding numbering_of numbers_after
     numbers_read_back old fits =
         let b = written_back in (
-          (λ i. numbering_of (b.0 i) (b.1 i) (length old)) ∙ rw fits (ap Numbers (long_kept e numbers (length t.starts) ok.numbered)),
+          (λ i. numbering_of (b.0 i) (b.1 i) (length old)) ∙ rw fits (ap (λ (m : ℕ). Ok m) (long_kept e numbers (length t.starts) ok.numbered)),
           (λ i. numbers_after (b.0 i) (b.1 i) old) ∙ rw fits,
         )
 

@@ -1,6 +1,6 @@
 -- Document 01, "Job form", and change requests P1 and P7: a writer makes the same bytes from the same job (`job_bytes` is a function of it, of its record numbers and of the edition);
 -- reading them back gives the job, the edition and the record numbers, said once over both editions.
-use Rattle.std.specs.Prelude.{ℕ, ◌≡◌, List, true, length}
+use Rattle.std.specs.Prelude.{ℕ, ◌≡◌, List, true, length, Ok}
 use Rattle.params.specs.declared.Settings.{Settings}
 use Rattle.form.specs.Job.{Job, Held, read_job, job_bytes, edition_of, row_numbers, numbers_of}
 use Rattle.metrics.specs.Placed.{placed}
@@ -11,9 +11,6 @@ use Rattle.writer.specs.Holds.{SettingsHold, JobHolds, NumbersHold, LentHolds}
 use Rattle.form.specs.declared.records.Counts.{Counts}
 use Rattle.form.specs.declared.records.Edition.{Edition}
 use Rattle.form.specs.declared.records.Edition.TheVariants.{One, Two}
-use Rattle.reader.specs.declared.Reading.TheVariants.{Job as Given}
-use Rattle.reader.specs.declared.numbers.Numbering.TheVariants.{Numbers}
-use Rattle.writer.specs.declared.Writing.TheVariants.{Wrote}
 
 -- the slices of t at the fronts of those of u, whose rest is as it was
 unfoldable pub laid_over : Lent → Lent → Lent
@@ -47,7 +44,7 @@ pub record RoundTrip : Type 0 where
       → numbers_of (job_bytes e numbers job) ≡ numbers_kept e numbers (length job.variants)
   -- and so for whatever the writer accepts: reading what it wrote gives the job that the slices held, and the record numbers
   pub written_back : (e : Edition) (numbers : List ℕ) → NumbersHold numbers → (s : Settings) → SettingsHold s → (t : Lent) → LentHolds t
-      → (room n : ℕ) → writing_of e numbers s t room ≡ Wrote n
+      → (room n : ℕ) → writing_of e numbers s t room ≡ Ok n
       → (read_job (job_bytes e numbers (job_from s t)) ≡ Held (job_from s t))
       × (numbers_of (job_bytes e numbers (job_from s t)) ≡ numbers_kept e numbers (length t.starts))
   -- that job holds all that lent slices whose lengths agree hold: every row, break and letter of them comes back, into any other slices
@@ -56,11 +53,11 @@ pub record RoundTrip : Type 0 where
   -- and so from slices to slices, where they have the room: the reader answers the settings and the counts that the writer was given,
   -- and the slices lent to it hold at their fronts what the writer's held
   pub read_back : (e : Edition) (numbers : List ℕ) → NumbersHold numbers → (s : Settings) → SettingsHold s → (t : Lent) → LentHolds t
-      → (room n : ℕ) → writing_of e numbers s t room ≡ Wrote n → (u : Lent) → has_room (lent_counts t) u ≡ true
-      → (reading_of (read_job (job_bytes e numbers (job_from s t))) u ≡ Given s (lent_counts t))
+      → (room n : ℕ) → writing_of e numbers s t room ≡ Ok n → (u : Lent) → has_room (lent_counts t) u ≡ true
+      → (reading_of (read_job (job_bytes e numbers (job_from s t))) u ≡ Ok (s, lent_counts t))
       × (lent_after (read_job (job_bytes e numbers (job_from s t))) u ≡ laid_over u t)
   -- the record numbers likewise, in a slice of their own
   pub numbers_read_back : (e : Edition) (numbers : List ℕ) → NumbersHold numbers → (s : Settings) → SettingsHold s → (t : Lent) → LentHolds t
-      → (room n : ℕ) → writing_of e numbers s t room ≡ Wrote n → (old : List ℕ) → numbers_fit (numbers_kept e numbers (length t.starts)) (length old) ≡ true
-      → (numbering_of (read_job (job_bytes e numbers (job_from s t))) (numbers_of (job_bytes e numbers (job_from s t))) (length old) ≡ Numbers (length t.starts))
+      → (room n : ℕ) → writing_of e numbers s t room ≡ Ok n → (old : List ℕ) → numbers_fit (numbers_kept e numbers (length t.starts)) (length old) ≡ true
+      → (numbering_of (read_job (job_bytes e numbers (job_from s t))) (numbers_of (job_bytes e numbers (job_from s t))) (length old) ≡ Ok (length t.starts))
       × (numbers_after (read_job (job_bytes e numbers (job_from s t))) (numbers_of (job_bytes e numbers (job_from s t))) old ≡ placed old (numbers_kept e numbers (length t.starts)))

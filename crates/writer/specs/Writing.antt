@@ -1,5 +1,8 @@
 -- Document 01, "Job form", and change requests P1 and P7: the job that ten lent slices hold, and what writing it in an edition answers. Record numbers stand beside the job.
-use Rattle.std.specs.Prelude.{ℕ, zero, suc, ◌+◌, ◌-◌, List, [], ◌∷◌, Bool, true, false, not, ◌&&◌, ◌||◌, cond, ℤ, pos, length, get_or, take, drop, eqb, leb, ltb}
+use Rattle.std.specs.Prelude.{ℕ, zero, suc, ◌+◌, ◌-◌, List, [], ◌∷◌, Bool, true, false, not, ◌&&◌, ◌||◌, cond, ℤ, pos, length, get_or, take, drop, eqb, leb, ltb, Result, Ok, Err}
+use Rattle.metrics.specs.declared.refusals.Refusal.{Refusal}
+use Rattle.metrics.specs.declared.refusals.Refusal.TheVariants.{LittleRoom}
+use Rattle.metrics.specs.Refusals.{refusal_of}
 use Rattle.std.proofs.Math.Seq.{slice}
 use Rattle.params.specs.declared.Settings.{Settings}
 use Rattle.form.specs.Form.{most_breaks}
@@ -8,8 +11,6 @@ use Rattle.form.specs.declared.records.Edition.{Edition}
 use Rattle.form.specs.declared.records.Edition.TheVariants.{One, Two}
 use Rattle.metrics.specs.Placed.{placed}
 use Rattle.form.specs.Lent.{Lent, sum}
-use Rattle.writer.specs.declared.Writing.{Writing}
-use Rattle.writer.specs.declared.Writing.TheVariants.{Refused, Wrote}
 
 -- n variants from row r on, whose letters begin at a position; and n parts
 unfoldable pub variants_from : List ℕ → List ℕ → List ℤ → List Bool → List ℕ → List ℕ → ℕ → ℕ → ℕ → List Variant
@@ -89,13 +90,13 @@ writing_fault e numbers s t =
     (cond (letters_lost e s.letters) 29 0))))
 
 -- refused by these and then 30; else the number of bytes written
-unfoldable pub writing_of : Edition → List ℕ → Settings → Lent → ℕ → Writing
+unfoldable pub writing_of : Edition → List ℕ → Settings → Lent → ℕ → Result ℕ Refusal
 writing_of e numbers s t room =
     let fault = writing_fault e numbers s t in
     let long = length (job_bytes e numbers (job_from s t)) in
-    cond (eqb fault 0) (cond (ltb room long) (Refused 30) (Wrote long)) (Refused fault)
+    cond (eqb fault 0) (cond (ltb room long) (Err LittleRoom) (Ok long)) (Err (refusal_of fault))
 
 -- what the lent room holds after the answer: the bytes at the front, or what it held
-unfoldable pub out_after : Writing → List ℕ → List ℕ → List ℕ
-out_after (Refused n) bytes old = old
-out_after (Wrote n) bytes old = placed old bytes
+unfoldable pub out_after : Result ℕ Refusal → List ℕ → List ℕ → List ℕ
+out_after (Err refusal) bytes old = old
+out_after (Ok n) bytes old = placed old bytes

@@ -4,6 +4,7 @@
 ghost use Rattle.std.specs.Prelude.{◌≡◌, ◌∷◌, ◌≤◌, ◌<◌, ◌+◌, ◌^◌, suc, ◌*◌, ◌-◌, eqb, length, take, drop, get_or};
 ghost use Rattle.std.proofs.lemmas.List.Edits.{sets};
 ghost use Rattle.std.proofs.Math.Seq.{slice};
+ghost use Rattle.metrics.specs.Refusals.{told};
 ghost use Rattle.form.specs.Form.{most_breaks, part_kind, letters_kind, part_len, letters_len};
 ghost use Rattle.form.specs.Job.{padded, records_for, sequence_bytes, part_body, settings_record, variant_record, variants_bytes, parts_bytes, haplotypes_bytes, job_bytes};
 ghost use Rattle.form.specs.Lent.{lent, sum};
@@ -18,16 +19,8 @@ use form::records::{
     VARIANT2, VARIANT2_RECORD, body_len, kind_of,
 };
 use form::settings::{write_settings, write_settings41};
-use metrics::refusals::{
-    BAD_FLAG, BAD_LENGTHS, LETTERS_ONE, LITTLE_ROOM, TOO_MANY_HAPLOTYPES, TOO_MANY_LETTERS,
-};
+use metrics::refusals::Refusal;
 use params::Settings;
-
-#[derive(Clone, Copy)]
-pub enum Writing {
-    Refused(u32),
-    Wrote(usize),
-}
 
 // How far the writing has come: the next byte, and the next letter.
 #[derive(Clone, Copy)]
@@ -427,7 +420,7 @@ fn lay_job(
     at + 1
 }
 
-// What no room mends: 27, 6, 24, 13 or 29, or 0.
+// What no room mends: 27, 6, 24, 13 or 29.
 fn writing_fault(
     edition: Edition,
     settings: Settings,
@@ -442,16 +435,16 @@ fn writing_fault(
     part_letter_counts: &[u32],
     breaks: &[u64],
     letters: &[u8],
-) -> u32
-    ensures { result ≡ writing_fault edition numbers.now settings (lent
+) -> Result<(), Refusal>
+    ensures { told result ≡ writing_fault edition numbers.now settings (lent
         starts.now ends.now sizes.now negatives.now letter_counts.now
         part_sizes.now part_negatives.now part_letter_counts.now breaks.now letters.now) }
 {
     if MOST_BREAKS < breaks.len() {
-        return TOO_MANY_HAPLOTYPES;
+        return Err(Refusal::TooManyHaplotypes);
     }
     if !numbers_agree(edition, numbers.len(), starts.len()) {
-        return BAD_LENGTHS;
+        return Err(Refusal::BadLengths);
     }
     if !rows_agree(
         starts.len(),
@@ -460,34 +453,34 @@ fn writing_fault(
         negatives.len(),
         letter_counts.len(),
     ) {
-        return BAD_LENGTHS;
+        return Err(Refusal::BadLengths);
     }
     if !parts_agree(
         part_sizes.len(),
         part_negatives.len(),
         part_letter_counts.len(),
     ) {
-        return BAD_LENGTHS;
+        return Err(Refusal::BadLengths);
     }
     if !letters_agree(letter_counts, part_letter_counts, letters.len()) {
-        return BAD_LENGTHS;
+        return Err(Refusal::BadLengths);
     }
     if !breaks_agree(part_sizes.len(), breaks) {
-        return BAD_LENGTHS;
+        return Err(Refusal::BadLengths);
     }
     if 1 < settings.letters {
-        return BAD_FLAG;
+        return Err(Refusal::BadFlag);
     }
     if any_over(letter_counts) {
-        return TOO_MANY_LETTERS;
+        return Err(Refusal::TooManyLetters);
     }
     if any_over(part_letter_counts) {
-        return TOO_MANY_LETTERS;
+        return Err(Refusal::TooManyLetters);
     }
     if letters_lost(edition, settings.letters) {
-        return LETTERS_ONE;
+        return Err(Refusal::LettersOne);
     }
-    0
+    Ok(())
 }
 
 // The job that the slices hold, written in an edition at the front of `out`, or refused with nothing written.
@@ -506,12 +499,12 @@ fn write_by(
     breaks: &[u64],
     letters: &[u8],
     out: &mut [u8],
-) -> Writing
+) -> Result<usize, Refusal>
     ensures { WrittenBy edition numbers.now settings (lent
         starts.now ends.now sizes.now negatives.now letter_counts.now
         part_sizes.now part_negatives.now part_letter_counts.now breaks.now letters.now) out.old out.new result }
 {
-    let fault = writing_fault(
+    writing_fault(
         edition,
         settings,
         numbers,
@@ -525,10 +518,7 @@ fn write_by(
         part_letter_counts,
         breaks,
         letters,
-    );
-    if fault != 0 {
-        return Writing::Refused(fault);
-    }
+    )?;
     let room = spare(
         edition,
         letter_counts,
@@ -537,8 +527,8 @@ fn write_by(
         out.len(),
     );
     match room {
-        None => Writing::Refused(LITTLE_ROOM),
-        Some(_) => Writing::Wrote(lay_job(
+        None => Err(Refusal::LittleRoom),
+        Some(_) => Ok(lay_job(
             edition,
             settings,
             numbers,
@@ -571,7 +561,7 @@ pub fn write_job(
     breaks: &[u64],
     letters: &[u8],
     out: &mut [u8],
-) -> Writing
+) -> Result<usize, Refusal>
     ensures { WriteJobPromise settings starts.now ends.now sizes.now negatives.now letter_counts.now
         part_sizes.now part_negatives.now part_letter_counts.now breaks.now letters.now out.old out.new result }
 {
@@ -608,7 +598,7 @@ pub fn write_numbered_job(
     breaks: &[u64],
     letters: &[u8],
     out: &mut [u8],
-) -> Writing
+) -> Result<usize, Refusal>
     ensures { WriteNumberedJobPromise settings numbers.now starts.now ends.now sizes.now negatives.now letter_counts.now
         part_sizes.now part_negatives.now part_letter_counts.now breaks.now letters.now out.old out.new result }
 {
