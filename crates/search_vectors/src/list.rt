@@ -80,8 +80,26 @@ pub(crate) fn read_changes<R: Read>(
     }
 }
 
-// The settings of a job that has nothing else.
-pub(crate) fn settings_of(head: &[u8]) -> Option<Settings> {
+// Settings that are refused, by their k.
+const NO_SETTINGS: Settings = Settings {
+    k: 0,
+    squish: false,
+    one_to_one: false,
+    full: false,
+    maxpaths: 0,
+    maxnodes: 0,
+    fnmax: 0,
+    pileupmax: 0,
+    minkfreq: 0,
+    letters: 0,
+    sizesim: 0.0,
+    seqsim: 0.0,
+    fpenalty: 0.0,
+    gpenalty: 0.0,
+};
+
+// The settings of a job that has nothing else. A list that holds another record there is answered with a k that is refused.
+pub(crate) fn settings_of(head: &[u8]) -> Settings {
     let mut starts = [0u64; 1];
     let mut ends = [0u64; 1];
     let mut sizes = [0i32; 1];
@@ -106,7 +124,7 @@ pub(crate) fn settings_of(head: &[u8]) -> Option<Settings> {
         &mut letters,
     );
     match reading {
-        Reading::Refused(_) => None,
-        Reading::Job(settings, _) => Some(settings),
+        Reading::Job(settings, _) => settings,
+        Reading::Refused(_) => NO_SETTINGS,
     }
 }

@@ -44,15 +44,13 @@ fn ask(
     print_answer(rt, answer, &rows)
 }
 
-// Reads one call, asks it and prints the answer. False where the list ends, or has no settings next.
+// Reads one call, asks it and prints the answer. False where the list ends.
 fn answer_next<R: Read>(rt: &impl Print, input: &mut R) -> io::Result<bool> {
     let mut head = [0u8; 42];
     if read_full(input, &mut head) < head.len() {
         return Ok(false);
     }
-    let Some(settings) = settings_of(&head) else {
-        return Ok(false);
-    };
+    let settings = settings_of(&head);
     let mut lengths = [0u32; 9];
     for length in &mut lengths {
         *length = word(input);
