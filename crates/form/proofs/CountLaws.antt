@@ -14,8 +14,10 @@ use Rattle.form.specs.declared.records.Kind.{Kind}
 use Rattle.form.specs.declared.records.Kind.TheVariants.{End, Settings, Variant as VariantRecord, Part as PartRecord, Letters, Next, Settings2, Variant2, Unknown}
 use Rattle.form.specs.declared.records.State.{State}
 use Rattle.form.specs.declared.records.Counts.{Counts}
-use Rattle.form.specs.declared.records.Scan.{Scan}
-use Rattle.form.specs.declared.records.Scan.TheVariants.{Good, Refused}
+use Rattle.std.specs.Prelude.{Result, Ok, Err}
+use Rattle.metrics.specs.declared.refusals.Refusal.{Refusal}
+use Rattle.metrics.specs.Refusals.{refusal_of}
+use Rattle.metrics.proofs.RefusalLaws.{refusal_is}
 use Rattle.form.specs.Form.{kind_of, is_end, is_variant, is_part, is_letters, is_next, is_unknown, body_len, in_place, too_many, flags_ok, count_of, pad_ok, fault_of, after, run, outset, counted}
 use Rattle.form.specs.Job.{Variant, Part, letters_after, variant_of, part_of, variant_here, part_here, gather, to_first, haplotypes_here, haplotypes_in, job_of, read_of, read_job}
 use Rattle.form.specs.Lent.{variant_letters, part_letters, breaks_of, job_counts, scan_of}
@@ -157,7 +159,7 @@ pub record Tally (s : List ℕ) (n : ℕ) (st : State) (c : Counts) : Type 0 whe
   pub breaks : c.breaks + 1 ≡ st.breaks + length (haplotypes_in s n)
   pub letters : c.letters ≡ st.letters + st.left + (length (gather variant_letters_here s n) + length (gather part_letters_here s n))
 
-good_is : {c d : Counts} → Good c ≡ Good d → c ≡ d
+good_is : {c d : Counts} → ◌≡◌ {A = Result Counts Refusal} (Ok c) (Ok d) → c ≡ d
 good_is e = cc
 
 -- behind the end there is nothing
@@ -165,12 +167,12 @@ pub end_empty : (st : State) (kind : Kind) (b : List ℕ) → fault_of st kind b
 end_empty st kind [] f e = refl
 end_empty st kind (x ∷ b) f e = let h : length (x ∷ b) ≤ 0 = none_last st kind (x ∷ b) f e in let z : ⊥ = omega arith in absurd z
 
-at_end : (st : State) (k : ℕ) (c : Counts) → kind_of k ≡ End → st.left ≡ 0 → Good (counted st) ≡ Good c → Tally (k ∷ []) 0 st c
+at_end : (st : State) (k : ℕ) (c : Counts) → kind_of k ≡ End → st.left ≡ 0 → ◌≡◌ {A = Result Counts Refusal} (Ok (counted st)) (Ok c) → Tally (k ∷ []) 0 st c
 unfolding gather haplotypes_in haplotypes_here to_first variant_here part_here variant_letters_here part_letters_here
 at_end st k c e z g =
     subst (λ (d : Counts). Tally (k ∷ []) 0 st d) (good_is g) (record { variants = rw e (omega arith); parts = rw e (omega arith); breaks = rw e; letters = rw e (omega arith) })
 
-pub tally : (s : List ℕ) (n : ℕ) (st : State) (c : Counts) → run s n st ≡ Good c → Tally s n st c
+pub tally : (s : List ℕ) (n : ℕ) (st : State) (c : Counts) → run s n st ≡ Ok c → Tally s n st c
 unfolding run gather haplotypes_in
 tally [] n st c e = let z : ◌≡◌ {A = ℕ} 1 0 = cc in absurd (never z)
 tally (k ∷ b) (suc n) st c e = let t = tally b n st c e in record { variants = t.variants; parts = t.parts; breaks = t.breaks; letters = t.letters }
@@ -179,12 +181,12 @@ tally (k ∷ b) zero st c e = ⊎_elim
     let z : fault_of st (kind_of k) b ≡ 0 = eqb-true _ _ f in
     ⊎_elim
     (λ (g : is_end (kind_of k) ≡ true).
-    let e' : Good (counted st) ≡ Good c = simp (f, g) at e in
+    let e' : ◌≡◌ {A = Result Counts Refusal} (Ok (counted st)) (Ok c) = simp (f, g) at e in
     let i : kind_of k ≡ End = end_kind_lem (kind_of k) g in
     let o : st.left ≡ 0 = owed_none st (kind_of k) (none_placed st (kind_of k) b z) (ap is_letters i) in
     subst (λ (l : List ℕ). Tally (k ∷ l) 0 st c) (sym (end_empty st (kind_of k) b z g)) (at_end st k c i o e'))
     (λ (g : is_end (kind_of k) ≡ false).
-    let e' : run b (body_len (kind_of k)) (after st (kind_of k) b) ≡ Good c = simp (f, g) at e in
+    let e' : run b (body_len (kind_of k)) (after st (kind_of k) b) ≡ Ok c = simp (f, g) at e in
     let t = tally b (body_len (kind_of k)) (after st (kind_of k) b) c e' in
     let u = turn st (kind_of k) b z in
     record {
@@ -195,7 +197,7 @@ tally (k ∷ b) zero st c e = ⊎_elim
     })
     (split (is_end (kind_of k))))
     (λ (f : eqb (fault_of st (kind_of k) b) 0 ≡ false).
-    let w : Refused (fault_of st (kind_of k) b) ≡ Good c = simp f at e in
+    let w : ◌≡◌ {A = Result Counts Refusal} (Err (refusal_of (fault_of st (kind_of k) b))) (Ok c) = simp f at e in
     let z : ◌≡◌ {A = ℕ} 1 0 = cc in absurd (never z))
     (split (eqb (fault_of st (kind_of k) b) 0))
 
@@ -240,7 +242,7 @@ letters_of_parts [] n = refl
 letters_of_parts (k ∷ b) (suc n) = letters_of_parts b n
 letters_of_parts (k ∷ b) zero = part_letters_append (part_here (kind_of k) b) _ ∙ rw (part_letters_here_lem (kind_of k) b, letters_of_parts b (body_len (kind_of k)))
 
-pub counts_are : (s : List ℕ) (c : Counts) → run s 0 outset ≡ Good c → c ≡ job_counts (job_of s)
+pub counts_are : (s : List ℕ) (c : Counts) → run s 0 outset ≡ Ok c → c ≡ job_counts (job_of s)
 unfolding job_counts job_of
 counts_are s c e =
     let t = tally s 0 outset c e in
@@ -255,6 +257,6 @@ pub scan_is : (s : List ℕ) → run s 0 outset ≡ scan_of (read_job s)
 unfolding read_job scan_of
 scan_is s = go (run s 0 outset) refl
   where
-    go : (v : Scan) → run s 0 outset ≡ v → v ≡ scan_of (read_of v (job_of s))
-    go (Refused n) e = refl
-    go (Good c) e = ap Good (counts_are s c e)
+    go : (v : Result Counts Refusal) → run s 0 outset ≡ v → v ≡ scan_of (read_of v (job_of s))
+    go (Err refusal) e = ap (λ (found : Refusal). Err found) (sym (refusal_is refusal))
+    go (Ok c) e = ap (λ (counts : Counts). Ok counts) (counts_are s c e)

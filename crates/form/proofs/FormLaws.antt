@@ -14,8 +14,12 @@ use borrow.Author.Tests.{ltb-false}
 use mathlib.Core.Logic.{◌⊎◌, inl, inr, ⊎_elim}
 use lib.Seq.{take_all, drop-drop}
 use lib.ListN.{drop_of_length-le}
-use Rattle.form.specs.declared.records.Scan.{Scan}
-use Rattle.form.specs.declared.records.Scan.TheVariants.{Good, Refused}
+use Rattle.std.specs.Prelude.{Result, Ok, Err}
+use Rattle.metrics.specs.declared.refusals.Refusal.{Refusal}
+use Rattle.form.specs.declared.records.Counts.{Counts}
+use Rattle.metrics.specs.declared.refusals.Refusal.TheVariants.{CutShort}
+use Rattle.metrics.specs.Refusals.{refusal_number}
+use Rattle.metrics.proofs.RefusalLaws.{refusal_is, never_zero}
 use Rattle.form.specs.declared.records.Kind.{Kind}
 use Rattle.form.specs.declared.records.Kind.TheVariants.{End, Letters, Unknown}
 use Rattle.form.specs.declared.records.Record.{Record}
@@ -110,10 +114,10 @@ skip [] n st = simp drop-nil
 skip (k ∷ b) zero st = refl
 skip (k ∷ b) (suc n) st = skip b n st
 
-pub judge_done : (f : ℕ) (kind : Kind) (st : State) (rest : Scan) → f ≡ 0 → is_end kind ≡ true → judge f kind st rest ≡ Good (counted st)
+pub judge_done : (f : ℕ) (kind : Kind) (st : State) (rest : Result Counts Refusal) → f ≡ 0 → is_end kind ≡ true → judge f kind st rest ≡ Ok (counted st)
 judge_done f kind st rest p q = rw (eq-eqb f 0 p, q)
 
-pub judge_more : (f : ℕ) (kind : Kind) (st : State) (rest : Scan) → f ≡ 0 → is_end kind ≡ false → judge f kind st rest ≡ rest
+pub judge_more : (f : ℕ) (kind : Kind) (st : State) (rest : Result Counts Refusal) → f ≡ 0 → is_end kind ≡ false → judge f kind st rest ≡ rest
 judge_more f kind st rest p q = rw (eq-eqb f 0 p, q)
 
 pub record_none : (s : List ℕ) (at : ℕ) → length s ≤ at → record { kind = Unknown; count = 0; next = at } ≡ record_at s at
@@ -147,11 +151,11 @@ module _ (s : List ℕ) (at : ℕ) (inside : at < length s) where
     pub record_next : r.next ≡ at + 1 + body_len r.kind
     record_next = ap (λ (x : Record). x.next) (is ∙ there) ∙ sym (rw record_kind)
 
-pub run_end : (s : List ℕ) (at : ℕ) (st : State) → length s ≤ at → Refused 21 ≡ run (drop at s) 0 st
+pub run_end : (s : List ℕ) (at : ℕ) (st : State) → length s ≤ at → Err CutShort ≡ run (drop at s) 0 st
 unfolding run
 run_end s at st h = rw (drop_of_length-le s {i = at} h)
 
-module _ (s : List ℕ) (at : ℕ) (st : State) (inside : at < length s) (here : Record) (is : here ≡ record_at s at) (f : ℕ) (fault : f ≡ fault_of st here.kind (body s at inside)) where
+module _ (s : List ℕ) (at : ℕ) (st : State) (inside : at < length s) (here : Record) (is : here ≡ record_at s at) where
   abbrev rest : List ℕ
   rest = body s at inside
 
@@ -159,21 +163,21 @@ module _ (s : List ℕ) (at : ℕ) (st : State) (inside : at < length s) (here :
   unfolding run
   run_here = rw (record_kind s at inside here is, rest_is s at inside) (ap (λ (l : List ℕ). run l 0 st) (drop-cons s at 0 inside))
 
-  pub run_refused : (f ≡ 0 → ⊥) → Refused f ≡ run (drop at s) 0 st
-  run_refused n = sym (run_here ∙ rw (sym fault, ne_eqb f 0 n))
+  pub run_refused : (refusal : Refusal) → refusal_number refusal ≡ fault_of st here.kind rest → Err refusal ≡ run (drop at s) 0 st
+  run_refused refusal fault = sym (run_here ∙ rw (sym fault, ne_eqb _ 0 (never_zero refusal)) (ap (λ (found : Refusal). Err found) (refusal_is refusal)))
 
-  module _ (none : f ≡ 0) where
+  module _ (none : 0 ≡ fault_of st here.kind rest) where
     pub room : here.next ≤ length s
     room =
-        let h : body_len here.kind ≤ length rest = fault_long st here.kind rest (sym fault ∙ none) in
+        let h : body_len here.kind ≤ length rest = fault_long st here.kind rest (sym none) in
         omega (arith, simp (length-take, length-drop) at h, record_next s at inside here is)
 
-    pub run_done : is_end here.kind ≡ true → Good (counted st) ≡ run (drop at s) 0 st
-    run_done n = sym (run_here ∙ judge_done _ here.kind st _ (sym fault ∙ none) n)
+    pub run_done : is_end here.kind ≡ true → Ok (counted st) ≡ run (drop at s) 0 st
+    run_done n = sym (run_here ∙ judge_done _ here.kind st _ (sym none) n)
 
     pub run_more : is_end here.kind ≡ false → (r : State) → r ≡ after st here.kind rest → run (drop here.next s) 0 r ≡ run (drop at s) 0 st
     run_more k r a =
         let h : suc at + body_len here.kind ≡ here.next = omega (arith, record_next s at inside here is) in
-        rw a (sym (run_here ∙ judge_more _ here.kind st _ (sym fault ∙ none) k ∙ skip rest _ _
+        rw a (sym (run_here ∙ judge_more _ here.kind st _ (sym none) k ∙ skip rest _ _
         ∙ ap (λ (l : List ℕ). run l 0 (after st here.kind rest)) (ap (drop (body_len here.kind)) (rest_is s at inside)
         ∙ drop-drop (body_len here.kind) (suc at) s ∙ ap (λ (j : ℕ). drop j s) h)))

@@ -14,7 +14,7 @@ use Rattle.form.specs.declared.records.Kind.{Kind}
 use Rattle.form.specs.declared.records.Kind.TheVariants.{End, Settings, Variant as VariantRecord, Part, Letters, Next, Settings2, Variant2, Unknown}
 use Rattle.form.specs.declared.records.State.{State}
 use Rattle.form.specs.declared.records.Counts.{Counts}
-use Rattle.form.specs.declared.records.Scan.TheVariants.{Good}
+use Rattle.std.specs.Prelude.{Ok}
 use Rattle.fields.specs.Fields.{le4}
 use Rattle.form.specs.Form.{kind_of, is_end, is_settings, is_second, letters_place, number_place, body_len, in_place, are_flags, flags_ok, fault_of, after, run, outset}
 use Rattle.form.specs.Settings40.{settings_in}
@@ -27,13 +27,13 @@ use Rattle.form.proofs.OrderLaws.{sound}
 
 -- ---- a job that was read
 module _ (s : List ℕ) {job : Job} (held : read_job s ≡ Held job) where
-  pub held_good : run s 0 outset ≡ Good (job_counts job)
+  pub held_good : run s 0 outset ≡ Ok (job_counts job)
   unfolding scan_of
   held_good = scan_is s ∙ ap scan_of held
 
   pub held_job : job_of s ≡ job
   unfolding read_job
-  held_job = let e : read_of (Good (job_counts job)) (job_of s) ≡ Held job = rw held_good at held in cc
+  held_job = let e : read_of (Ok (job_counts job)) (job_of s) ≡ Held job = rw held_good at held in cc
 
 -- ---- the first record
 first_settings : (kind : Kind) → in_place outset kind ≡ true → is_settings kind ≡ true
@@ -49,7 +49,7 @@ first_settings Variant2 h = mixed (sym h)
 first_settings Unknown h = mixed (sym h)
 
 -- it has no fault, and is settings
-pub first_record : (k : ℕ) (b : List ℕ) {c : Counts} → run (k ∷ b) 0 outset ≡ Good c → (fault_of outset (kind_of k) b ≡ 0) × (is_settings (kind_of k) ≡ true)
+pub first_record : (k : ℕ) (b : List ℕ) {c : Counts} → run (k ∷ b) 0 outset ≡ Ok c → (fault_of outset (kind_of k) b ≡ 0) × (is_settings (kind_of k) ≡ true)
 unfolding run
 first_record k b {c} e = let h = (sound outset (kind_of k) b c _ e).0 in (h, first_settings (kind_of k) (none_placed outset (kind_of k) b h))
 
@@ -67,7 +67,7 @@ flag_few Next b h f = mixed (sym h)
 flag_few Variant2 b h f = mixed (sym h)
 flag_few Unknown b h f = mixed (sym h)
 
-letters_few : (s : List ℕ) (c : Counts) → run s 0 outset ≡ Good c → (job_of s).settings.letters ≤ 1
+letters_few : (s : List ℕ) (c : Counts) → run s 0 outset ≡ Ok c → (job_of s).settings.letters ≤ 1
 unfolding run job_of
 letters_few [] c e = let z : ◌≡◌ {A = ℕ} 1 0 = cc in absurd (never z)
 letters_few (k ∷ b) c e = let h = first_record k b e in flag_few (kind_of k) b h.1 (none_flags outset (kind_of k) b h.0)
@@ -120,8 +120,8 @@ module _ (st : State) (second : Second st) where
   stays_second Unknown b h = second
 
 -- a record that adds as many numbers as variants, and the records behind it
-numbers_step : (k : ℕ) (b : List ℕ) (st : State) (c : Counts) → run (k ∷ b) 0 st ≡ Good c → length (number_here (kind_of k) b) ≡ length (variant_here (kind_of k) b)
-    → (run b (body_len (kind_of k)) (after st (kind_of k) b) ≡ Good c → length (gather number_here b (body_len (kind_of k))) ≡ length (gather variant_here b (body_len (kind_of k))))
+numbers_step : (k : ℕ) (b : List ℕ) (st : State) (c : Counts) → run (k ∷ b) 0 st ≡ Ok c → length (number_here (kind_of k) b) ≡ length (variant_here (kind_of k) b)
+    → (run b (body_len (kind_of k)) (after st (kind_of k) b) ≡ Ok c → length (gather number_here b (body_len (kind_of k))) ≡ length (gather variant_here b (body_len (kind_of k))))
     → length (gather number_here (k ∷ b) 0) ≡ length (gather variant_here (k ∷ b) 0)
 unfolding gather run
 numbers_step k b st c e here rest =
@@ -132,7 +132,7 @@ numbers_step k b st c e here rest =
     h.1 in
     simp length-append (omega arith)
 
-numbers_rest : (s : List ℕ) (n : ℕ) (st : State) (c : Counts) → run s n st ≡ Good c → Second st → length (gather number_here s n) ≡ length (gather variant_here s n)
+numbers_rest : (s : List ℕ) (n : ℕ) (st : State) (c : Counts) → run s n st ≡ Ok c → Second st → length (gather number_here s n) ≡ length (gather variant_here s n)
 unfolding gather run
 numbers_rest [] n st c e p = refl
 numbers_rest (k ∷ b) (suc n) st c e p = numbers_rest b n st c e p
@@ -153,7 +153,7 @@ first_second Settings2 b h g = (refl, omega arith)
 first_second Variant2 b h g = mixed (sym h)
 first_second Unknown b h g = mixed (sym h)
 
-pub numbers_many : (s : List ℕ) {c : Counts} → run s 0 outset ≡ Good c → length (numbers_of s) ≡ length (gather variant_here s 0)
+pub numbers_many : (s : List ℕ) {c : Counts} → run s 0 outset ≡ Ok c → length (numbers_of s) ≡ length (gather variant_here s 0)
 unfolding run numbers_by
 numbers_many [] e = let z : ◌≡◌ {A = ℕ} 1 0 = cc in absurd (never z)
 numbers_many (k ∷ b) {c} e = go (is_second (kind_of k)) refl

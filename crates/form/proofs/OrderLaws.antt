@@ -15,8 +15,9 @@ use Rattle.form.specs.declared.records.Kind.{Kind}
 use Rattle.form.specs.declared.records.Kind.TheVariants.{End, Settings, Variant, Part, Letters, Next, Settings2, Variant2, Unknown}
 use Rattle.form.specs.declared.records.State.{State}
 use Rattle.form.specs.declared.records.Counts.{Counts}
-use Rattle.form.specs.declared.records.Scan.{Scan}
-use Rattle.form.specs.declared.records.Scan.TheVariants.{Good, Refused}
+use Rattle.std.specs.Prelude.{Result, Ok, Err}
+use Rattle.metrics.specs.declared.refusals.Refusal.{Refusal}
+use Rattle.metrics.specs.Refusals.{refusal_of}
 use Rattle.form.specs.Form.{kind_of, is_end, is_settings, is_variant, is_part, is_letters, is_next, body_len, in_place, count_of, fault_of, after, judge, run, outset}
 use Rattle.form.specs.Job.{letters_in, letters_after, gather}
 use Rattle.form.specs.Steps.{variant_letters_here, part_letters_here, letters_given, letters_owed, letters_walk}
@@ -54,18 +55,18 @@ in_record b left = ⊎_elim
     (split (leb left 16))
 
 -- ---- a form in good order, one record at a time
-pub sound : (st : State) (kind : Kind) (b : List ℕ) (c : Counts) (rest : Scan) → judge (fault_of st kind b) kind st rest ≡ Good c
-    → (fault_of st kind b ≡ 0) × ((is_end kind ≡ true) ⊎ (rest ≡ Good c))
+pub sound : (st : State) (kind : Kind) (b : List ℕ) (c : Counts) (rest : Result Counts Refusal) → judge (fault_of st kind b) kind st rest ≡ Ok c
+    → (fault_of st kind b ≡ 0) × ((is_end kind ≡ true) ⊎ (rest ≡ Ok c))
 sound st kind b c rest e = ⊎_elim
     (λ (f : eqb (fault_of st kind b) 0 ≡ true). (
       eqb-true _ _ f,
       ⊎_elim
           (λ (g : is_end kind ≡ true). inl g)
-          (λ (g : is_end kind ≡ false). let r : rest ≡ Good c = simp (f, g) at e in inr r)
+          (λ (g : is_end kind ≡ false). let r : rest ≡ Ok c = simp (f, g) at e in inr r)
           (split (is_end kind)),
     ))
     (λ (f : eqb (fault_of st kind b) 0 ≡ false).
-    let w : Refused (fault_of st kind b) ≡ Good c = simp f at e in
+    let w : ◌≡◌ {A = Result Counts Refusal} (Err (refusal_of (fault_of st kind b))) (Ok c) = simp f at e in
     let z : ◌≡◌ {A = ℕ} 1 0 = cc in absurd (never z))
     (split (eqb (fault_of st kind b) 0))
 
@@ -98,7 +99,7 @@ module _ (st : State) (late : st.phase ≡ 2) where
         (split (is_next kind)))
         (split (is_part kind))
 
-no_more_variants : (s : List ℕ) (n : ℕ) (st : State) (c : Counts) → run s n st ≡ Good c → st.phase ≡ 2 → gather variant_letters_here s n ≡ []
+no_more_variants : (s : List ℕ) (n : ℕ) (st : State) (c : Counts) → run s n st ≡ Ok c → st.phase ≡ 2 → gather variant_letters_here s n ≡ []
 unfolding gather run
 no_more_variants [] n st c e p = refl
 no_more_variants (k ∷ b) (suc n) st c e p = no_more_variants b n st c e p
@@ -106,7 +107,7 @@ no_more_variants (k ∷ b) zero st c e p =
     let h = sound st (kind_of k) b c (run b (body_len (kind_of k)) (after st (kind_of k) b)) e in
     rw (no_letters st p (kind_of k) b h.0) (⊎_elim
     (λ (z : is_end (kind_of k) ≡ true). ap (λ (l : List ℕ). gather variant_letters_here l (body_len (kind_of k))) (end_empty st (kind_of k) b h.0 z))
-    (λ (r : run b (body_len (kind_of k)) (after st (kind_of k) b) ≡ Good c). no_more_variants b (body_len (kind_of k)) (after st (kind_of k) b) c r (stays_late st p (kind_of k) b h.0))
+    (λ (r : run b (body_len (kind_of k)) (after st (kind_of k) b) ≡ Ok c). no_more_variants b (body_len (kind_of k)) (after st (kind_of k) b) c r (stays_late st p (kind_of k) b h.0))
     h.1)
 
 -- ---- one record more
@@ -180,7 +181,7 @@ any_first j k b i zero = refl
 any_first j k b i (suc n) = let e : 1 + i + i / 16 ≡ suc (i + i / 16) = omega arith in rw (e, any_first j k b (suc i) n)
 
 -- the letters owed, and then those of the records behind
-owed_first : (s : List ℕ) (n : ℕ) (st : State) (c : Counts) → run s n st ≡ Good c
+owed_first : (s : List ℕ) (n : ℕ) (st : State) (c : Counts) → run s n st ≡ Ok c
     → letters_walk s n st.left ≡ letters_in (drop n s) 0 st.left ++ (gather variant_letters_here s n ++ gather part_letters_here s n)
 unfolding run gather letters_walk after letters_owed
 owed_first [] n st c e = let z : ◌≡◌ {A = ℕ} 1 0 = cc in absurd (never z)
@@ -193,12 +194,12 @@ owed_first (k ∷ b) zero st c e =
     let o : st.left ≡ 0 = owed_none st (kind_of k) (none_placed st (kind_of k) b h.0) (ap is_letters i) in
     subst (λ (l : List ℕ). letters_walk (k ∷ l) 0 st.left ≡ letters_in (k ∷ l) 0 st.left ++ (gather variant_letters_here (k ∷ l) 0 ++ gather part_letters_here (k ∷ l) 0))
     (sym (end_empty st (kind_of k) b h.0 z)) (at_end st k i o))
-    (λ (r : run b (body_len (kind_of k)) (after st (kind_of k) b) ≡ Good c).
+    (λ (r : run b (body_len (kind_of k)) (after st (kind_of k) b) ≡ Ok c).
     rw (any_first k 4 b 0 st.left) (turn st b (gather variant_letters_here b (body_len (kind_of k))) (gather part_letters_here b (body_len (kind_of k))) (kind_of k) h.0
     (owed_first b (body_len (kind_of k)) (after st (kind_of k) b) c r)
     (λ (x : is_part (kind_of k) ≡ true). no_more_variants b (body_len (kind_of k)) (after st (kind_of k) b) c r (part_phase st (kind_of k) b x))))
     h.1
 
-pub in_order : (s : List ℕ) (c : Counts) → run s 0 outset ≡ Good c → letters_walk s 0 0 ≡ gather variant_letters_here s 0 ++ gather part_letters_here s 0
+pub in_order : (s : List ℕ) (c : Counts) → run s 0 outset ≡ Ok c → letters_walk s 0 0 ≡ gather variant_letters_here s 0 ++ gather part_letters_here s 0
 unfolding letters_in
 in_order s c e = owed_first s 0 outset c e

@@ -1,5 +1,5 @@
 -- Document 01, "Job form", and change requests P1 and P7: records of one byte of kind and a body, and the first fault, front to back.
-use Rattle.std.specs.Prelude.{ℕ, zero, suc, ◌+◌, ◌-◌, List, [], ◌∷◌, Bool, true, false, cond, not, ◌&&◌, get_or, length, take, drop, ltb, leb, eqb}
+use Rattle.std.specs.Prelude.{ℕ, zero, suc, ◌+◌, ◌-◌, List, [], ◌∷◌, Bool, true, false, cond, not, ◌&&◌, get_or, length, take, drop, ltb, leb, eqb, Result, Ok, Err}
 use Rattle.fields.specs.Fields.{le4}
 use Rattle.form.specs.declared.records.Kind.{Kind}
 use Rattle.form.specs.declared.records.Kind.TheVariants.{End, Settings, Variant, Part, Letters, Next, Settings2, Variant2, Unknown}
@@ -7,8 +7,9 @@ use Rattle.form.specs.declared.records.Record.{Record}
 use Rattle.form.specs.declared.records.Shape.{Shape}
 use Rattle.form.specs.declared.records.State.{State}
 use Rattle.form.specs.declared.records.Counts.{Counts}
-use Rattle.form.specs.declared.records.Scan.{Scan}
-use Rattle.form.specs.declared.records.Scan.TheVariants.{Good, Refused}
+use Rattle.metrics.specs.declared.refusals.Refusal.{Refusal}
+use Rattle.metrics.specs.declared.refusals.Refusal.TheVariants.{CutShort}
+use Rattle.metrics.specs.Refusals.{refusal_of}
 
 -- the byte that begins a record
 abbrev pub end_kind : ℕ
@@ -207,11 +208,11 @@ outset = record { phase = 0; left = 0; variants = 0; parts = 0; breaks = 0; lett
 abbrev pub counted : State → Counts
 counted st = record { variants = st.variants; parts = st.parts; breaks = st.breaks; letters = st.letters }
 
-abbrev pub judge : ℕ → Kind → State → Scan → Scan
-judge f kind st rest = cond (eqb f 0) (cond (is_end kind) (Good (counted st)) rest) (Refused f)
+abbrev pub judge : ℕ → Kind → State → Result Counts Refusal → Result Counts Refusal
+judge f kind st rest = cond (eqb f 0) (cond (is_end kind) (Ok (counted st)) rest) (Err (refusal_of f))
 
 -- Reads the bytes front to back, of which the first n belong to a record that was read already.
-unfoldable pub run : List ℕ → ℕ → State → Scan
-run [] n st = Refused 21
+unfoldable pub run : List ℕ → ℕ → State → Result Counts Refusal
+run [] n st = Err CutShort
 run (k ∷ b) (suc n) st = run b n st
 run (k ∷ b) zero st = judge (fault_of st (kind_of k) b) (kind_of k) st (run b (body_len (kind_of k)) (after st (kind_of k) b))

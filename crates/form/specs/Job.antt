@@ -1,6 +1,6 @@
 -- Document 01, "Job form", and change requests P1 and P7: a job is its settings, its variants with their letters, and its haplotypes, each the list of its parts with their letters.
 -- What bytes in good form hold, in either edition, and the bytes of a job in each. Record numbers stand beside the job.
-use Rattle.std.specs.Prelude.{ℕ, zero, suc, ◌+◌, ◌/◌, Bool, cond, ℤ, get_or, length, take, drop, replicate, ltb, eqb}
+use Rattle.std.specs.Prelude.{ℕ, zero, suc, ◌+◌, ◌/◌, Bool, cond, ℤ, get_or, length, take, drop, replicate, ltb, eqb, Result, Ok, Err}
 use mathlib.Core.List.{List, [], ◌∷◌, ◌++◌, flatten}
 use Rattle.params.specs.declared.Settings.{Settings}
 use Rattle.fields.specs.Fields.{le4, le8, signed_of, bytes4, bytes8, word_of}
@@ -12,8 +12,9 @@ use Rattle.form.specs.declared.records.Edition.{Edition}
 use Rattle.form.specs.declared.records.Edition.TheVariants.{One, Two}
 use Rattle.form.specs.declared.records.Kind.{Kind}
 use Rattle.form.specs.declared.records.Kind.TheVariants.{Variant as VariantRecord, Part as PartRecord}
-use Rattle.form.specs.declared.records.Scan.{Scan}
-use Rattle.form.specs.declared.records.Scan.TheVariants.{Good, Refused}
+use Rattle.form.specs.declared.records.Counts.{Counts}
+use Rattle.metrics.specs.declared.refusals.Refusal.{Refusal}
+use Rattle.metrics.specs.Refusals.{refusal_number}
 
 pub record Variant : Type 0 where
   pub start : ℕ
@@ -123,9 +124,9 @@ pub data Read : Type 0 where
   Faulty : ℕ → Read
   Held : Job → Read
 
-abbrev pub read_of : Scan → Job → Read
-read_of (Refused n) job = Faulty n
-read_of (Good c) job = Held job
+abbrev pub read_of : Result Counts Refusal → Job → Read
+read_of (Err refusal) job = Faulty (refusal_number refusal)
+read_of (Ok c) job = Held job
 
 unfoldable pub read_job : List ℕ → Read
 read_job s = read_of (run s 0 outset) (job_of s)

@@ -1,9 +1,9 @@
 -- Document 01, "Job form": a job in ten lent slices, as the reader fills and the writer takes them, and its counts.
-use Rattle.std.specs.Prelude.{ℕ, ◌+◌, List, [], ◌∷◌, ◌++◌, Bool, ℤ, length}
+use Rattle.std.specs.Prelude.{ℕ, ◌+◌, List, [], ◌∷◌, ◌++◌, Bool, ℤ, length, Result, Ok, Err}
 use Rattle.form.specs.Job.{Variant, Part, Job, all_parts, Read, Faulty, Held}
 use Rattle.form.specs.declared.records.Counts.{Counts}
-use Rattle.form.specs.declared.records.Scan.{Scan}
-use Rattle.form.specs.declared.records.Scan.TheVariants.{Good, Refused}
+use Rattle.metrics.specs.declared.refusals.Refusal.{Refusal}
+use Rattle.metrics.specs.Refusals.{refusal_of}
 
 -- what the ten lent slices hold: a row of five for a variant, of three for a part, how many parts stand before each haplotype but the first, and the letters of all
 pub record Lent : Type 0 where
@@ -58,9 +58,9 @@ unfoldable pub job_counts : Job → Counts
 job_counts job = record { variants = length job.variants; parts = length (all_parts job); breaks = length (breaks_of job.haplotypes); letters = length (letters_of job) }
 
 -- the first pass: the first fault, or the counts
-unfoldable pub scan_of : Read → Scan
-scan_of (Faulty n) = Refused n
-scan_of (Held job) = Good (job_counts job)
+unfoldable pub scan_of : Read → Result Counts Refusal
+scan_of (Faulty n) = Err (refusal_of n)
+scan_of (Held job) = Ok (job_counts job)
 
 -- the letters of several rows, by their counts
 unfoldable pub sum : List ℕ → ℕ

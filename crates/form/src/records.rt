@@ -1,15 +1,13 @@
 // The form's records and their faults, front to back.
 ghost use Rattle.std.specs.Prelude.{◌≡◌, [], ◌≤◌, ◌+◌, ◌^◌, length, drop, take};
+ghost use Rattle.metrics.specs.Refusals.{told};
 ghost use Rattle.form.specs.Form.{shape_of, body_len, in_place, are_flags, flags_ok, count_of, all_zero, pad_ok, too_many, fault_of, outset, run};
 ghost use Rattle.form.specs.declared.records.Kind.TheVariants.{Letters};
 ghost use Rattle.form.specs.Steps.{Follows, Small};
 ghost use Rattle.form.specs.Promises.{KindOfPromise, BodyLenPromise, RecordAtPromise, EditionOfPromise};
 
 use fields::{u8_at, u32_at};
-use metrics::refusals::{
-    BAD_FLAG, BAD_PADDING, BYTES_AFTER_END, CUT_SHORT, OUT_OF_PLACE, TOO_MANY_HAPLOTYPES,
-    TOO_MANY_LETTERS, UNKNOWN_KIND,
-};
+use metrics::refusals::Refusal;
 
 // What is known between two records: which kinds may follow, how many letters are owed, and the counts so far.
 // The phase is a number and the counts stand one by one because the form's definition (specs/Form.antt) has them so: 0 is before the settings, 1 and 3 are where
@@ -30,12 +28,6 @@ pub struct Counts {
     pub parts: usize,
     pub breaks: usize,
     pub letters: usize,
-}
-
-#[derive(Clone, Copy)]
-pub enum Scan {
-    Refused(u32),
-    Good(Counts),
 }
 
 #[derive(Clone, Copy)]
@@ -326,34 +318,34 @@ fn too_many(st: State, kind: Kind) -> bool
 }
 
 #[tactic(auto, unfolding(crate::specs::Form::fault_of))]
-fn fault_of(st: State, kind: Kind, b: &[u8]) -> u32
-    ensures { result ≡ fault_of st kind b.now }
+fn fault_of(st: State, kind: Kind, b: &[u8]) -> Result<(), Refusal>
+    ensures { told result ≡ fault_of st kind b.now }
 {
     if matches!(kind, Kind::Unknown) {
-        return UNKNOWN_KIND;
+        return Err(Refusal::UnknownKind);
     }
     if b.len() < body_len(kind) {
-        return CUT_SHORT;
+        return Err(Refusal::CutShort);
     }
     if !in_place(st, kind) {
-        return OUT_OF_PLACE;
+        return Err(Refusal::OutOfPlace);
     }
     if too_many(st, kind) {
-        return TOO_MANY_HAPLOTYPES;
+        return Err(Refusal::TooManyHaplotypes);
     }
     if !flags_ok(kind, b) {
-        return BAD_FLAG;
+        return Err(Refusal::BadFlag);
     }
     if MOST_LETTERS < count_of(kind, b) {
-        return TOO_MANY_LETTERS;
+        return Err(Refusal::TooManyLetters);
     }
     if !pad_ok(st, kind, b) {
-        return BAD_PADDING;
+        return Err(Refusal::BadPadding);
     }
     if matches!(kind, Kind::End) && !b.is_empty() {
-        return BYTES_AFTER_END;
+        return Err(Refusal::BytesAfterEnd);
     }
-    0
+    Ok(())
 }
 
 #[tactic(auto, unfolding(crate::specs::Form::after, crate::specs::Form::body_len))]
@@ -400,7 +392,7 @@ fn after_record(st: State, kind: Kind, b: &[u8]) -> State
     }
 }
 
-pub(crate) fn first_fault(s: &[u8]) -> Scan
+pub(crate) fn first_fault(s: &[u8]) -> Result<Counts, Refusal>
     ensures { result ≡ run s.now 0 outset }
 {
     let mut st = State {
@@ -416,12 +408,9 @@ pub(crate) fn first_fault(s: &[u8]) -> Scan
         let here = record_at(s, at);
         let kind = here.kind;
         let b = &s[at + 1..];
-        let f = fault_of(st, kind, b);
-        if f != 0 {
-            return Scan::Refused(f);
-        }
+        fault_of(st, kind, b)?;
         if matches!(kind, Kind::End) {
-            return Scan::Good(Counts {
+            return Ok(Counts {
                 variants: st.variants,
                 parts: st.parts,
                 breaks: st.breaks,
@@ -431,5 +420,5 @@ pub(crate) fn first_fault(s: &[u8]) -> Scan
         st = after_record(st, kind, b);
         at = here.next;
     }
-    Scan::Refused(CUT_SHORT)
+    Err(Refusal::CutShort)
 }

@@ -7,7 +7,7 @@ ghost use Rattle.form.specs.Promises.{ReadSettingsPromise, WriteSettingsPromise,
 use crate::records::{Edition, LETTERS_PLACE, are_flags};
 use fields::{float_of, put_u8, put_u32, u8_at, u32_at};
 use metrics::floats::bits_of;
-use metrics::refusals::BAD_FLAG;
+use metrics::refusals::Refusal;
 use params::Settings;
 use params::graphparams::settings_fault;
 
@@ -56,13 +56,13 @@ pub fn settings_by(edition: Edition, b: &[u8]) -> Settings
     }
 }
 
-// The number of their first refusal: 24, then 1 to 3; 0 where they are accepted.
+// Their first refusal: 24, then 1 to 3.
 #[tactic(auto, unfolding(crate::specs::Settings41::settings41_fault))]
-pub fn settings41_fault(b: &[u8]) -> u32
+pub fn settings41_fault(b: &[u8]) -> Result<(), Refusal>
     ensures { Settings41FaultPromise b.now result }
 {
     if !(are_flags(b, 1, 3) && are_flags(b, LETTERS_PLACE, 1)) {
-        return BAD_FLAG;
+        return Err(Refusal::BadFlag);
     }
     settings_fault(read_settings41(b))
 }

@@ -10,12 +10,13 @@ use lib.ListN.{length, set}
 use borrow.Author.Tests.{lt-leb, le-leb}
 use Rattle.metrics.specs.Placed.{placed}
 use Rattle.form.specs.declared.records.Counts.{Counts}
-use Rattle.form.specs.declared.records.Scan.{Scan}
-use Rattle.form.specs.declared.records.Scan.TheVariants.{Good, Refused}
+use Rattle.std.specs.Prelude.{Result, Ok, Err}
+use Rattle.metrics.specs.declared.refusals.Refusal.{Refusal}
+use Rattle.metrics.specs.declared.refusals.Refusal.TheVariants.{LittleRoom}
+use Rattle.metrics.proofs.RefusalLaws.{refusal_is}
 use Rattle.form.specs.Form.{run, outset}
 use Rattle.form.specs.Job.{variant_here, gather, job_of, row_numbers, numbers_of, read_of, read_job}
 use Rattle.form.specs.Lent.{job_counts}
-use Rattle.reader.specs.declared.numbers.Numbering.TheVariants.{Refused as Unnumbered, Numbers}
 use Rattle.reader.specs.Reading.{numbers_fit, numbering_of, numbers_after}
 use Rattle.reader.specs.Steps.{stores}
 use Rattle.form.proofs.CountLaws.{counts_are}
@@ -38,7 +39,7 @@ module _ (old : List ℕ) where
       w ∙ behind ∙ sym (rw (add-one i) (stores_append set old 0 (row_numbers i) (i ∷ [])))
 
 -- ---- the first pass counts them
-module _ (s : List ℕ) {c : Counts} (at : run s 0 outset ≡ Good c) where
+module _ (s : List ℕ) {c : Counts} (at : run s 0 outset ≡ Ok c) where
   pub count_variants : c.variants ≡ length (gather variant_here s 0)
   unfolding job_counts job_of
   count_variants = ap (λ (d : Counts). d.variants) (counts_are s c at)
@@ -48,34 +49,34 @@ module _ (s : List ℕ) {c : Counts} (at : run s 0 outset ≡ Good c) where
 
 -- ---- what reading them answers
 module _ (s old : List ℕ) where
-  pub numbers_refused : {n : ℕ} → run s 0 outset ≡ Refused n → (Unnumbered n ≡ numbering_of (read_job s) (numbers_of s) (length old)) × (old ≡ numbers_after (read_job s) (numbers_of s) old)
+  pub numbers_refused : {refusal : Refusal} → run s 0 outset ≡ Err refusal → (Err refusal ≡ numbering_of (read_job s) (numbers_of s) (length old)) × (old ≡ numbers_after (read_job s) (numbers_of s) old)
   unfolding read_job numbering_of numbers_after
-  numbers_refused e = (
-    sym (ap (λ (w : Scan). numbering_of (read_of w (job_of s)) (numbers_of s) (length old)) e),
-    sym (ap (λ (w : Scan). numbers_after (read_of w (job_of s)) (numbers_of s) old) e),
+  numbers_refused {refusal} e = (
+    sym (ap (λ (w : Result Counts Refusal). numbering_of (read_of w (job_of s)) (numbers_of s) (length old)) e ∙ ap (λ (found : Refusal). Err found) (refusal_is refusal)),
+    sym (ap (λ (w : Result Counts Refusal). numbers_after (read_of w (job_of s)) (numbers_of s) old) e),
   )
 
-  module _ {c : Counts} (at : run s 0 outset ≡ Good c) where
-    numbering_at : numbering_of (read_job s) (numbers_of s) (length old) ≡ cond (numbers_fit (numbers_of s) (length old)) (Numbers (length (numbers_of s))) (Unnumbered 30)
+  module _ {c : Counts} (at : run s 0 outset ≡ Ok c) where
+    numbering_at : numbering_of (read_job s) (numbers_of s) (length old) ≡ cond (numbers_fit (numbers_of s) (length old)) (Ok (length (numbers_of s))) (Err LittleRoom)
     unfolding read_job numbering_of
-    numbering_at = ap (λ (w : Scan). numbering_of (read_of w (job_of s)) (numbers_of s) (length old)) at
+    numbering_at = ap (λ (w : Result Counts Refusal). numbering_of (read_of w (job_of s)) (numbers_of s) (length old)) at
 
     numbers_at : numbers_after (read_job s) (numbers_of s) old ≡ cond (numbers_fit (numbers_of s) (length old)) (placed old (numbers_of s)) old
     unfolding read_job numbers_after
-    numbers_at = ap (λ (w : Scan). numbers_after (read_of w (job_of s)) (numbers_of s) old) at
+    numbers_at = ap (λ (w : Result Counts Refusal). numbers_after (read_of w (job_of s)) (numbers_of s) old) at
 
-    crowded : numbers_fit (numbers_of s) (length old) ≡ false → (Unnumbered 30 ≡ numbering_of (read_job s) (numbers_of s) (length old)) × (old ≡ numbers_after (read_job s) (numbers_of s) old)
+    crowded : numbers_fit (numbers_of s) (length old) ≡ false → (Err LittleRoom ≡ numbering_of (read_job s) (numbers_of s) (length old)) × (old ≡ numbers_after (read_job s) (numbers_of s) old)
     crowded h = (sym (numbering_at ∙ rw h), sym (numbers_at ∙ rw h))
 
-    pub crowded_slice : length old < c.variants → (Unnumbered 30 ≡ numbering_of (read_job s) (numbers_of s) (length old)) × (old ≡ numbers_after (read_job s) (numbers_of s) old)
+    pub crowded_slice : length old < c.variants → (Err LittleRoom ≡ numbering_of (read_job s) (numbers_of s) (length old)) × (old ≡ numbers_after (read_job s) (numbers_of s) old)
     crowded_slice h = crowded (rw (count_numbers s at, lt-leb _ _ h))
 
     module _ (room : c.variants ≤ length old) where
-      pub crowded_bits : 2 ^ 32 < c.variants → (Unnumbered 30 ≡ numbering_of (read_job s) (numbers_of s) (length old)) × (old ≡ numbers_after (read_job s) (numbers_of s) old)
+      pub crowded_bits : 2 ^ 32 < c.variants → (Err LittleRoom ≡ numbering_of (read_job s) (numbers_of s) (length old)) × (old ≡ numbers_after (read_job s) (numbers_of s) old)
       crowded_bits h = crowded (rw (count_numbers s at, le-leb _ _ room, lt-leb _ _ h))
 
       pub read_numbers : c.variants ≤ 2 ^ 32 → {u : List ℕ} → u ≡ stores set old 0 (numbers_of s)
-          → (Numbers c.variants ≡ numbering_of (read_job s) (numbers_of s) (length old)) × (u ≡ numbers_after (read_job s) (numbers_of s) old)
+          → (Ok c.variants ≡ numbering_of (read_job s) (numbers_of s) (length old)) × (u ≡ numbers_after (read_job s) (numbers_of s) old)
       read_numbers h e =
           let fit : numbers_fit (numbers_of s) (length old) ≡ true = rw (count_numbers s at, le-leb _ _ room, le-leb _ _ h) in
           (sym (numbering_at ∙ rw (fit, count_numbers s at)), e ∙ laid old (numbers_of s) (rw (count_numbers s at) room) ∙ sym (numbers_at ∙ rw fit))

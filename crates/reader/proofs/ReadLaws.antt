@@ -13,9 +13,10 @@ use Rattle.form.specs.declared.records.Edition.{Edition}
 use Rattle.form.specs.declared.records.Kind.{Kind}
 use Rattle.form.specs.declared.records.Kind.TheVariants.{End, Settings as SettingsRecord, Variant as VariantRecord, Part as PartRecord, Letters, Next, Settings2, Variant2, Unknown}
 use Rattle.form.specs.declared.records.Counts.{Counts}
-use Rattle.form.specs.declared.records.Scan.{Scan}
-use Rattle.form.specs.declared.records.Scan.TheVariants.{Good, Refused}
-use Rattle.reader.specs.declared.Reading.TheVariants.{Refused as Declined, Job as Given}
+use Rattle.std.specs.Prelude.{Result, Ok, Err}
+use Rattle.metrics.specs.declared.refusals.Refusal.{Refusal}
+use Rattle.metrics.specs.declared.refusals.Refusal.TheVariants.{LittleRoom}
+use Rattle.metrics.proofs.RefusalLaws.{refusal_is}
 use Rattle.form.specs.Form.{kind_of, is_settings, body_len, run, outset}
 use Rattle.form.specs.Job.{Variant, Part, variant_here, part_here, gather, haplotypes_in, edition_of, settings_by, job_of, read_of, read_job}
 use Rattle.form.specs.Lent.{Lent, letters_of, breaks_of, job_counts}
@@ -43,7 +44,7 @@ whole_settings Settings2 b h w = omega arith
 whole_settings Variant2 b h w = mixed (sym h)
 whole_settings Unknown b h w = mixed (sym h)
 
-good_long : (s : List ℕ) (c : Counts) → run s 0 outset ≡ Good c → 41 ≤ length s
+good_long : (s : List ℕ) (c : Counts) → run s 0 outset ≡ Ok c → 41 ≤ length s
 unfolding run
 good_long [] c e = let z : ◌≡◌ {A = ℕ} 0 1 = cc in omega arith
 good_long (k ∷ b) c e =
@@ -96,12 +97,12 @@ rows_room c t = five c.variants (length t.starts) (length t.ends) (length t.size
 abbrev pub parts_room : Counts → Lent → Bool
 parts_room c t = three c.parts (length t.part_sizes) (length t.part_negatives) (length t.part_counts)
 
-pub read_refused : (s : List ℕ) (t : Lent) {n : ℕ} → run s 0 outset ≡ Refused n → (Declined n ≡ reading_of (read_job s) t) × (t ≡ lent_after (read_job s) t)
+pub read_refused : (s : List ℕ) (t : Lent) {refusal : Refusal} → run s 0 outset ≡ Err refusal → (Err refusal ≡ reading_of (read_job s) t) × (t ≡ lent_after (read_job s) t)
 unfolding read_job reading_of lent_after
-read_refused s t e =
-    (sym (ap (λ (w : Scan). reading_of (read_of w (job_of s)) t) e), sym (ap (λ (w : Scan). lent_after (read_of w (job_of s)) t) e))
+read_refused s t {refusal} e =
+    (sym (ap (λ (w : Result Counts Refusal). reading_of (read_of w (job_of s)) t) e ∙ ap (λ (found : Refusal). Err found) (refusal_is refusal)), sym (ap (λ (w : Result Counts Refusal). lent_after (read_of w (job_of s)) t) e))
 
-module _ (s : List ℕ) {c : Counts} (at : run s 0 outset ≡ Good c) where
+module _ (s : List ℕ) {c : Counts} (at : run s 0 outset ≡ Ok c) where
   pub settings_there : 41 ≤ length s
   settings_there = good_long s c at
 
@@ -109,30 +110,30 @@ module _ (s : List ℕ) {c : Counts} (at : run s 0 outset ≡ Good c) where
   are = counts_are s c at
 
   module _ (t : Lent) where
-    reading_at : reading_of (read_job s) t ≡ cond (has_room c t) (Given (settings_by (edition_of s) (drop 1 s)) c) (Declined 30)
+    reading_at : reading_of (read_job s) t ≡ cond (has_room c t) (Ok (settings_by (edition_of s) (drop 1 s), c)) (Err LittleRoom)
     unfolding read_job reading_of job_of
-    reading_at = ap (λ (w : Scan). reading_of (read_of w (job_of s)) t) at ∙ ap (λ (d : Counts). cond (has_room d t) (Given (settings_by (edition_of s) (drop 1 s)) d) (Declined 30)) (sym are)
+    reading_at = ap (λ (w : Result Counts Refusal). reading_of (read_of w (job_of s)) t) at ∙ ap (λ (d : Counts). cond (has_room d t) (Ok (settings_by (edition_of s) (drop 1 s), d)) (Err LittleRoom)) (sym are)
 
     lent_at : lent_after (read_job s) t ≡ cond (has_room c t) (lent_with (job_of s) t) t
     unfolding read_job lent_after
-    lent_at = ap (λ (w : Scan). lent_after (read_of w (job_of s)) t) at ∙ ap (λ (d : Counts). cond (has_room d t) (lent_with (job_of s) t) t) (sym are)
+    lent_at = ap (λ (w : Result Counts Refusal). lent_after (read_of w (job_of s)) t) at ∙ ap (λ (d : Counts). cond (has_room d t) (lent_with (job_of s) t) t) (sym are)
 
-    crowded : has_room c t ≡ false → (Declined 30 ≡ reading_of (read_job s) t) × (t ≡ lent_after (read_job s) t)
+    crowded : has_room c t ≡ false → (Err LittleRoom ≡ reading_of (read_job s) t) × (t ≡ lent_after (read_job s) t)
     crowded h = (sym (reading_at ∙ rw h), sym (lent_at ∙ rw h))
 
-    pub crowded_rows : rows_room c t ≡ false → (Declined 30 ≡ reading_of (read_job s) t) × (t ≡ lent_after (read_job s) t)
+    pub crowded_rows : rows_room c t ≡ false → (Err LittleRoom ≡ reading_of (read_job s) t) × (t ≡ lent_after (read_job s) t)
     crowded_rows h = crowded (rw h)
 
     module _ (rows_room : rows_room c t ≡ true) where
-      pub crowded_parts : parts_room c t ≡ false → (Declined 30 ≡ reading_of (read_job s) t) × (t ≡ lent_after (read_job s) t)
+      pub crowded_parts : parts_room c t ≡ false → (Err LittleRoom ≡ reading_of (read_job s) t) × (t ≡ lent_after (read_job s) t)
       crowded_parts h = crowded (rw (rows_room, h))
 
       module _ (parts-room : parts_room c t ≡ true) where
-        pub crowded_breaks : length t.breaks < c.breaks → (Declined 30 ≡ reading_of (read_job s) t) × (t ≡ lent_after (read_job s) t)
+        pub crowded_breaks : length t.breaks < c.breaks → (Err LittleRoom ≡ reading_of (read_job s) t) × (t ≡ lent_after (read_job s) t)
         crowded_breaks h = crowded (rw (rows_room, parts-room, lt-leb _ _ h))
 
         module _ (breaks-room : c.breaks ≤ length t.breaks) where
-          pub crowded_letters : length t.letters < c.letters → (Declined 30 ≡ reading_of (read_job s) t) × (t ≡ lent_after (read_job s) t)
+          pub crowded_letters : length t.letters < c.letters → (Err LittleRoom ≡ reading_of (read_job s) t) × (t ≡ lent_after (read_job s) t)
           crowded_letters h = crowded (rw (rows_room, parts-room, le-leb _ _ breaks-room, lt-leb _ _ h))
 
           module _ (enough : c.letters ≤ length t.letters) where
@@ -189,7 +190,7 @@ module _ (s : List ℕ) {c : Counts} (at : run s 0 outset ≡ Good c) where
                   λ i. record { starts = e1 i; ends = e2 i; sizes = e3 i; negatives = e4 i; counts = e5 i; part_sizes = e6 i; part_negatives = e7 i; part_counts = e8 i; breaks = e0 i; letters = e9 i }
 
               pub read_job_lem : (edition : Edition) (head : Settings) → edition ≡ edition_of s → head ≡ settings_by edition (take (length s - 1) (drop 1 s))
-                  → (Given head c ≡ reading_of (read_job s) t) × (u ≡ lent_after (read_job s) t)
+                  → (Ok (head, c) ≡ reading_of (read_job s) t) × (u ≡ lent_after (read_job s) t)
               read_job_lem edition head e h =
                   let x : take (length s - 1) (drop 1 s) ≡ drop 1 s = take_all (length s - 1) (drop 1 s) (simp length-drop (omega arith)) in
-                  (sym (reading_at ∙ rw has_room_lem (ap (λ (y : Settings). Given y c) (sym (h ∙ rw (x, e))))), laid_job ∙ sym (lent_at ∙ rw has_room_lem))
+                  (sym (reading_at ∙ rw has_room_lem (ap (λ (y : Settings). Ok (y, c)) (sym (h ∙ rw (x, e))))), laid_job ∙ sym (lent_at ∙ rw has_room_lem))

@@ -1,13 +1,13 @@
 -- Document 01, "Job form", and change requests P1 and P7: what reading a job into lent slices answers, and what the slices hold then.
-use Rattle.std.specs.Prelude.{ℕ, ◌^◌, List, map, Bool, ◌&&◌, cond, length, leb}
+use Rattle.std.specs.Prelude.{ℕ, ◌^◌, List, map, Bool, ◌&&◌, cond, length, leb, Result, Ok, Err}
+use Rattle.metrics.specs.declared.refusals.Refusal.{Refusal}
+use Rattle.metrics.specs.declared.refusals.Refusal.TheVariants.{LittleRoom}
+use Rattle.metrics.specs.Refusals.{refusal_of}
 use Rattle.metrics.specs.Placed.{placed}
+use Rattle.params.specs.declared.Settings.{Settings}
 use Rattle.form.specs.declared.records.Counts.{Counts}
 use Rattle.form.specs.Job.{Variant, Part, Job, all_parts, Read, Faulty, Held}
 use Rattle.form.specs.Lent.{Lent, letters_of, breaks_of, job_counts}
-use Rattle.reader.specs.declared.Reading.{Reading}
-use Rattle.reader.specs.declared.Reading.TheVariants.{Refused as Declined, Job as Given}
-use Rattle.reader.specs.declared.numbers.Numbering.{Numbering}
-use Rattle.reader.specs.declared.numbers.Numbering.TheVariants.{Refused as Unnumbered, Numbers}
 
 -- a row in each slice for each of n
 unfoldable pub five : ℕ → ℕ → ℕ → ℕ → ℕ → ℕ → Bool
@@ -37,9 +37,9 @@ lent_with job t = record {
 }
 
 -- the second pass: the first fault, 30 where a slice is too small, or the settings and the counts; a refusal changes nothing
-unfoldable pub reading_of : Read → Lent → Reading
-reading_of (Faulty n) t = Declined n
-reading_of (Held job) t = cond (has_room (job_counts job) t) (Given job.settings (job_counts job)) (Declined 30)
+unfoldable pub reading_of : Read → Lent → Result (Settings × Counts) Refusal
+reading_of (Faulty n) t = Err (refusal_of n)
+reading_of (Held job) t = cond (has_room (job_counts job) t) (Ok (job.settings, job_counts job)) (Err LittleRoom)
 
 unfoldable pub lent_after : Read → Lent → Lent
 lent_after (Faulty n) t = t
@@ -50,9 +50,9 @@ lent_after (Held job) t = cond (has_room (job_counts job) t) (lent_with job t) t
 abbrev pub numbers_fit : List ℕ → ℕ → Bool
 numbers_fit numbers room = leb (length numbers) room && leb (length numbers) (2 ^ 32)
 
-unfoldable pub numbering_of : Read → List ℕ → ℕ → Numbering
-numbering_of (Faulty n) numbers room = Unnumbered n
-numbering_of (Held job) numbers room = cond (numbers_fit numbers room) (Numbers (length numbers)) (Unnumbered 30)
+unfoldable pub numbering_of : Read → List ℕ → ℕ → Result ℕ Refusal
+numbering_of (Faulty n) numbers room = Err (refusal_of n)
+numbering_of (Held job) numbers room = cond (numbers_fit numbers room) (Ok (length numbers)) (Err LittleRoom)
 
 unfoldable pub numbers_after : Read → List ℕ → List ℕ → List ℕ
 numbers_after (Faulty n) numbers old = old

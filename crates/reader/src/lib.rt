@@ -9,17 +9,11 @@ ghost use Rattle.reader.specs.Reading.{five, three};
 ghost use Rattle.reader.specs.Promises.{ReadJobPromise};
 
 use crate::fill::fill;
-use form::records::{Counts, Scan, edition_of};
+use form::records::{Counts, edition_of};
 use form::scan;
 use form::settings::settings_by;
-use metrics::refusals::LITTLE_ROOM;
+use metrics::refusals::Refusal;
 use params::Settings;
-
-#[derive(Clone, Copy)]
-pub enum Reading {
-    Refused(u32),
-    Job(Settings, Counts),
-}
 
 #[tactic(auto, unfolding(crate::specs::Reading::five))]
 fn rows_fit(n: usize, a: usize, b: usize, c: usize, d: usize, e: usize) -> bool
@@ -50,55 +44,50 @@ pub fn read_job(
     part_letter_counts: &mut [u32],
     breaks: &mut [u64],
     letters: &mut [u8],
-) -> Reading
+) -> Result<(Settings, Counts), Refusal>
     ensures { ReadJobPromise bytes.now starts.old ends.old sizes.old negatives.old
         letter_counts.old part_sizes.old part_negatives.old part_letter_counts.old breaks.old letters.old
         starts.new ends.new sizes.new negatives.new letter_counts.new part_sizes.new
         part_negatives.new part_letter_counts.new breaks.new letters.new result }
 {
-    let found = scan(bytes);
-    match found {
-        Scan::Refused(n) => Reading::Refused(n),
-        Scan::Good(c) => {
-            if !rows_fit(
-                c.variants,
-                starts.len(),
-                ends.len(),
-                sizes.len(),
-                negatives.len(),
-                letter_counts.len(),
-            ) {
-                return Reading::Refused(LITTLE_ROOM);
-            }
-            if !parts_fit(
-                c.parts,
-                part_sizes.len(),
-                part_negatives.len(),
-                part_letter_counts.len(),
-            ) {
-                return Reading::Refused(LITTLE_ROOM);
-            }
-            if breaks.len() < c.breaks {
-                return Reading::Refused(LITTLE_ROOM);
-            }
-            if letters.len() < c.letters {
-                return Reading::Refused(LITTLE_ROOM);
-            }
-            let head = settings_by(edition_of(bytes), &bytes[1..]);
-            fill(
-                bytes,
-                starts,
-                ends,
-                sizes,
-                negatives,
-                letter_counts,
-                part_sizes,
-                part_negatives,
-                part_letter_counts,
-                breaks,
-                letters,
-            );
-            Reading::Job(head, c)
-        }
+    let counts = scan(bytes)?;
+    if !rows_fit(
+        counts.variants,
+        starts.len(),
+        ends.len(),
+        sizes.len(),
+        negatives.len(),
+        letter_counts.len(),
+    ) {
+        return Err(Refusal::LittleRoom);
     }
+    if !parts_fit(
+        counts.parts,
+        part_sizes.len(),
+        part_negatives.len(),
+        part_letter_counts.len(),
+    ) {
+        return Err(Refusal::LittleRoom);
+    }
+    if breaks.len() < counts.breaks {
+        return Err(Refusal::LittleRoom);
+    }
+    if letters.len() < counts.letters {
+        return Err(Refusal::LittleRoom);
+    }
+    let settings = settings_by(edition_of(bytes), &bytes[1..]);
+    fill(
+        bytes,
+        starts,
+        ends,
+        sizes,
+        negatives,
+        letter_counts,
+        part_sizes,
+        part_negatives,
+        part_letter_counts,
+        breaks,
+        letters,
+    );
+    Ok((settings, counts))
 }

@@ -6,15 +6,9 @@ ghost use Rattle.reader.specs.Promises.{ReadNumbersPromise};
 
 use crate::fill::store;
 use fields::u32_at;
-use form::records::{Edition, Kind, NUMBER_PLACE, Scan, VARIANT2_BODY, edition_of, record_at};
+use form::records::{Edition, Kind, NUMBER_PLACE, VARIANT2_BODY, edition_of, record_at};
 use form::scan;
-use metrics::refusals::LITTLE_ROOM;
-
-#[derive(Clone, Copy)]
-pub enum Numbering {
-    Refused(u32),
-    Numbers(usize),
-}
+use metrics::refusals::Refusal;
 
 // a record number is of 32 bits
 pub const MOST_NUMBERS: usize = 4294967296;
@@ -71,21 +65,16 @@ fn number(edition: Edition, s: &[u8], n: usize, numbers: &mut [u32])
 
 // The first fault, 30 where the slice is too small, or how many variants the job has; then their record numbers, in edition 1 the row numbers,
 // stand at the front of the slice. A refusal changes nothing.
-pub fn read_numbers(bytes: &[u8], numbers: &mut [u32]) -> Numbering
+pub fn read_numbers(bytes: &[u8], numbers: &mut [u32]) -> Result<usize, Refusal>
     ensures { ReadNumbersPromise bytes.now numbers.old numbers.new result }
 {
-    let found = scan(bytes);
-    match found {
-        Scan::Refused(n) => Numbering::Refused(n),
-        Scan::Good(c) => {
-            if numbers.len() < c.variants {
-                return Numbering::Refused(LITTLE_ROOM);
-            }
-            if MOST_NUMBERS < c.variants {
-                return Numbering::Refused(LITTLE_ROOM);
-            }
-            number(edition_of(bytes), bytes, c.variants, numbers);
-            Numbering::Numbers(c.variants)
-        }
+    let counts = scan(bytes)?;
+    if numbers.len() < counts.variants {
+        return Err(Refusal::LittleRoom);
     }
+    if MOST_NUMBERS < counts.variants {
+        return Err(Refusal::LittleRoom);
+    }
+    number(edition_of(bytes), bytes, counts.variants, numbers);
+    Ok(counts.variants)
 }
