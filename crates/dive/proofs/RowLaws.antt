@@ -87,7 +87,7 @@ nodes_below score e sizes features v best node (suc n) b h =
 
 alone_below : {s : Settings} {t : Table} {p : Parts} → Checked s t p → (one_to_one s t p).row.0 < length t.starts
 alone_below {s} {t} {p} c =
-    rw (← rows_only (tables_of t.starts t.ends c))
+    rw (← rows_only (tables_of c))
     (nodes_below (alone_score s p) (4 ^ s.k) t.sizes t.features (length t.starts) no_lone 1 (length t.sizes) (omega (arith, c.some)) (omega (arith, c.sizes_are)))
 
 -- ---- either way
