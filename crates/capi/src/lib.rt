@@ -15,16 +15,12 @@ ghost use Rattle.std.specs.Result.{result_unwrap_or};
 
 use crate::words::{length_word, settings_of_words};
 use kplib::report::put_report;
+use meta::or_blank;
 use meta::words::{meta_of_words, words_of_meta};
 use metrics::refusals::{ACCEPTED, Refusal, told};
 use params::{Parts, Table};
 
 mod words;
-
-// The data of nobody, of one sample, as words.
-const BLANK: [u64; 28] = [
-    0, 1, 0, 0, 0, 0, 0, 0, 0, 0, 0, 0, 0, 0, 0, 0, 0, 0, 0, 0, 0, 0, 0, 0, 0, 0, 0, 0,
-];
 
 // A call's value at its place, or what stands there for a refusal; and the call's number.
 fn place<T: Copy>(came: Result<T, Refusal>, at: &mut T, refused: T) -> u32
@@ -261,14 +257,18 @@ pub fn nd_companions_count(
 pub fn nd_meta_new(index: u64, samples: u64, meta: &mut [u64; 28]) -> u32
     ensures { NdMetaNewPromise index samples meta.old meta.new result }
 {
-    place(meta::new(index, samples).map(words_of_meta), meta, BLANK)
+    let made = meta::new(index, samples);
+    *meta = words_of_meta(or_blank(made));
+    told(made.map(|_| ()))
 }
 
 // No read of any sample; a blank of one sample on a refusal.
 pub fn nd_meta_blank(samples: u64, meta: &mut [u64; 28]) -> u32
     ensures { NdMetaBlankPromise samples meta.old meta.new result }
 {
-    place(meta::new_blank(samples).map(words_of_meta), meta, BLANK)
+    let made = meta::new_blank(samples);
+    *meta = words_of_meta(or_blank(made));
+    told(made.map(|_| ()))
 }
 
 // The two combined, on the left, which a refusal leaves as it was.
@@ -276,8 +276,8 @@ pub fn nd_meta_combine(left: &mut [u64; 28], right: &[u64; 28]) -> u32
     ensures { NdMetaCombinePromise left.old right.now left.new result }
 {
     match meta::combine(meta_of_words(left), meta_of_words(right)) {
-        Ok(both) => {
-            *left = words_of_meta(both);
+        Ok(combined) => {
+            *left = words_of_meta(combined.left);
             ACCEPTED
         }
         Err(refusal) => refusal.into(),

@@ -15,7 +15,7 @@ use Rattle.metrics.specs.declared.refusals.Refusal.{Refusal}
 use Rattle.metrics.specs.Refusals.{refusal_number, refused_or}
 use Rattle.metrics.proofs.RefusalLaws.{never_zero, numbered_is}
 use Rattle.params.proofs.CheckLaws.{Passed, none_given, or_no}
-use Rattle.meta.specs.Meta.{bad_samples, count_fault, new_fault, made_unless, joined_first, left_else_right, sum_passes, combine_rules, combine_fault, combined_of, combined_unless, made_result, combined_result}
+use Rattle.meta.specs.Meta.{bad_samples, count_fault, new_fault, made_unless, joined_first, left_else_right, sum_passes, combine_rules, combine_fault, combined_of, combined_unless, made_result, joined_result}
 use Rattle.meta.specs.declared.HaplotypeMeta.{HaplotypeMeta}
 
 -- ---- the count
@@ -77,7 +77,7 @@ pub made_by : (fault : ℕ) (m : HaplotypeMeta) → refused_or fault m ≡ made_
 made_by zero m = refl
 made_by (suc f) m = refl
 
-pub combined_by : (fault : ℕ) (a b : HaplotypeMeta) → refused_or fault (combined_of a b) ≡ combined_result (combined_unless fault a b)
+pub combined_by : (fault : ℕ) (a b : HaplotypeMeta) → refused_or fault (combined_of a b) ≡ joined_result (combined_unless fault a b)
 combined_by zero a b = refl
 combined_by (suc f) a b = refl
 

@@ -14,7 +14,7 @@ use Rattle.metrics.specs.declared.refusals.Refusal.{Refusal}
 use Rattle.metrics.specs.declared.refusals.Refusal.TheVariants.{BadLengths, BadSamples}
 use Rattle.metrics.specs.Refusals.{refusal_number}
 use Rattle.metrics.proofs.RefusalLaws.{never_zero}
-use Rattle.meta.specs.Meta.{Made, blank_of, count_fault, made_unless, combine_fault, combined_of, combined_unless, combined_two, made_result, combined_result}
+use Rattle.meta.specs.Meta.{Made, blank_of, count_fault, made_unless, combine_fault, combined_of, combined_unless, combined_two, made_result, joined_result}
 use Rattle.meta.specs.Words.{meta_of_words}
 use Rattle.meta.specs.Grouping.{next_unless, all_from, all_made, metas_in, all_in_words}
 use Rattle.meta.specs.declared.HaplotypeMeta.{HaplotypeMeta}
@@ -54,7 +54,7 @@ first_refused zero refusal m rest e = absurd (never_zero refusal e)
 first_refused (suc f) refusal m rest e = refused_by (suc f) refusal m e ∙ sym (ap made_result (refused_stays f m rest))
 
 -- one more is refused with those before it
-next_refused : (fault : ℕ) (refusal : Refusal) (a b : HaplotypeMeta) (rest : List HaplotypeMeta) → Err refusal ≡ combined_result (combined_unless fault a b)
+next_refused : (fault : ℕ) (refusal : Refusal) (a b : HaplotypeMeta) (rest : List HaplotypeMeta) → Err refusal ≡ joined_result (combined_unless fault a b)
     → ◌≡◌ {A = Result HaplotypeMeta Refusal} (Err refusal) (made_result (all_from (made_unless fault (combined_of a b)) rest))
 next_refused zero refusal a b rest e = cc
 next_refused (suc f) refusal a b rest e = e ∙ sym (ap made_result (refused_stays f (combined_of a b) rest))
@@ -64,7 +64,7 @@ data_of (Ok m) = m
 data_of (Err refusal) = blank_of 1
 
 -- or is one with them
-next_made : (fault : ℕ) (x a b : HaplotypeMeta) → Ok x ≡ combined_result (combined_unless fault a b) → made_unless 0 x ≡ made_unless fault (combined_of a b)
+next_made : (fault : ℕ) (x a b : HaplotypeMeta) → Ok x ≡ joined_result (combined_unless fault a b) → made_unless 0 x ≡ made_unless fault (combined_of a b)
 next_made zero x a b e = ap (λ (r : Result HaplotypeMeta Refusal). made_unless 0 (data_of r)) e
 next_made (suc f) x a b e = cc
 
@@ -118,7 +118,7 @@ module _ (w : List ℕ) where
       ∙ ap (all_from (made_unless 0 all)) (sym (one_less n i h)) ∙ e
 
   pub on : (n i k : ℕ) (all : HaplotypeMeta) {whole : Made} {other x : HaplotypeMeta} → i < n → k ≡ 28 → other ≡ meta_of_words (take k (drop (28 * i) w))
-      → Ok x ≡ combined_result (combined_two all other) → all_from (made_unless 0 all) (later n i) ≡ whole → all_from (made_unless 0 x) (later n (i + 1)) ≡ whole
+      → Ok x ≡ joined_result (combined_two all other) → all_from (made_unless 0 all) (later n i) ≡ whole → all_from (made_unless 0 x) (later n (i + 1)) ≡ whole
   on n i k all {whole} {other} {x} h q o m e =
       ap (λ (r : Made). all_from r (later n (i + 1))) (next_made (combine_fault all other) x all other m) ∙ following n i k all h q o e
 
@@ -149,7 +149,7 @@ module _ (w : List ℕ) where
         first_refused (count_fault first.samples) refusal first (later (length w / 28) 1) f ∙ ap made_result (begun (length w / 28) h e ∙ even_length)
 
     pub refused_at : (refusal : Refusal) (i k : ℕ) (all : HaplotypeMeta) {other : HaplotypeMeta} → i < length w / 28 → k ≡ 28 → other ≡ meta_of_words (take k (drop (28 * i) w))
-        → Err refusal ≡ combined_result (combined_two all other) → all_from (made_unless 0 all) (later (length w / 28) i) ≡ all_made (metas_in (length w / 28) w)
+        → Err refusal ≡ joined_result (combined_two all other) → all_from (made_unless 0 all) (later (length w / 28) i) ≡ all_made (metas_in (length w / 28) w)
         → Err refusal ≡ made_result (all_in_words w)
     refused_at refusal i k all {other} h q o m e =
         next_refused (combine_fault all other) refusal all other (later (length w / 28) (i + 1)) m

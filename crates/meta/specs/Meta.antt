@@ -1,6 +1,7 @@
 -- Document 02, P12: the data of 1 to 8 samples, and what making and combining it come to.
-use Rattle.std.specs.Prelude.{ℕ, zero, suc, ◌+◌, ◌^◌, Bool, not, cond, ◌&&◌, ◌||◌, List, [], ◌∷◌, leb, ltb, eqb, get_or, set, replicate, Result}
+use Rattle.std.specs.Prelude.{ℕ, zero, suc, ◌+◌, ◌^◌, Bool, not, cond, ◌&&◌, ◌||◌, List, [], ◌∷◌, leb, ltb, eqb, get_or, set, replicate, Result, Ok, Err}
 use Rattle.std.specs.Int.Bits.{bit_or}
+use Rattle.meta.specs.declared
 use Rattle.metrics.specs.declared.refusals.Refusal.{Refusal}
 use Rattle.metrics.specs.Refusals.{refused_or}
 use Rattle.params.specs.Numbers.{Rule, rule, first_of, any_below}
@@ -81,14 +82,15 @@ combined_of a b = record {
   hp = joined_first left_else_right a.samples a.hp b.hp;
 }
 
--- a refusal's number, 0 for none, beside the two as one on the left, or on a refusal the left as it was
+-- a refusal's number, 0 for none, beside the two as one on the left, or on a refusal both as they were
 pub record Combined : Type 0 where
   pub refusal : ℕ
   pub left : HaplotypeMeta
+  pub right : HaplotypeMeta
 
 abbrev pub combined_unless : ℕ → HaplotypeMeta → HaplotypeMeta → Combined
-combined_unless zero a b = record { refusal = 0; left = combined_of a b }
-combined_unless (suc f) a b = record { refusal = suc f; left = a }
+combined_unless zero a b = record { refusal = 0; left = combined_of a b; right = b }
+combined_unless (suc f) a b = record { refusal = suc f; left = a; right = b }
 
 abbrev pub combined_two : HaplotypeMeta → HaplotypeMeta → Combined
 combined_two a b = combined_unless (combine_fault a b) a b
@@ -98,5 +100,13 @@ combined_two a b = combined_unless (combine_fault a b) a b
 abbrev pub made_result : Made → Result HaplotypeMeta Refusal
 made_result r = refused_or r.refusal r.meta
 
-abbrev pub combined_result : Combined → Result HaplotypeMeta Refusal
-combined_result r = refused_or r.refusal r.left
+abbrev pub joined_result : Combined → Result HaplotypeMeta Refusal
+joined_result r = refused_or r.refusal r.left
+
+abbrev pub combined_result : Combined → Result declared.Combined.Combined Refusal
+combined_result r = refused_or r.refusal (record { left = r.left; right = r.right })
+
+-- what was made, or on a refusal a blank of one sample
+abbrev pub or_blank : Result HaplotypeMeta Refusal → HaplotypeMeta
+or_blank (Ok m) = m
+or_blank (Err refusal) = blank_of 1

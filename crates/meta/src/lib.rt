@@ -7,8 +7,8 @@ pub mod lists;
 pub mod words;
 
 ghost use Rattle.std.specs.Prelude.{◌≡◌};
-ghost use Rattle.meta.specs.Meta.{blank_of, combine_fault, combined_of};
-ghost use Rattle.meta.specs.Promises.{NewPromise, NewBlankPromise, CombinePromise};
+ghost use Rattle.meta.specs.Meta.{blank_of, combine_fault, combined_of, combined_two, joined_result};
+ghost use Rattle.meta.specs.Promises.{NewPromise, NewBlankPromise, CombinePromise, OrBlankPromise};
 
 use crate::arrays::{joined_first, left_else_right};
 use crate::checks::{combine_fault, count_fault, new_fault};
@@ -79,10 +79,34 @@ pub(crate) fn both_as_one(left: HaplotypeMeta, right: HaplotypeMeta) -> Haplotyp
     }
 }
 
-// Coverage is added, a tag of the left stays and else the right's is taken, the flags are joined, and the id is the left's.
-pub fn combine(left: HaplotypeMeta, right: HaplotypeMeta) -> Result<HaplotypeMeta, Refusal>
-    ensures { CombinePromise left right result }
+// The same, or why it is refused.
+pub(crate) fn joined(left: HaplotypeMeta, right: HaplotypeMeta) -> Result<HaplotypeMeta, Refusal>
+    ensures { result ≡ joined_result (combined_two left right) }
 {
     combine_fault(left, right)?;
     Ok(both_as_one(left, right))
+}
+
+// The two as one on the left, and the right as it was.
+#[derive(Clone, Copy)]
+pub struct Combined {
+    pub left: HaplotypeMeta,
+    pub right: HaplotypeMeta,
+}
+
+// Coverage is added, a tag of the left stays and else the right's is taken, the flags are joined, and the id is the left's.
+pub fn combine(left: HaplotypeMeta, right: HaplotypeMeta) -> Result<Combined, Refusal>
+    ensures { CombinePromise left right result }
+{
+    Ok(Combined {
+        left: joined(left, right)?,
+        right,
+    })
+}
+
+// What was made, or a blank of one sample where it was refused.
+pub fn or_blank(made: Result<HaplotypeMeta, Refusal>) -> HaplotypeMeta
+    ensures { OrBlankPromise made result }
+{
+    made.unwrap_or(blank(1))
 }

@@ -3,7 +3,7 @@ ghost use Rattle.meta.specs.Promises.{CombineAllPromise};
 
 use crate::checks::count_fault;
 use crate::words::meta_of_slice;
-use crate::{HaplotypeMeta, combine};
+use crate::{HaplotypeMeta, joined};
 use metrics::refusals::Refusal;
 
 // The reads of a list as one, in their order. However they were grouped before, it comes to the same.
@@ -21,7 +21,7 @@ pub fn combine_all(metas: &[u64]) -> Result<HaplotypeMeta, Refusal>
     count_fault(all.samples)?;
     for i in 1..n {
         let at = 28 * i;
-        all = combine(all, meta_of_slice(&metas[at..at + 28]))?;
+        all = joined(all, meta_of_slice(&metas[at..at + 28]))?;
     }
     Ok(all)
 }

@@ -1,7 +1,7 @@
 -- What is done and what is left come to the whole list; its words are a whole number of 28. Assumes nothing.
 use Rattle.std.proofs.Common.{◌≡◌, sym, ◌+◌, ◌-◌, ◌*◌, rules, arith}
 use Rattle.std.specs.Prelude.{Ok, Err}
-use Rattle.meta.specs.Meta.{made_result, combined_two, combined_result}
+use Rattle.meta.specs.Meta.{made_result, combined_two, joined_result}
 use Rattle.meta.specs.Grouping.{all_in_words}
 use Rattle.meta.proofs.WordListLaws.{begin, on, end, odd_length, no_list, refused_at_first, refused_at, whole_words, some_words, front_length, part_length}
 use Rattle.meta.proofs.lists.combine_all.Goals as goal
@@ -40,7 +40,7 @@ pub returns-in_err-all : goal.returns-in_err-all
 returns-in_err-all c =
     let l = c.loop-i in
     let k : 28 * l.i + 28 - 28 * l.i ≡ 28 = omega arith in
-    let m : Err c.in_err-all.field-0.0 ≡ combined_result (combined_two l.all c.meta_of_slice.result) = search rules in
+    let m : Err c.in_err-all.field-0.0 ≡ joined_result (combined_two l.all c.meta_of_slice.result) = search rules in
     let h : Err c.in_err-all.field-0.0 ≡ made_result (all_in_words c.args.metas.now) =
     refused_at _ c.if-metas-ne0.false _ l.i _ l.all c.loop-i-test.true k c.meta_of_slice.ensures m l.invariant.1 in
     search (rules, h)
@@ -49,7 +49,7 @@ pub loop-i-preserved : goal.loop-i-preserved
 loop-i-preserved c =
     let l = c.loop-i in
     let k : 28 * l.i + 28 - 28 * l.i ≡ 28 = omega arith in
-    let m : Ok c.in_ok-all.all ≡ combined_result (combined_two l.all c.meta_of_slice.result) = search rules in
+    let m : Ok c.in_ok-all.all ≡ joined_result (combined_two l.all c.meta_of_slice.result) = search rules in
     (l.invariant.0, on _ _ _ _ l.all c.loop-i-test.true k c.meta_of_slice.ensures m l.invariant.1)
 
 pub returns : goal.returns
