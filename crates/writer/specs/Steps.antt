@@ -6,7 +6,8 @@ use Rattle.fields.specs.Fields.{bytes4}
 use Rattle.form.specs.Form.{variant_kind, variant2_kind, letters_kind, settings_len, settings2_len, variant_len, variant2_len, letters_len, kind_of, body_len}
 use Rattle.form.specs.Job.{records_for, variants_bytes, parts_bytes, haplotypes_bytes, job_bytes}
 use Rattle.form.specs.declared.records.Edition.{Edition}
-use Rattle.form.specs.Lent.{Lent, sum}
+use Rattle.form.specs.Lent.{Lent, lent, sum}
+use Rattle.writer.specs.declared
 use Rattle.writer.specs.Writing.{by_edition, variants_from, parts_from, cut_at, in_order, agree, job_from}
 use Rattle.std.specs.declared.option.Option.{Option}
 use Rattle.std.specs.declared.option.Option.TheVariants.{None, Some}
@@ -73,3 +74,8 @@ pub record Put (t u : List ℕ) (at r : ℕ) (xs : List ℕ) : Type 0 where
 pub record JobFits (e : Edition) (numbers : List ℕ) (s : Settings) (t : Lent) (room : ℕ) : Type 0 where
   pub agrees : agree t ≡ true
   pub fits : length (job_bytes e numbers (job_from s t)) ≤ room
+
+-- what the code's struct of a job holds, as the rules speak of it
+abbrev pub held : declared.Lent.Lent → Lent
+held job = lent job.starts.now job.ends.now job.sizes.now job.negatives.now job.letter_counts.now
+    job.part_sizes.now job.part_negatives.now job.part_letter_counts.now job.breaks.now job.letters.now

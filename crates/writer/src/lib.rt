@@ -7,9 +7,9 @@ ghost use Rattle.std.proofs.Math.Seq.{slice};
 ghost use Rattle.metrics.specs.Refusals.{told};
 ghost use Rattle.form.specs.Form.{most_breaks, part_kind, letters_kind, part_len, letters_len};
 ghost use Rattle.form.specs.Job.{padded, records_for, sequence_bytes, part_body, settings_record, variant_record, variants_bytes, parts_bytes, haplotypes_bytes, job_bytes};
-ghost use Rattle.form.specs.Lent.{lent, sum};
+ghost use Rattle.form.specs.Lent.{sum};
 ghost use Rattle.writer.specs.Writing.{any_over, four_agree, two_agree, in_order, numbers_agree, letters_lost, writing_fault, variants_from, parts_from, cut_at, job_from};
-ghost use Rattle.writer.specs.Steps.{variant_kind_by, settings_size, variant_size, number_tail, cost_of, total, left_of, VariantsFit, PartsFit, HaplotypesFit, Put, JobFits};
+ghost use Rattle.writer.specs.Steps.{held, variant_kind_by, settings_size, variant_size, number_tail, cost_of, total, left_of, VariantsFit, PartsFit, HaplotypesFit, Put, JobFits};
 ghost use Rattle.writer.specs.Promises.{WrittenBy, WriteJobPromise, WriteNumberedJobPromise};
 
 use fields::{put_u8, put_u32, put_u64, u32_of};
@@ -21,6 +21,21 @@ use form::records::{
 use form::settings::{write_settings, write_settings41};
 use metrics::refusals::Refusal;
 use params::Settings;
+
+// What a caller lends of a job: a row of five for a variant, of three for a part, how many parts stand before each haplotype but the first, and the letters of all.
+#[derive(Clone, Copy)]
+struct Lent<'a> {
+    starts: &'a [u64],
+    ends: &'a [u64],
+    sizes: &'a [i32],
+    negatives: &'a [bool],
+    letter_counts: &'a [u32],
+    part_sizes: &'a [i32],
+    part_negatives: &'a [bool],
+    part_letter_counts: &'a [u32],
+    breaks: &'a [u64],
+    letters: &'a [u8],
+}
 
 // How far the writing has come: the next byte, and the next letter.
 #[derive(Clone, Copy)]
@@ -375,23 +390,11 @@ fn lay_job(
     edition: Edition,
     settings: Settings,
     numbers: &[u32],
-    starts: &[u64],
-    ends: &[u64],
-    sizes: &[i32],
-    negatives: &[bool],
-    letter_counts: &[u32],
-    part_sizes: &[i32],
-    part_negatives: &[bool],
-    part_letter_counts: &[u32],
-    breaks: &[u64],
-    letters: &[u8],
+    job: &Lent,
     out: &mut [u8],
 ) -> usize
-    requires { JobFits edition numbers.now settings (lent starts.now ends.now sizes.now negatives.now letter_counts.now
-        part_sizes.now part_negatives.now part_letter_counts.now breaks.now letters.now) (length out.old) }
-    ensures { Put out.old out.new 0 result (job_bytes edition numbers.now (job_from settings (lent
-        starts.now ends.now sizes.now negatives.now letter_counts.now
-        part_sizes.now part_negatives.now part_letter_counts.now breaks.now letters.now))) }
+    requires { JobFits edition numbers.now settings (held job.now) (length out.old) }
+    ensures { Put out.old out.new 0 result (job_bytes edition numbers.now (job_from settings (held job.now))) }
 {
     write_settings_record(out, edition, settings);
     let v = write_variants(
@@ -399,21 +402,21 @@ fn lay_job(
         settings_size(edition),
         edition,
         numbers,
-        starts,
-        ends,
-        sizes,
-        negatives,
-        letter_counts,
-        letters,
+        job.starts,
+        job.ends,
+        job.sizes,
+        job.negatives,
+        job.letter_counts,
+        job.letters,
     );
     let at = write_haplotypes(
         out,
         v.at,
-        part_sizes,
-        part_negatives,
-        part_letter_counts,
-        breaks,
-        letters,
+        job.part_sizes,
+        job.part_negatives,
+        job.part_letter_counts,
+        job.breaks,
+        job.letters,
         v.letter,
     );
     put_u8(out, at, END);
@@ -425,56 +428,45 @@ fn writing_fault(
     edition: Edition,
     settings: Settings,
     numbers: &[u32],
-    starts: &[u64],
-    ends: &[u64],
-    sizes: &[i32],
-    negatives: &[bool],
-    letter_counts: &[u32],
-    part_sizes: &[i32],
-    part_negatives: &[bool],
-    part_letter_counts: &[u32],
-    breaks: &[u64],
-    letters: &[u8],
+    job: &Lent,
 ) -> Result<(), Refusal>
-    ensures { told result ≡ writing_fault edition numbers.now settings (lent
-        starts.now ends.now sizes.now negatives.now letter_counts.now
-        part_sizes.now part_negatives.now part_letter_counts.now breaks.now letters.now) }
+    ensures { told result ≡ writing_fault edition numbers.now settings (held job.now) }
 {
-    if MOST_BREAKS < breaks.len() {
+    if MOST_BREAKS < job.breaks.len() {
         return Err(Refusal::TooManyHaplotypes);
     }
-    if !numbers_agree(edition, numbers.len(), starts.len()) {
+    if !numbers_agree(edition, numbers.len(), job.starts.len()) {
         return Err(Refusal::BadLengths);
     }
     if !rows_agree(
-        starts.len(),
-        ends.len(),
-        sizes.len(),
-        negatives.len(),
-        letter_counts.len(),
+        job.starts.len(),
+        job.ends.len(),
+        job.sizes.len(),
+        job.negatives.len(),
+        job.letter_counts.len(),
     ) {
         return Err(Refusal::BadLengths);
     }
     if !parts_agree(
-        part_sizes.len(),
-        part_negatives.len(),
-        part_letter_counts.len(),
+        job.part_sizes.len(),
+        job.part_negatives.len(),
+        job.part_letter_counts.len(),
     ) {
         return Err(Refusal::BadLengths);
     }
-    if !letters_agree(letter_counts, part_letter_counts, letters.len()) {
+    if !letters_agree(job.letter_counts, job.part_letter_counts, job.letters.len()) {
         return Err(Refusal::BadLengths);
     }
-    if !breaks_agree(part_sizes.len(), breaks) {
+    if !breaks_agree(job.part_sizes.len(), job.breaks) {
         return Err(Refusal::BadLengths);
     }
     if 1 < settings.letters {
         return Err(Refusal::BadFlag);
     }
-    if any_over(letter_counts) {
+    if any_over(job.letter_counts) {
         return Err(Refusal::TooManyLetters);
     }
-    if any_over(part_letter_counts) {
+    if any_over(job.part_letter_counts) {
         return Err(Refusal::TooManyLetters);
     }
     if letters_lost(edition, settings.letters) {
@@ -488,62 +480,22 @@ fn write_by(
     edition: Edition,
     settings: Settings,
     numbers: &[u32],
-    starts: &[u64],
-    ends: &[u64],
-    sizes: &[i32],
-    negatives: &[bool],
-    letter_counts: &[u32],
-    part_sizes: &[i32],
-    part_negatives: &[bool],
-    part_letter_counts: &[u32],
-    breaks: &[u64],
-    letters: &[u8],
+    job: &Lent,
     out: &mut [u8],
 ) -> Result<usize, Refusal>
-    ensures { WrittenBy edition numbers.now settings (lent
-        starts.now ends.now sizes.now negatives.now letter_counts.now
-        part_sizes.now part_negatives.now part_letter_counts.now breaks.now letters.now) out.old out.new result }
+    ensures { WrittenBy edition numbers.now settings (held job.now) out.old out.new result }
 {
-    writing_fault(
-        edition,
-        settings,
-        numbers,
-        starts,
-        ends,
-        sizes,
-        negatives,
-        letter_counts,
-        part_sizes,
-        part_negatives,
-        part_letter_counts,
-        breaks,
-        letters,
-    )?;
+    writing_fault(edition, settings, numbers, job)?;
     let room = spare(
         edition,
-        letter_counts,
-        part_letter_counts,
-        breaks.len(),
+        job.letter_counts,
+        job.part_letter_counts,
+        job.breaks.len(),
         out.len(),
     );
     match room {
         None => Err(Refusal::LittleRoom),
-        Some(_) => Ok(lay_job(
-            edition,
-            settings,
-            numbers,
-            starts,
-            ends,
-            sizes,
-            negatives,
-            letter_counts,
-            part_sizes,
-            part_negatives,
-            part_letter_counts,
-            breaks,
-            letters,
-            out,
-        )),
+        Some(_) => Ok(lay_job(edition, settings, numbers, job, out)),
     }
 }
 
@@ -569,16 +521,18 @@ pub fn write_job(
         Edition::One,
         settings,
         &letter_counts[0..0],
-        starts,
-        ends,
-        sizes,
-        negatives,
-        letter_counts,
-        part_sizes,
-        part_negatives,
-        part_letter_counts,
-        breaks,
-        letters,
+        &Lent {
+            starts,
+            ends,
+            sizes,
+            negatives,
+            letter_counts,
+            part_sizes,
+            part_negatives,
+            part_letter_counts,
+            breaks,
+            letters,
+        },
         out,
     )
 }
@@ -606,16 +560,18 @@ pub fn write_numbered_job(
         Edition::Two,
         settings,
         numbers,
-        starts,
-        ends,
-        sizes,
-        negatives,
-        letter_counts,
-        part_sizes,
-        part_negatives,
-        part_letter_counts,
-        breaks,
-        letters,
+        &Lent {
+            starts,
+            ends,
+            sizes,
+            negatives,
+            letter_counts,
+            part_sizes,
+            part_negatives,
+            part_letter_counts,
+            breaks,
+            letters,
+        },
         out,
     )
 }

@@ -2,27 +2,20 @@
 use Rattle.std.proofs.Common.{sym, ◌∙◌, rules}
 use lib.ListN.{length}
 use Rattle.std.specs.Prelude.{Err}
-use Rattle.form.specs.Lent.{Lent, lent}
 use Rattle.writer.specs.Promises.{WrittenBy}
-use Rattle.writer.specs.Steps.{JobFits}
+use Rattle.writer.specs.Steps.{JobFits, held}
 use Rattle.writer.proofs.JobLaws.{sound, write_fault_lem, write_short, write_fits, wrote}
-use Rattle.writer.proofs.write_by.Goals.{Start, In-Some}
+use Rattle.writer.proofs.write_by.Goals.{In-Some}
 use Rattle.writer.proofs.write_by.Goals as goal
 
-abbrev held : Start → Lent
-held c = lent c.args.starts.now c.args.ends.now c.args.sizes.now c.args.negatives.now c.args.letter_counts.now
-    c.args.part_sizes.now c.args.part_negatives.now c.args.part_letter_counts.now c.args.breaks.now c.args.letters.now
-
 -- the job fits
-fits : (c : In-Some) → let a = c.args in JobFits a.edition a.numbers.now a.settings (lent a.starts.now a.ends.now a.sizes.now a.negatives.now a.letter_counts.now
-    a.part_sizes.now a.part_negatives.now a.part_letter_counts.now a.breaks.now a.letters.now) (length a.out.now)
+fits : (c : In-Some) → let a = c.args in JobFits a.edition a.numbers.now a.settings (held a.job.now) (length a.out.now)
 fits c = write_fits _ _ _ _ c.args.out.now c.in_ok-writing_fault.ensures (sym c.in-Some.is ∙ c.spare-room.ensures)
 
 pub returns-in_err-writing_fault : goal.returns-in_err-writing_fault
 returns-in_err-writing_fault c =
     let a = c.args in
-    let t = held (goal.at.returns-in_err-writing_fault c).Start in
-    let h : WrittenBy a.edition a.numbers.now a.settings t a.out.now a.out.now (Err c.in_err-writing_fault.field-0.0) =
+    let h : WrittenBy a.edition a.numbers.now a.settings (held a.job.now) a.out.now a.out.now (Err c.in_err-writing_fault.field-0.0) =
     write_fault_lem _ _ _ _ a.out.now _ c.in_err-writing_fault.ensures in
     search (rules, h)
 
