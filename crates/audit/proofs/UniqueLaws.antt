@@ -139,6 +139,7 @@ unique = record {
   new = λ index samples. one;
   new_blank = λ samples. one;
   combine = λ left right. one;
+  or_blank = λ made. one;
   meta_of_words = λ words. one;
   words_of_meta = λ meta. one;
   combine_all = λ metas. one;

@@ -20,7 +20,8 @@ use Rattle.dive.specs.Promises.{ApplyWithMetaPromise, ApplyHaplotypesWithMetaPro
 use Rattle.dive.specs.declared.told.Told.{Told}
 use Rattle.dive.specs.declared.told.ToldSeveral.{ToldSeveral}
 use Rattle.meta.specs.declared.HaplotypeMeta.{HaplotypeMeta}
-use Rattle.meta.specs.Promises.{NewPromise, NewBlankPromise, CombinePromise, MetaOfWordsPromise, WordsOfMetaPromise, CombineAllPromise}
+use Rattle.meta.specs.declared.Combined.{Combined}
+use Rattle.meta.specs.Promises.{NewPromise, NewBlankPromise, CombinePromise, OrBlankPromise, MetaOfWordsPromise, WordsOfMetaPromise, CombineAllPromise}
 use Rattle.form.specs.declared.records.Edition.{Edition}
 use Rattle.form.specs.declared.records.Kind.{Kind}
 use Rattle.form.specs.declared.records.Record.{Record}
@@ -125,7 +126,8 @@ pub record Unique : Type 0 where
       x.links x.keys x.rows x.says.0 x.says.1.0 x.says.1.1)
   pub new : (index samples : ℕ) → One (Result HaplotypeMeta Refusal) (NewPromise index samples)
   pub new_blank : (samples : ℕ) → One (Result HaplotypeMeta Refusal) (NewBlankPromise samples)
-  pub combine : (left right : HaplotypeMeta) → One (Result HaplotypeMeta Refusal) (CombinePromise left right)
+  pub combine : (left right : HaplotypeMeta) → One (Result Combined Refusal) (CombinePromise left right)
+  pub or_blank : (made : Result HaplotypeMeta Refusal) → One HaplotypeMeta (OrBlankPromise made)
   pub meta_of_words : (words : List ℕ) → One HaplotypeMeta (MetaOfWordsPromise words)
   pub words_of_meta : (meta : HaplotypeMeta) → One (List ℕ) (WordsOfMetaPromise meta)
   pub combine_all : (metas : List ℕ) → One (Result HaplotypeMeta Refusal) (CombineAllPromise metas)

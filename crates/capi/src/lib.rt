@@ -23,7 +23,7 @@ use params::{Parts, Table};
 mod words;
 
 // A call's value at its place, or what stands there for a refusal; and the call's number.
-fn place<T: Copy>(came: Result<T, Refusal>, at: &mut T, refused: T) -> u32
+fn told_at<T: Copy>(came: Result<T, Refusal>, at: &mut T, refused: T) -> u32
     ensures number { result ≡ told came }
     ensures value { at.new ≡ result_unwrap_or came refused }
 {
@@ -45,22 +45,22 @@ pub fn nd_seq_to_kmer(text: &[u8], k: u8, negative: bool, letters: u8, row: &mut
     told(metrics::kmer::seq_to_kmer(text, k, negative, letters, row))
 }
 
-pub fn nd_seqsim(a: &[i32], b: &[i32], minkfreq: u32, place_of: &mut f32) -> u32
-    ensures { NdSeqsimPromise a.now b.now minkfreq place_of.old place_of.new result }
+pub fn nd_seqsim(a: &[i32], b: &[i32], minkfreq: u32, place: &mut f32) -> u32
+    ensures { NdSeqsimPromise a.now b.now minkfreq place.old place.new result }
 {
-    place(metrics::seqsim(a, b, minkfreq), place_of, 0.0)
+    told_at(metrics::seqsim(a, b, minkfreq), place, 0.0)
 }
 
-pub fn nd_sizesim(a: u64, b: u64, place_of: &mut f32) -> u32
-    ensures { NdSizesimPromise a b place_of.old place_of.new result }
+pub fn nd_sizesim(a: u64, b: u64, place: &mut f32) -> u32
+    ensures { NdSizesimPromise a b place.old place.new result }
 {
-    place(metrics::sizesim(a, b), place_of, 0.0)
+    told_at(metrics::sizesim(a, b), place, 0.0)
 }
 
 pub fn nd_count_chains(starts: &[u64], ends: &[u64], full: bool, cap: u32, count: &mut u32) -> u32
     ensures { NdCountChainsPromise starts.now ends.now full cap count.old count.new result }
 {
-    place(kplib::vargraph::count_chains(starts, ends, full, cap), count, 0)
+    told_at(kplib::vargraph::count_chains(starts, ends, full, cap), count, 0)
 }
 
 // The program's answer to a job's bytes, at the front of `text`. Returns how long it is.
@@ -177,7 +177,7 @@ pub fn nd_read_bed(
         starts.new ends.new name.new counts.new result }
 {
     let read = bed::read_bed(text, starts, ends, name);
-    place(read.map(|found| [found.rows, found.width]), counts, [0, 0])
+    told_at(read.map(|found| [found.rows, found.width]), counts, [0, 0])
 }
 
 // How many bytes are written; 0 on a refusal.
@@ -193,7 +193,7 @@ pub fn nd_write_bed(
         text.new written.new result }
 {
     let wrote = bed::write_bed(name, starts, ends, rows, text);
-    place(wrote.map(|bytes| bytes as u64), written, 0)
+    told_at(wrote.map(|bytes| bytes as u64), written, 0)
 }
 
 // A row at the end of a table, and the table's sheet with it.
@@ -236,7 +236,7 @@ pub fn nd_companions_together(
     ensures { NdCompanionsTogetherPromise starts.now ends.now sheet.now rows a b yes.old yes.new result }
 {
     let paired = companions::together(starts, ends, sheet, rows, a, b);
-    place(paired.map(|may| may as u32), yes, 0)
+    told_at(paired.map(|may| may as u32), yes, 0)
 }
 
 // How many later companions a row has; 0 on a refusal.
@@ -250,7 +250,7 @@ pub fn nd_companions_count(
 ) -> u32
     ensures { NdCompanionsCountPromise starts.now ends.now sheet.now rows row count.old count.new result }
 {
-    place(companions::count(starts, ends, sheet, rows, row), count, 0)
+    told_at(companions::count(starts, ends, sheet, rows, row), count, 0)
 }
 
 // One read of one sample, as 28 words; a blank of one sample on a refusal.
@@ -313,14 +313,14 @@ pub fn nd_check_path(
         features: part_features,
     };
     let checked = kplib::checkpath::check_path(s, &table, &parts, rows, positions, score);
-    place(checked.map(|good| good as u32), yes, 0)
+    told_at(checked.map(|good| good as u32), yes, 0)
 }
 
 // The settings under the next version of a book, which is told; 0 on a refusal.
 pub fn nd_book_save(book: &mut [u8], settings: &[u8; 41], version: &mut u32) -> u32
     ensures { NdBookSavePromise book.old settings.now version.old book.new version.new result }
 {
-    place(book::save(book, settings), version, 0)
+    told_at(book::save(book, settings), version, 0)
 }
 
 pub fn nd_book_read(book: &[u8], version: u32, settings: &mut [u8; 41]) -> u32
@@ -333,7 +333,7 @@ pub fn nd_book_read(book: &[u8], version: u32, settings: &mut [u8; 41]) -> u32
 pub fn nd_book_restore(book: &mut [u8], version: u32, added: &mut u32) -> u32
     ensures { NdBookRestorePromise book.old version added.old book.new added.new result }
 {
-    place(book::restore(book, version), added, 0)
+    told_at(book::restore(book, version), added, 0)
 }
 
 // A job's bytes in the edition asked for, 1 or 2. How many are written; 0 on a refusal.
@@ -341,5 +341,5 @@ pub fn nd_move_job(job: &[u8], edition: u32, out: &mut [u8], written: &mut u64) 
     ensures { NdMoveJobPromise job.now edition out.old written.old out.new written.new result }
 {
     let moved = editions::move_job(job, edition, out);
-    place(moved.map(|bytes| bytes as u64), written, 0)
+    told_at(moved.map(|bytes| bytes as u64), written, 0)
 }
