@@ -2,12 +2,13 @@
 #![tactic(auto)]
 
 use form::records::{Counts, Edition, edition_of};
+use metrics::refusals::Refusal;
 use params::Settings;
-use reader::numbers::{Numbering, read_numbers};
-use reader::{Reading, read_job};
+use reader::numbers::read_numbers;
+use reader::read_job;
 use std::io;
 use streams::read_full;
-use writer::{Writing, write_job, write_numbered_job};
+use writer::{write_job, write_numbered_job};
 
 // The first n of a slice, or all where there are fewer.
 fn front<T>(xs: &[T], n: usize) -> &[T] {
@@ -30,11 +31,11 @@ fn write_again(
     breaks: &[u64],
     letters: &[u8],
     out: &mut [u8],
-) -> Writing {
+) -> Result<usize, Refusal> {
     let mut room = [0u32; 16];
     // never refused, since the job was read: there is room for as many variants
-    let Numbering::Numbers(v) = read_numbers(job, &mut room) else {
-        return Writing::Wrote(0);
+    let Ok(v) = read_numbers(job, &mut room) else {
+        return Ok(0);
     };
     let m = found.parts;
     match edition_of(job) {
@@ -85,7 +86,7 @@ fn main(rt: HostRuntime) -> io::Result<()> {
     let mut letters = [0u8; 32768];
     let mut out = [0u8; 32768];
     let job = front(&bytes, got);
-    let Reading::Job(settings, found) = read_job(
+    let Ok((settings, found)) = read_job(
         job,
         &mut starts,
         &mut ends,
@@ -100,7 +101,7 @@ fn main(rt: HostRuntime) -> io::Result<()> {
     ) else {
         return Ok(());
     };
-    let Writing::Wrote(count) = write_again(
+    let Ok(count) = write_again(
         job,
         settings,
         found,

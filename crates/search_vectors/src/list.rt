@@ -3,7 +3,7 @@
 use fields::{i32_of, u32_at, u64_at};
 use metrics::kmer::{entries, seq_to_kmer};
 use params::Settings;
-use reader::{Reading, read_job};
+use reader::read_job;
 use std::io::Read;
 use streams::read_full;
 
@@ -110,7 +110,7 @@ pub(crate) fn settings_of(head: &[u8]) -> Settings {
     let mut part_counts = [0u32; 1];
     let mut breaks = [0u64; 1];
     let mut letters = [0u8; 1];
-    let reading = read_job(
+    let read = read_job(
         head,
         &mut starts,
         &mut ends,
@@ -123,8 +123,8 @@ pub(crate) fn settings_of(head: &[u8]) -> Settings {
         &mut breaks,
         &mut letters,
     );
-    match reading {
-        Reading::Job(settings, _) => settings,
-        Reading::Refused(_) => NO_SETTINGS,
+    match read {
+        Ok((settings, _)) => settings,
+        Err(_) => NO_SETTINGS,
     }
 }

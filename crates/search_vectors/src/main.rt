@@ -9,7 +9,7 @@ use crate::list::{
 };
 use crate::print::print_answer;
 use kplib::traverse::apply_haplotype;
-use params::Settings;
+use params::{Parts, Settings, Table};
 use std::io;
 use std::io::Read;
 use streams::read_full;
@@ -29,14 +29,20 @@ fn ask(
     let mut links = [0u32; 262145];
     let mut keys = [0u64; 262145];
     let mut rows = [0u32; 80];
+    let table = Table {
+        starts: front(starts, lengths[0]),
+        ends: front(ends, lengths[1]),
+        sizes: front(sizes, lengths[2]),
+        features: front(features, lengths[3]),
+    };
+    let parts = Parts {
+        sizes: front(part_sizes, lengths[4]),
+        features: front(part_features, lengths[5]),
+    };
     let answer = apply_haplotype(
         settings,
-        front(starts, lengths[0]),
-        front(ends, lengths[1]),
-        front(sizes, lengths[2]),
-        front(features, lengths[3]),
-        front(part_sizes, lengths[4]),
-        front(part_features, lengths[5]),
+        &table,
+        &parts,
         front_mut(&mut links, lengths[6]),
         front_mut(&mut keys, lengths[7]),
         front_mut(&mut rows, lengths[8]),
