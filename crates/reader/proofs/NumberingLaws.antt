@@ -49,7 +49,8 @@ module _ (s : List ℕ) {c : Counts} (at : run s 0 outset ≡ Ok c) where
 
 -- ---- what reading them answers
 module _ (s old : List ℕ) where
-  pub numbers_refused : {refusal : Refusal} → run s 0 outset ≡ Err refusal → (Err refusal ≡ numbering_of (read_job s) (numbers_of s) (length old)) × (old ≡ numbers_after (read_job s) (numbers_of s) old)
+  pub numbers_refused : {refusal : Refusal} → run s 0 outset ≡ Err refusal
+      → (Err refusal ≡ numbering_of (read_job s) (numbers_of s) (length old)) × (old ≡ numbers_after (read_job s) (numbers_of s) old)
   unfolding read_job numbering_of numbers_after
   numbers_refused {refusal} e = (
     sym (ap (λ (w : Result Counts Refusal). numbering_of (read_of w (job_of s)) (numbers_of s) (length old)) e ∙ ap (λ (found : Refusal). Err found) (refusal_is refusal)),

@@ -100,7 +100,8 @@ parts_room c t = three c.parts (length t.part_sizes) (length t.part_negatives) (
 pub read_refused : (s : List ℕ) (t : Lent) {refusal : Refusal} → run s 0 outset ≡ Err refusal → (Err refusal ≡ reading_of (read_job s) t) × (t ≡ lent_after (read_job s) t)
 unfolding read_job reading_of lent_after
 read_refused s t {refusal} e =
-    (sym (ap (λ (w : Result Counts Refusal). reading_of (read_of w (job_of s)) t) e ∙ ap (λ (found : Refusal). Err found) (refusal_is refusal)), sym (ap (λ (w : Result Counts Refusal). lent_after (read_of w (job_of s)) t) e))
+    let answer = ap (λ (w : Result Counts Refusal). reading_of (read_of w (job_of s)) t) e ∙ ap (λ (found : Refusal). Err found) (refusal_is refusal) in
+    (sym answer, sym (ap (λ (w : Result Counts Refusal). lent_after (read_of w (job_of s)) t) e))
 
 module _ (s : List ℕ) {c : Counts} (at : run s 0 outset ≡ Ok c) where
   pub settings_there : 41 ≤ length s
@@ -112,7 +113,9 @@ module _ (s : List ℕ) {c : Counts} (at : run s 0 outset ≡ Ok c) where
   module _ (t : Lent) where
     reading_at : reading_of (read_job s) t ≡ cond (has_room c t) (Ok (settings_by (edition_of s) (drop 1 s), c)) (Err LittleRoom)
     unfolding read_job reading_of job_of
-    reading_at = ap (λ (w : Result Counts Refusal). reading_of (read_of w (job_of s)) t) at ∙ ap (λ (d : Counts). cond (has_room d t) (Ok (settings_by (edition_of s) (drop 1 s), d)) (Err LittleRoom)) (sym are)
+    reading_at =
+        ap (λ (w : Result Counts Refusal). reading_of (read_of w (job_of s)) t) at
+        ∙ ap (λ (d : Counts). cond (has_room d t) (Ok (settings_by (edition_of s) (drop 1 s), d)) (Err LittleRoom)) (sym are)
 
     lent_at : lent_after (read_job s) t ≡ cond (has_room c t) (lent_with (job_of s) t) t
     unfolding read_job lent_after

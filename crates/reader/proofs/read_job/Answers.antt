@@ -34,17 +34,18 @@ returns-then-not-rows_fit c = crowded_rows _ (good (goal.at.returns-then-not-row
 
 pub returns-then-not-parts_fit : goal.returns-then-not-parts_fit
 returns-then-not-parts_fit c =
-    crowded_parts _ (good (goal.at.returns-then-not-parts_fit c).In_ok-counts) _ (rows_room_lem (goal.at.returns-then-not-parts_fit c).Else-not-rows_fit) (sym c.parts_fit.ensures ∙ c.if-not-parts_fit.true)
+    let at = goal.at.returns-then-not-parts_fit c in
+    crowded_parts _ (good at.In_ok-counts) _ (rows_room_lem at.Else-not-rows_fit) (sym c.parts_fit.ensures ∙ c.if-not-parts_fit.true)
 
 pub returns-then-breaks-counts : goal.returns-then-breaks-counts
 returns-then-breaks-counts c =
-    crowded_breaks _ (good (goal.at.returns-then-breaks-counts c).In_ok-counts) _ (rows_room_lem (goal.at.returns-then-breaks-counts c).Else-not-rows_fit)
-    (parts_room_lem (goal.at.returns-then-breaks-counts c).Else-not-parts_fit) c.if-breaks-counts.true
+    let at = goal.at.returns-then-breaks-counts c in
+    crowded_breaks _ (good at.In_ok-counts) _ (rows_room_lem at.Else-not-rows_fit) (parts_room_lem at.Else-not-parts_fit) c.if-breaks-counts.true
 
 pub returns-then-letters-counts : goal.returns-then-letters-counts
 returns-then-letters-counts c =
-    crowded_letters _ (good (goal.at.returns-then-letters-counts c).In_ok-counts) _ (rows_room_lem (goal.at.returns-then-letters-counts c).Else-not-rows_fit)
-    (parts_room_lem (goal.at.returns-then-letters-counts c).Else-not-parts_fit) c.if-breaks-counts.false c.if-letters-counts.true
+    let at = goal.at.returns-then-letters-counts c in
+    crowded_letters _ (good at.In_ok-counts) _ (rows_room_lem at.Else-not-rows_fit) (parts_room_lem at.Else-not-parts_fit) c.if-breaks-counts.false c.if-letters-counts.true
 
 pub slice_bounds-settings_by-count : goal.slice_bounds-settings_by-count
 slice_bounds-settings_by-count c = let h = settings (goal.at.slice_bounds-settings_by-count c).Else-letters-counts in omega arith
@@ -60,6 +61,6 @@ returns-in_err-counts c =
 
 pub returns : goal.returns
 returns c =
-    read_job_lem _ (good (goal.at.returns c).In_ok-counts) _ (rows_room_lem (goal.at.returns c).Else-not-rows_fit)
-    (parts_room_lem (goal.at.returns c).Else-not-parts_fit) c.if-breaks-counts.false c.if-letters-counts.false _ c.fill.ensures.variants c.fill.ensures.parts
-    c.fill.ensures.begins c.fill.ensures.sequence _ _ c.edition_of.ensures c.settings_by-settings.ensures
+    let at = goal.at.returns c in
+    read_job_lem _ (good at.In_ok-counts) _ (rows_room_lem at.Else-not-rows_fit) (parts_room_lem at.Else-not-parts_fit) c.if-breaks-counts.false c.if-letters-counts.false _
+    c.fill.ensures.variants c.fill.ensures.parts c.fill.ensures.begins c.fill.ensures.sequence _ _ c.edition_of.ensures c.settings_by-settings.ensures
