@@ -51,7 +51,7 @@ pub(crate) fn read_rows<R: Read>(input: &mut R, k: u8, letters: &mut [u8], table
         let letters = front_mut(letters, word(input));
         read_full(input, letters);
         if let Some(counts) = table.get_mut(row * width..(row + 1) * width) {
-            seq_to_kmer(letters, k, negative, 0, counts);
+            let _ = seq_to_kmer(letters, k, negative, 0, counts);
         }
     }
 }
