@@ -1,15 +1,18 @@
 -- No fault of the form has the number 30: a reader that gives it has found the form good and its room too small. A form in good order has 1 to 16 haplotypes.
-use Prim.Native.Nat.{ℕ, zero, suc, ◌+◌, ◌≤◌, ◌<◌}
+use Prim.Native.Nat.{ℕ, zero, suc, ◌+◌, ◌≤◌}
 use native.Mathlib.Omega.{arith}
-use mathlib.Core.Path.{◌≡◌, refl, subst}
+use mathlib.Core.Path.{◌≡◌, refl, sym, ap, subst, ◌∙◌}
 use mathlib.Core.Bool.{Bool, true, false, cond, not, ◌&&◌}
 use mathlib.Core.List.{List, [], ◌∷◌}
 use lib.Dec.{ltb, leb, eqb}
 use lib.ListN.{length}
 use borrow.Author.Tests.{eqb-true, leb-false}
 use Rattle.form.specs.declared.records.State.{State}
-use Rattle.form.specs.declared.records.Scan.{Scan}
-use Rattle.form.specs.declared.records.Scan.TheVariants.{Good, Refused}
+use Rattle.form.specs.declared.records.Counts.{Counts}
+use Rattle.std.specs.Prelude.{Result, Ok, Err}
+use Rattle.metrics.specs.declared.refusals.Refusal.{Refusal}
+use Rattle.metrics.specs.Refusals.{refusal_number, refusal_of}
+use Rattle.metrics.proofs.RefusalLaws.{refusal_is}
 use Rattle.form.specs.declared.records.Kind.{Kind}
 use Rattle.form.specs.Form.{kind_of, is_end, is_next, is_unknown, body_len, in_place, flags_ok, count_of, pad_ok, too_many, fault_of, after, outset, counted, judge, run}
 use Rattle.form.specs.Job.{Job, Read, Faulty, Held, read_of, job_of, read_job}
@@ -17,29 +20,37 @@ use Rattle.form.specs.Lent.{breaks_of, job_counts}
 use Rattle.form.proofs.NumberLaws.{held_good, held_job}
 use Rattle.form.proofs.HaplotypeLaws.{some_haplotype}
 
-abbrev Low : Scan → Type 0
-Low (Refused n) = n < 30
-Low (Good c) = c.breaks ≤ 15
+abbrev Low : Result Counts Refusal → Type 0
+Low (Err refusal) = refusal_number refusal ≡ 30 → ⊥
+Low (Ok c) = c.breaks ≤ 15
 
+-- the number of a refusal, and of another one than 30
 abbrev LowRead : Read → Type 0
-LowRead (Faulty n) = n < 30
+LowRead (Faulty n) = (refusal_number (refusal_of n) ≡ n) × (n ≡ 30 → ⊥)
 LowRead (Held job) = Unit {0}
 
-either : (t : Bool) {a b : ℕ} → a < 30 → b < 30 → cond t a b < 30
+-- the refusal of this number is another one than 30
+record Fine (n : ℕ) : Type 0 where
+  other : refusal_number (refusal_of n) ≡ 30 → ⊥
+
+either : (t : Bool) {a b : ℕ} → Fine a → Fine b → Fine (cond t a b)
 either true p q = p
 either false p q = q
 
-fault_low : (st : State) (kind : Kind) (b : List ℕ) → fault_of st kind b < 30
+fine : (n : ℕ) {m : ℕ} → refusal_number (refusal_of n) ≡ m → (m ≡ 30 → ⊥) → Fine n
+fine n is h = record { other = λ e. h (sym is ∙ e) }
+
+fault_low : (st : State) (kind : Kind) (b : List ℕ) → Fine (fault_of st kind b)
 unfolding fault_of
 fault_low st kind b =
-    either (is_unknown kind) (omega arith)
-    (either (ltb (length b) (body_len kind)) (omega arith)
-    (either (not (in_place st kind)) (omega arith)
-    (either (too_many st kind) (omega arith)
-    (either (not (flags_ok kind b)) (omega arith)
-    (either (ltb 131072 (count_of kind b)) (omega arith)
-    (either (not (pad_ok st kind b)) (omega arith)
-    (either (is_end kind && ltb 0 (length b)) (omega arith) (omega arith))))))))
+    either (is_unknown kind) (fine 20 {m = 20} refl (λ e. omega arith))
+    (either (ltb (length b) (body_len kind)) (fine 21 {m = 21} refl (λ e. omega arith))
+    (either (not (in_place st kind)) (fine 22 {m = 22} refl (λ e. omega arith))
+    (either (too_many st kind) (fine 27 {m = 27} refl (λ e. omega arith))
+    (either (not (flags_ok kind b)) (fine 24 {m = 24} refl (λ e. omega arith))
+    (either (ltb 131072 (count_of kind b)) (fine 13 {m = 13} refl (λ e. omega arith))
+    (either (not (pad_ok st kind b)) (fine 23 {m = 23} refl (λ e. omega arith))
+    (either (is_end kind && ltb 0 (length b)) (fine 25 {m = 25} refl (λ e. omega arith)) (fine 0 {m = 54} refl (λ e. omega arith)))))))))
 
 -- a record without a fault is not the sixteenth break
 not_late : (a b c d : Bool) (rest : ℕ) → ◌≡◌ {A = ℕ} (cond a 20 (cond b 21 (cond c 22 (cond d 27 rest)))) 0 → d ≡ false
@@ -59,31 +70,31 @@ few_after st kind b few e =
     breaks_after (is_next kind) st.breaks few
     (not_late (is_unknown kind) (ltb (length b) (body_len kind)) (not (in_place st kind)) (is_next kind && leb 15 st.breaks) _ e)
 
-judge_low : (f : ℕ) (kind : Kind) (st : State) (rest : Scan) → f < 30 → st.breaks ≤ 15 → (f ≡ 0 → Low rest) → Low (judge f kind st rest)
+judge_low : (f : ℕ) (kind : Kind) (st : State) (rest : Result Counts Refusal) → Fine f → st.breaks ≤ 15 → (f ≡ 0 → Low rest) → Low (judge f kind st rest)
 judge_low f kind st rest h few low = go (eqb f 0) (is_end kind) refl
   where
-    go : (none last : Bool) → eqb f 0 ≡ none → Low (cond none (cond last (Good (counted st)) rest) (Refused f))
+    go : (none last : Bool) → eqb f 0 ≡ none → Low (cond none (cond last (Ok (counted st)) rest) (Err (refusal_of f)))
     go true true e = few
     go true false e = low (eqb-true f 0 e)
-    go false last e = h
+    go false last e = h.other
 
 run_low : (s : List ℕ) (n : ℕ) (st : State) → st.breaks ≤ 15 → Low (run s n st)
 unfolding run
-run_low [] n st few = omega arith
+run_low [] n st few = λ e. omega arith
 run_low (k ∷ b) (suc n) st few = run_low b n st few
 run_low (k ∷ b) zero st few =
     judge_low (fault_of st (kind_of k) b) (kind_of k) st (run b (body_len (kind_of k)) (after st (kind_of k) b)) (fault_low st (kind_of k) b) few
     (λ none. run_low b (body_len (kind_of k)) (after st (kind_of k) b) (few_after st (kind_of k) b few none))
 
-read_low : (found : Scan) (job : Job) → Low found → LowRead (read_of found job)
-read_low (Refused n) job h = h
-read_low (Good c) job h = tt
+read_low : (found : Result Counts Refusal) (job : Job) → Low found → LowRead (read_of found job)
+read_low (Err refusal) job h = (ap refusal_number (refusal_is refusal), h)
+read_low (Ok c) job h = tt
 
 job_low : (input : List ℕ) → LowRead (read_job input)
 unfolding read_job
 job_low input = read_low (run input 0 outset) (job_of input) (run_low input 0 outset (omega arith))
 
-pub form_fault : (input : List ℕ) (n : ℕ) → read_job input ≡ Faulty n → n < 30
+pub form_fault : (input : List ℕ) (n : ℕ) → read_job input ≡ Faulty n → (refusal_number (refusal_of n) ≡ n) × (n ≡ 30 → ⊥)
 form_fault input n e = subst LowRead e (job_low input)
 
 module _ (input : List ℕ) (job : Job) (held : read_job input ≡ Held job) where

@@ -10,8 +10,8 @@ use lib.IntN.{ℤ}
 use lib.ListN.{length, get_or, take, drop, length-append, length-take, length-drop, drop_of_length-le}
 use lib.Seq.{drop-cons, drop-drop, take_at, length-take-le}
 use borrow.Rule.Slice.PartMut.{put_mid, Post-is}
-use Rattle.metrics.specs.declared.kmer.Counted.{Counted}
-use Rattle.metrics.specs.declared.kmer.Counted.TheVariants.{Done}
+use Rattle.std.specs.Prelude.{Result, Ok}
+use Rattle.metrics.specs.declared.refusals.Refusal.{Refusal}
 use Rattle.metrics.specs.Letters.{read_by, windows_reading, times_in, signed, counts_reading, counts_by, counter_answer, row_after}
 use Rattle.metrics.proofs.Windows.{table_length}
 use Rattle.metrics.proofs.Totals.{counter_done}
@@ -24,11 +24,11 @@ unfolding counts_by counts_reading
 row_length reading k negative s = table_length (λ i. signed negative (times_in i (windows_reading (read_by reading) k s))) 0 (4 ^ k)
 
 -- the counter refuses none of these rows
-accepted : (k reading : ℕ) (s : List ℕ) (out : List ℤ) → 1 ≤ k → k ≤ 4 → reading ≤ 1 → length out ≡ 4 ^ k → length s ≤ 32768 → counter_answer k reading s out ≡ Done
+accepted : (k reading : ℕ) (s : List ℕ) (out : List ℤ) → 1 ≤ k → k ≤ 4 → reading ≤ 1 → length out ≡ 4 ^ k → length s ≤ 32768 → counter_answer k reading s out ≡ Ok tt
 accepted k reading s out low high known long few = counter_done k reading s out low (omega arith) known long (omega arith)
 
 pub row_counted : (reading k at end from to : ℕ) (negative : Bool) (letters : List ℕ) (table : List ℤ) → RowFits reading k at end from to letters table →
-    (answer : Counted) → answer ≡ counter_answer k reading (take (end - at) (drop at letters)) (take (to - from) (drop from table)) →
+    (answer : Result Unit Refusal) → answer ≡ counter_answer k reading (take (end - at) (drop at letters)) (take (to - from) (drop from table)) →
     (row : List ℤ) → row ≡ row_after answer (counts_by reading k negative (take (end - at) (drop at letters))) (take (to - from) (drop from table)) →
     put_mid from (to - from) table row ≡ row_stored from to table (counts_by reading k negative (take (end - at) (drop at letters)))
 unfolding row_stored
@@ -40,7 +40,7 @@ row_counted reading k at end from to negative letters table fits answer is row e
     let up : from ≤ to = omega arith in
     let long : length (take (to - from) (drop from table)) ≡ 4 ^ k = simp (length-take, length-drop) (omega arith) in
     let few : length (take (end - at) (drop at letters)) ≤ 32768 = simp (length-take, length-drop) (omega arith) in
-    let done : answer ≡ Done = is ∙ accepted k reading _ _ fits.k_low fits.k_high fits.known long few in
+    let done : answer ≡ Ok tt = is ∙ accepted k reading _ _ fits.k_low fits.k_high fits.known long few in
     rw (Post-is from to table up, e, done)
 
 sum_none : sum [] ≡ 0

@@ -12,8 +12,10 @@ use Rattle.params.specs.declared.Settings.{Settings}
 use Rattle.paths.proofs.BooleanLaws.{and_both}
 use Rattle.params.proofs.CheckLaws.{or_no}
 use Rattle.form.specs.declared.records.Counts.{Counts}
-use Rattle.reader.specs.declared.Reading.{Reading}
-use Rattle.reader.specs.declared.Reading.TheVariants.{Refused as Declined, Job as Given}
+use Rattle.std.specs.Prelude.{Result, Ok, Err}
+use Rattle.metrics.specs.declared.refusals.Refusal.{Refusal}
+use Rattle.metrics.specs.declared.refusals.Refusal.TheVariants.{LittleRoom}
+use Rattle.metrics.specs.Refusals.{refusal_number, refusal_of}
 use Rattle.form.specs.Job.{Variant, Part, Job, all_parts, Read, Faulty, Held, read_job, numbers_of}
 use Rattle.metrics.specs.Placed.{placed}
 use Rattle.form.specs.Lent.{Lent, lent, letters_of, breaks_of, job_counts}
@@ -70,18 +72,18 @@ unfolding told_as
 told_other n h = simp (ne_eqb n 30 h)
 
 -- which text what the reader said has, and what it says of the slices
-module _ {read : Reading} (numbers : List ℕ) (t : Lent) where
-  pub declined_reading : {n : ℕ} → read ≡ Declined n → refused_text (told_as n) ≡ reading_text read numbers t
+module _ {read : Result (Settings × Counts) Refusal} (numbers : List ℕ) (t : Lent) where
+  pub declined_reading : {refusal : Refusal} → read ≡ Err refusal → refused_text (told_as (refusal_number refusal)) ≡ reading_text read numbers t
   unfolding reading_text
   declined_reading e = rw e
 
-  module _ {s : Settings} {c : Counts} (e : read ≡ Given s c) where
+  module _ {s : Settings} {c : Counts} (e : read ≡ Ok (s, c)) where
     pub given_reading : held_text s (take c.variants numbers) (cut c.variants c.parts c.breaks t) ≡ reading_text read numbers t
     unfolding reading_text
     given_reading = rw e
 
     pub given_loaded : Loaded read numbers t → Front s.letters c.variants c.parts c.breaks numbers t
-    given_loaded l = subst (λ (x : Reading). Loaded x numbers t) e l
+    given_loaded l = subst (λ (x : Result (Settings × Counts) Refusal). Loaded x numbers t) e l
 
 placed_long : {A : Type 0} (old new : List A) (n : ℕ) → n ≡ length new → n ≤ length (placed old new)
 placed_long old new n e = rw length-append (omega arith)
@@ -136,23 +138,28 @@ module _ (input : List ℕ) (short : length input ≤ 32768) (t : Lent) (room : 
         let n : ⊥ = omega arith in
         absurd n
 
-    declined_held : (n : ℕ) (fits : Bool) → has_room (job_counts job) t ≡ fits → Declined n ≡ cond fits (Given job.settings (job_counts job)) (Declined 30)
-        → refused_text (told_as n) ≡ cond (too_large job) (refused_text 26) (job_text (numbers_of input) job)
-    declined_held n true r e = let z : ◌≡◌ {A = ℕ} 0 1 = cc in let w : ⊥ = omega arith in absurd w
-    declined_held n false r e =
-        let m : n ≡ 30 = cc in
-        rw (← told_room n m, large (too_large job) refl r)
+    declined_held : (refusal : Refusal) (fits : Bool) → has_room (job_counts job) t ≡ fits → ◌≡◌ {A = Result (Settings × Counts) Refusal} (Err refusal) (cond fits (Ok (job.settings, job_counts job)) (Err LittleRoom))
+        → refused_text (told_as (refusal_number refusal)) ≡ cond (too_large job) (refused_text 26) (job_text (numbers_of input) job)
+    declined_held refusal true r e = let z : ◌≡◌ {A = ℕ} 0 1 = cc in let w : ⊥ = omega arith in absurd w
+    declined_held refusal false r e =
+        let m : refusal ≡ LittleRoom = cc in
+        rw (← told_room (refusal_number refusal) (ap refusal_number m), large (too_large job) refl r)
 
-    given_held : (s : Settings) (c : Counts) (fits : Bool) → has_room (job_counts job) t ≡ fits → Given s c ≡ cond fits (Given job.settings (job_counts job)) (Declined 30) → JobRead s c
-    given_held s c true r e = record { job = job; held = held; enough = r; settings_are = cc; counts_are = cc }
+    given_held : (s : Settings) (c : Counts) (fits : Bool) → has_room (job_counts job) t ≡ fits → ◌≡◌ {A = Result (Settings × Counts) Refusal} (Ok (s, c)) (cond fits (Ok (job.settings, job_counts job)) (Err LittleRoom)) → JobRead s c
+    given_held s c true r e =
+        let same : ◌≡◌ {A = Settings × Counts} (s, c) (job.settings, job_counts job) = cc in
+        record { job = job; held = held; enough = r; settings_are = ap (λ (x : Settings × Counts). x.0) same; counts_are = ap (λ (x : Settings × Counts). x.1) same }
     given_held s c false r e = let z : ◌≡◌ {A = ℕ} 0 1 = cc in let w : ⊥ = omega arith in absurd w
 
-  declined_as : (q : Read) → read_job input ≡ q → (n : ℕ) → Declined n ≡ reading_of q t → refused_text (told_as n) ≡ read_text (numbers_of input) q
+  declined_as : (q : Read) → read_job input ≡ q → (refusal : Refusal) → Err refusal ≡ reading_of q t → refused_text (told_as (refusal_number refusal)) ≡ read_text (numbers_of input) q
   unfolding reading_of read_text
-  declined_as (Faulty m) r n e = let z : n ≡ m = cc in let h = form_fault input m r in rw z (ap refused_text (sym (told_other m (λ i. omega arith))))
-  declined_as (Held job) r n e = declined_held job r n (has_room (job_counts job) t) refl e
+  declined_as (Faulty m) r refusal e =
+      let z : refusal ≡ refusal_of m = cc in
+      let h = form_fault input m r in
+      rw (ap refusal_number z ∙ h.0) (ap refused_text (sym (told_other m h.1)))
+  declined_as (Held job) r refusal e = declined_held job r refusal (has_room (job_counts job) t) refl e
 
-  given_as : (q : Read) → read_job input ≡ q → (s : Settings) (c : Counts) → Given s c ≡ reading_of q t → JobRead s c
+  given_as : (q : Read) → read_job input ≡ q → (s : Settings) (c : Counts) → Ok (s, c) ≡ reading_of q t → JobRead s c
   unfolding reading_of
   given_as (Faulty m) r s c e = let z : ◌≡◌ {A = ℕ} 0 1 = cc in let w : ⊥ = omega arith in absurd w
   given_as (Held job) r s c e = given_held job r s c (has_room (job_counts job) t) refl e
@@ -263,11 +270,11 @@ module _ (input : List ℕ) (short : length input ≤ 32768) (t : Lent) (room : 
 
   -- what the reader said, either way
   module _ (u : Lent) (after : u ≡ lent_after (read_job input) t) {numbers : List ℕ} (stand : numbers ≡ numbers_held input) where
-    pub reading_loaded : (read : Reading) → read ≡ reading_of (read_job input) t → Loaded read numbers u
-    reading_loaded (Declined n) e = tt
-    reading_loaded (Given s c) e = rw stand (given_front s c (given_as (read_job input) refl s c e) u after)
+    pub reading_loaded : (read : Result (Settings × Counts) Refusal) → read ≡ reading_of (read_job input) t → Loaded read numbers u
+    reading_loaded (Err refusal) e = tt
+    reading_loaded (Ok (s, c)) e = rw stand (given_front s c (given_as (read_job input) refl s c e) u after)
 
-    pub reading_text_lem : (read : Reading) → read ≡ reading_of (read_job input) t → reading_text read numbers u ≡ read_text (numbers_of input) (read_job input)
+    pub reading_text_lem : (read : Result (Settings × Counts) Refusal) → read ≡ reading_of (read_job input) t → reading_text read numbers u ≡ read_text (numbers_of input) (read_job input)
     unfolding reading_text
-    reading_text_lem (Declined n) e = declined_as (read_job input) refl n e
-    reading_text_lem (Given s c) e = rw stand (given_text s c (given_as (read_job input) refl s c e) u after)
+    reading_text_lem (Err refusal) e = declined_as (read_job input) refl refusal e
+    reading_text_lem (Ok (s, c)) e = rw stand (given_text s c (given_as (read_job input) refl s c e) u after)

@@ -1,9 +1,10 @@
 -- What the program's memory holds between reading a job and searching. No public promise cites this file.
-use Rattle.std.specs.Prelude.{ℕ, ◌+◌, ◌-◌, ◌*◌, ◌^◌, ◌≤◌, ◌≡◌, Bool, false, cond, ◌||◌, List, [], ◌∷◌, ◌++◌, ltb, eqb, length, take, drop, replicate}
+use Rattle.std.specs.Prelude.{ℕ, ◌+◌, ◌-◌, ◌*◌, ◌^◌, ◌≤◌, ◌≡◌, Bool, false, cond, ◌||◌, List, [], ◌∷◌, ◌++◌, ltb, eqb, length, take, drop, replicate, Result, Ok, Err}
+use Rattle.metrics.specs.declared.refusals.Refusal.{Refusal}
+use Rattle.metrics.specs.Refusals.{refusal_number}
 use Rattle.params.specs.declared.Settings.{Settings}
 use Rattle.params.specs.Numbers.{Table, Parts, table_of, parts_of}
-use Rattle.reader.specs.declared.Reading.{Reading}
-use Rattle.reader.specs.declared.Reading.TheVariants.{Refused as Declined, Job as Given}
+use Rattle.form.specs.declared.records.Counts.{Counts}
 use Rattle.reader.specs.Reading.{numbers_after}
 use Rattle.form.specs.Job.{read_job, numbers_of}
 use Rattle.form.specs.Lent.{Lent, lent}
@@ -12,6 +13,7 @@ use Rattle.text.specs.Text.{refused_text, hap_text}
 use Rattle.text.specs.Written.{Written}
 use Rattle.desk.specs.Desk.{haplotype_text, haplotypes_text}
 use Rattle.desk.specs.Rows.{rows_from}
+use Rattle.desk.specs.declared.memory.Lists.{Lists}
 
 -- a text stored from a place on, and of at most so many bytes
 pub record Printed (most : ℕ) (old : List ℕ) (at : ℕ) (text new : List ℕ) (r : ℕ) : Type 0 where
@@ -104,6 +106,11 @@ abbrev pub cut : ℕ → ℕ → ℕ → Lent → Lent
 cut v m b t = lent (take v t.starts) (take v t.ends) (take v t.sizes) (take v t.negatives) (take v t.counts)
     (take m t.part_sizes) (take m t.part_negatives) (take m t.part_counts) (take b t.breaks) t.letters
 
+-- what the program's lists hold, the record numbers left out
+abbrev pub lists_held : Lists → Lent
+lists_held l = lent l.starts.now l.ends.now l.sizes.now l.negatives.now l.counts.now
+    l.part_sizes.now l.part_negatives.now l.part_counts.now l.breaks.now l.letters.now
+
 -- the record numbers in their array; zeros where there is no job, and where it has over 16
 abbrev pub numbers_held : List ℕ → List ℕ
 numbers_held input = numbers_after (read_job input) (numbers_of input) (replicate 16 0)
@@ -127,10 +134,10 @@ unfoldable pub told_as : ℕ → ℕ
 told_as n = cond (eqb n 30) 26 n
 
 -- what the reader said, and the slices that it filled
-abbrev pub Loaded : Reading → List ℕ → Lent → Type 0
-Loaded (Declined n) numbers t = Unit {0}
-Loaded (Given s c) numbers t = Front s.letters c.variants c.parts c.breaks numbers t
+abbrev pub Loaded : Result (Settings × Counts) Refusal → List ℕ → Lent → Type 0
+Loaded (Err refusal) numbers t = Unit {0}
+Loaded (Ok (s, c)) numbers t = Front s.letters c.variants c.parts c.breaks numbers t
 
-unfoldable pub reading_text : Reading → List ℕ → Lent → List ℕ
-reading_text (Declined n) numbers t = refused_text (told_as n)
-reading_text (Given s c) numbers t = held_text s (take c.variants numbers) (cut c.variants c.parts c.breaks t)
+unfoldable pub reading_text : Result (Settings × Counts) Refusal → List ℕ → Lent → List ℕ
+reading_text (Err refusal) numbers t = refused_text (told_as (refusal_number refusal))
+reading_text (Ok (s, c)) numbers t = held_text s (take c.variants numbers) (cut c.variants c.parts c.breaks t)

@@ -20,7 +20,8 @@ fn count_row(
     requires { RowFits reading k at end from to letters.now table.old }
     ensures { table.new ≡ row_stored from to table.old (counts_by reading k negative (take (end - at) (drop at letters.now))) }
 {
-    seq_to_kmer(
+    // Never refused: k, the letters and the row are what it asks.
+    let _ = seq_to_kmer(
         &letters[at..end],
         k,
         negative,

@@ -1,66 +1,60 @@
 // The program's memory: a job read into fixed arrays, its features counted, and each haplotype answered.
 ghost use Rattle.std.specs.Prelude.{◌≡◌, ◌≤◌, length};
+ghost use Rattle.metrics.specs.Refusals.{refusal_number, told};
 ghost use Rattle.form.specs.Job.{read_job, numbers_of};
-ghost use Rattle.form.specs.Lent.{lent};
 ghost use Rattle.desk.specs.Desk.{read_text};
-ghost use Rattle.desk.specs.Memory.{limit_fault, held_text, told_as, reading_text, numbers_held, Fits, Loaded, Printed, most_of_all};
+ghost use Rattle.desk.specs.Memory.{limit_fault, held_text, told_as, reading_text, lists_held, numbers_held, Fits, Loaded, Printed, most_of_all};
 
 use crate::blocks::put_haplotypes;
 use crate::features::count_rows;
 use crate::room::{letter_room, part_table, variant_table};
 use crate::stretches::over_parts;
+use form::records::Counts;
 use metrics::kmer::entries;
-use metrics::refusals::{BAD_K, LITTLE_ROOM, TOO_LARGE};
-use params::Settings;
+use metrics::refusals::Refusal;
+use params::{Parts, Settings, Table};
 use reader::numbers::read_numbers;
-use reader::{Reading, read_job};
+use reader::read_job;
 use text::put_refused;
 
+// The lists of a job: variant by variant, part by part, where each haplotype but the first begins, and the letters of all.
+#[derive(Clone, Copy)]
+pub(crate) struct Lists<'a> {
+    pub(crate) starts: &'a [u64],
+    pub(crate) ends: &'a [u64],
+    pub(crate) sizes: &'a [i32],
+    pub(crate) negatives: &'a [bool],
+    pub(crate) counts: &'a [u32],
+    pub(crate) numbers: &'a [u32],
+    pub(crate) part_sizes: &'a [i32],
+    pub(crate) part_negatives: &'a [bool],
+    pub(crate) part_counts: &'a [u32],
+    pub(crate) breaks: &'a [u64],
+    pub(crate) letters: &'a [u8],
+}
+
 // The program's own limits, `long` where a haplotype has too many parts. k 0 has no features to count: 1 is the first row of the table of refusals.
-fn limit_fault(s: Settings, long: bool) -> u32
-    ensures { result ≡ limit_fault long s }
+#[tactic(auto, unfolding(crate::specs::Memory::limit_fault))]
+fn limit_fault(s: Settings, long: bool) -> Result<(), Refusal>
+    ensures { told result ≡ limit_fault long s }
 {
-    if long {
-        return TOO_LARGE;
-    }
-    if 4 < s.k {
-        return TOO_LARGE;
-    }
-    if 63 < s.maxpaths {
-        return TOO_LARGE;
+    if long || s.k > 4 || s.maxpaths > 63 {
+        return Err(Refusal::TooLarge);
     }
     if s.k < 1 {
-        return BAD_K;
+        return Err(Refusal::BadK);
     }
-    0
+    Ok(())
 }
 
 // Counts the features of all sequences of a job within the limits, and answers its haplotypes.
-fn answer_held(
-    s: Settings,
-    starts: &[u64],
-    ends: &[u64],
-    sizes: &[i32],
-    negatives: &[bool],
-    counts: &[u32],
-    numbers: &[u32],
-    part_sizes: &[i32],
-    part_negatives: &[bool],
-    part_counts: &[u32],
-    breaks: &[u64],
-    letters: &[u8],
-    out: &mut [u8],
-) -> usize
-    requires { Fits s.letters (lent starts.now ends.now sizes.now negatives.now counts.now part_sizes.now part_negatives.now
-        part_counts.now breaks.now letters.now) }
-    ensures { Printed most_of_all out.old 0 (held_text s numbers.now
-        (lent starts.now ends.now sizes.now negatives.now counts.now
-        part_sizes.now part_negatives.now part_counts.now breaks.now letters.now)) out.new result }
+fn answer_held(s: Settings, lists: &Lists, out: &mut [u8]) -> usize
+    requires { Fits s.letters (lists_held lists.now) }
+    ensures { Printed most_of_all out.old 0 (held_text s lists.now.numbers.now (lists_held lists.now)) out.new result }
 {
-    let long = over_parts(breaks, part_sizes.len());
-    let fault = limit_fault(s, long);
-    if fault != 0 {
-        return put_refused(out, 0, fault);
+    let long = over_parts(lists.breaks, lists.part_sizes.len());
+    if let Err(refusal) = limit_fault(s, long) {
+        return put_refused(out, 0, refusal.into());
     }
     let width = entries(s.k);
     let mut features = variant_table();
@@ -69,9 +63,9 @@ fn answer_held(
         s.letters,
         s.k,
         width,
-        negatives,
-        counts,
-        letters,
+        lists.negatives,
+        lists.counts,
+        lists.letters,
         0,
         &mut features,
     );
@@ -79,75 +73,60 @@ fn answer_held(
         s.letters,
         s.k,
         width,
-        part_negatives,
-        part_counts,
-        letters,
+        lists.part_negatives,
+        lists.part_counts,
+        lists.letters,
         next,
         &mut part_features,
     );
-    let v = counts.len() * width;
-    let m = part_counts.len() * width;
-    put_haplotypes(
-        s,
-        starts,
-        ends,
-        sizes,
-        &features[..v],
-        numbers,
-        part_sizes,
-        &part_features[..m],
-        breaks,
-        width,
-        out,
-    )
+    let v = lists.counts.len() * width;
+    let m = lists.part_counts.len() * width;
+    let table = Table {
+        starts: lists.starts,
+        ends: lists.ends,
+        sizes: lists.sizes,
+        features: &features[..v],
+    };
+    let parts = Parts {
+        sizes: lists.part_sizes,
+        features: &part_features[..m],
+    };
+    put_haplotypes(s, &table, lists.numbers, &parts, lists.breaks, width, out)
 }
 
-// The number that is printed for one of the reader's: too little room is too large a job.
-fn told_as(n: u32) -> u32
-    ensures { result ≡ told_as n }
+// What is printed for a refusal of the reader: too little room is too large a job.
+fn told_as(refusal: Refusal) -> Refusal
+    ensures { refusal_number result ≡ told_as (refusal_number refusal) }
 {
-    if n == LITTLE_ROOM { TOO_LARGE } else { n }
+    match refusal {
+        Refusal::LittleRoom => Refusal::TooLarge,
+        other => other,
+    }
 }
 
 // What the reader said, and the arrays that it filled: the job stands at their fronts.
-fn answer_reading(
-    read: Reading,
-    starts: &[u64],
-    ends: &[u64],
-    sizes: &[i32],
-    negatives: &[bool],
-    counts: &[u32],
-    numbers: &[u32],
-    part_sizes: &[i32],
-    part_negatives: &[bool],
-    part_counts: &[u32],
-    breaks: &[u64],
-    letters: &[u8],
-    out: &mut [u8],
-) -> usize
-    requires { Loaded read numbers.now (lent starts.now ends.now sizes.now negatives.now counts.now part_sizes.now part_negatives.now
-        part_counts.now breaks.now letters.now) }
-    ensures { Printed most_of_all out.old 0 (reading_text read numbers.now
-        (lent starts.now ends.now sizes.now negatives.now counts.now
-        part_sizes.now part_negatives.now part_counts.now breaks.now letters.now)) out.new result }
+fn answer_reading(read: Result<(Settings, Counts), Refusal>, lists: &Lists, out: &mut [u8]) -> usize
+    requires { Loaded read lists.now.numbers.now (lists_held lists.now) }
+    ensures { Printed most_of_all out.old 0 (reading_text read lists.now.numbers.now (lists_held lists.now)) out.new result }
 {
     match read {
-        Reading::Refused(n) => put_refused(out, 0, told_as(n)),
-        Reading::Job(s, c) => answer_held(
-            s,
-            &starts[..c.variants],
-            &ends[..c.variants],
-            &sizes[..c.variants],
-            &negatives[..c.variants],
-            &counts[..c.variants],
-            &numbers[..c.variants],
-            &part_sizes[..c.parts],
-            &part_negatives[..c.parts],
-            &part_counts[..c.parts],
-            &breaks[..c.breaks],
-            letters,
-            out,
-        ),
+        Err(refusal) => put_refused(out, 0, told_as(refusal).into()),
+        Ok((s, c)) => {
+            let own = Lists {
+                starts: &lists.starts[..c.variants],
+                ends: &lists.ends[..c.variants],
+                sizes: &lists.sizes[..c.variants],
+                negatives: &lists.negatives[..c.variants],
+                counts: &lists.counts[..c.variants],
+                numbers: &lists.numbers[..c.variants],
+                part_sizes: &lists.part_sizes[..c.parts],
+                part_negatives: &lists.part_negatives[..c.parts],
+                part_counts: &lists.part_counts[..c.parts],
+                breaks: &lists.breaks[..c.breaks],
+                letters: lists.letters,
+            };
+            answer_held(s, &own, out)
+        }
     }
 }
 
@@ -156,7 +135,7 @@ fn record_numbers(input: &[u8]) -> [u32; 16]
     ensures { result ≡ numbers_held input.now }
 {
     let mut numbers = [0u32; 16];
-    read_numbers(input, &mut numbers);
+    let _ = read_numbers(input, &mut numbers);
     numbers
 }
 
@@ -189,19 +168,18 @@ pub(crate) fn answer_read(input: &[u8], out: &mut [u8]) -> usize
         &mut letters,
     );
     let numbers = record_numbers(input);
-    answer_reading(
-        read,
-        &starts,
-        &ends,
-        &sizes,
-        &negatives,
-        &counts,
-        &numbers,
-        &part_sizes,
-        &part_negatives,
-        &part_counts,
-        &breaks,
-        &letters,
-        out,
-    )
+    let lists = Lists {
+        starts: &starts,
+        ends: &ends,
+        sizes: &sizes,
+        negatives: &negatives,
+        counts: &counts,
+        numbers: &numbers,
+        part_sizes: &part_sizes,
+        part_negatives: &part_negatives,
+        part_counts: &part_counts,
+        breaks: &breaks,
+        letters: &letters,
+    };
+    answer_reading(read, &lists, out)
 }

@@ -6,7 +6,7 @@ use Rattle.desk.proofs.answer.Goals as goal
 pub returns-then-input-gt32768 : goal.returns-then-input-gt32768
 returns-then-input-gt32768 c =
     let i = c.args.input.now in
-    printed_placed (printed_as (printed_refused {most = 7488} _ (omega arith) c.put_refused.ensures) (desk_long i c.if-input-gt32768.true)) (omega arith)
+    printed_placed (printed_as (printed_refused {most = 7488} _ (omega arith) (rw c.into.ensures at c.put_refused.ensures)) (desk_long i c.if-input-gt32768.true)) (omega arith)
 
 pub returns : goal.returns
 returns c =
