@@ -8,16 +8,13 @@ use lib.Dec.{eqb}
 use lib.ListN.{length, drop}
 use Rattle.metrics.specs.Letters.{entry_count}
 use Rattle.metrics.proofs.Entries.{power}
-use Rattle.params.specs.Numbers.{Table, Parts, Call, table_of, parts_of, call_of, first_of, parts_rules, falling_start, call_rules, first_fault, search_mode}
-use Rattle.kplib.specs.Score.{start}
+use Rattle.params.specs.Numbers.{Table, Parts, Call, parts_of, call_of, first_of, parts_rules, falling_start, call_rules, first_fault, search_mode}
 use Rattle.kplib.specs.OneToOne.{one_to_one, lone_rows_at}
-use Rattle.kplib.specs.Scoring.{unplaced}
 use Rattle.kplib.specs.Search.{rows_for}
-use Rattle.kplib.specs.Answer.{searched, matched_alone, in_search_mode, found_after, answer_with, answer_of, rows_of, queue_room, searches}
+use Rattle.kplib.specs.Answer.{searched, matched_alone, in_search_mode, none_found, found_after, answer_with, answer_of, rows_of, queue_room, searches}
 use Rattle.metrics.specs.Placed.{placed}
 use Rattle.kplib.specs.SearchSteps.{chain_of, answer_parts, Startable, Searched}
 use Rattle.params.specs.declared.Settings.{Settings}
-use Rattle.kplib.specs.declared.pathscore.Scored.{Scored}
 use Rattle.kplib.specs.declared.pathscore.Target.{Target}
 use Rattle.kplib.specs.declared.pathscore.Target.TheVariants.{Nothing, Whole, Partial}
 use Rattle.kplib.specs.declared.onetoone.Lone.{Lone}
@@ -39,11 +36,11 @@ lone_few Whole r = omega arith
 lone_few (Partial n) r = omega arith
 
 -- what the one-to-one match answers
-pub alone_answers : (s : Settings) (t : Table) (p : Parts) (rows : List ℕ) {rows' : List ℕ} {lone : Lone} {n : ℕ} {r : Answer} → lone ≡ one_to_one s (unplaced t.sizes t.features) p
+pub alone_answers : (s : Settings) (t : Table) (p : Parts) (rows : List ℕ) {rows' : List ℕ} {lone : Lone} {n : ℕ} {r : Answer} → lone ≡ one_to_one s t p
     → (n ≡ length (lone_rows_at lone.scored.target lone.row.0)) × (rows' ≡ placed rows (lone_rows_at lone.scored.target lone.row.0))
     → r ≡ answer_parts 0 n lone.scored (length t.starts + 2) true
     → (r ≡ answer_with 0 (matched_alone s t p)) × (rows' ≡ placed rows (matched_alone s t p).rows)
-unfolding matched_alone one_to_one
+unfolding matched_alone
 alone_answers s t p rows {lone = lone} e h k = rw (← e) (k ∙ ap (λ (m : ℕ). answer_parts 0 m lone.scored (length t.starts + 2) true) h.0, h.1)
 
 -- what a search answers
@@ -81,11 +78,10 @@ module _ (c : Call) where
   unfolding rows_of
   rows_at fault e = ap (λ (n : ℕ). (found_after n c).rows) e
 
-  pub refused_answers : {fault : ℕ} → fault ≡ first_fault c → (fault ≡ 0 → ⊥) → {x : Scored} → x ≡ start → {r : Answer} → r ≡ answer_parts fault 0 x 0 false → (rows : List ℕ)
+  pub refused_answers : {fault : ℕ} → fault ≡ first_fault c → (fault ≡ 0 → ⊥) → {r : Answer} → r ≡ answer_with fault none_found → (rows : List ℕ)
       → (r ≡ answer_of c) × (rows ≡ placed rows (rows_of c))
-  refused_answers {fault = zero} e z hx hr rows = absurd (z refl)
-  refused_answers {fault = suc n} e z hx hr rows =
-      (hr ∙ ap (λ (y : Scored). answer_parts (suc n) 0 y 0 false) hx ∙ answer_at (suc n) e, ap (λ (l : List ℕ). l ++ drop (length l) rows) (rows_at (suc n) e))
+  refused_answers {fault = zero} e z hr rows = absurd (z refl)
+  refused_answers {fault = suc n} e z hr rows = (hr ∙ answer_at (suc n) e, ap (λ (l : List ℕ). l ++ drop (length l) rows) (rows_at (suc n) e))
 
   module _ (e : first_fault c ≡ 0) where
     with_rows : {r : Answer} (rows : List ℕ) {rows' : List ℕ} → (r ≡ answer_with 0 (found_after 0 c)) × (rows' ≡ placed rows (found_after 0 c).rows)
@@ -97,14 +93,9 @@ module _ (c : Call) where
         → (r ≡ answer_of c) × (rows' ≡ placed rows (rows_of c))
     searched_accepted rows m h = with_rows rows (rw m h)
 
-    -- one-to-one does not ask where the rows end
-    abbrev endless : Table
-    endless = table_of c.table.starts [] c.table.sizes c.table.features
-
     pub alone_accepted : {r : Answer} (rows : List ℕ) {rows' : List ℕ} → in_search_mode c ≡ false
-        → (r ≡ answer_with 0 (matched_alone c.settings endless c.parts)) × (rows' ≡ placed rows (matched_alone c.settings endless c.parts).rows)
+        → (r ≡ answer_with 0 (matched_alone c.settings c.table c.parts)) × (rows' ≡ placed rows (matched_alone c.settings c.table c.parts).rows)
         → (r ≡ answer_of c) × (rows' ≡ placed rows (rows_of c))
-    unfolding matched_alone one_to_one
     alone_accepted rows m h = with_rows rows (rw m h)
 
     -- a search is no job without one

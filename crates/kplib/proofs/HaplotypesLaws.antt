@@ -6,17 +6,19 @@ use native.Mathlib.Nat.{mul-le-mul, mul-le-mul_right, mul_comm, suc-mul}
 use mathlib.Core.Path.{◌≡◌, refl, sym, ap, ◌∙◌}
 use mathlib.Core.Bool.{Bool, false}
 use mathlib.Core.List.{List, []}
-use lib.IntN.{ℤ}
 use lib.ListN.{length, get_or, take, drop}
 use lib.Seq.{sets}
 use borrow.Rule.Slice.PartMut.{put_mid}
 use Rattle.metrics.specs.Placed.{placed}
 use Rattle.params.specs.declared.Settings.{Settings}
-use Rattle.params.specs.Numbers.{Call, table_of, parts_of, call_of, any_below, first_fault}
-use Rattle.params.specs.Several.{Several, begin_of, own_call, several_fault}
+use Rattle.params.specs.declared.Table.{Table}
+use Rattle.params.specs.declared.Parts.{Parts}
+use Rattle.params.specs.Held.{table_held}
+use Rattle.params.specs.Numbers.{Call, parts_of, call_of, any_below, first_fault}
+use Rattle.params.specs.Several.{Several, begin_of, stretch_of, own_call, several_fault}
 use Rattle.params.proofs.CheckLaws.{or_no}
 use Rattle.params.proofs.CheckedLaws.{accepted}
-use Rattle.params.proofs.AcceptedLaws.{table_accepted, haplotype_count, rows_suffice, reports_suffice}
+use Rattle.params.proofs.AcceptedLaws.{table_accepted, haplotype_count, as_many_ends, parts_within, features_within, rows_suffice, reports_suffice}
 use Rattle.kplib.specs.Answer.{answer_of, rows_of, searches, queue_room}
 use Rattle.kplib.specs.Haplotypes.{laid, report_words, answered_after, answered, rows_after, reports_after}
 use Rattle.kplib.specs.Promises.{call_lent, ApplyHaplotypePromise, several_lent, SeveralQueueKept}
@@ -33,9 +35,9 @@ any_before : (test : ℕ → Bool) (i : ℕ) → any_below (i + 1) test ≡ fals
 unfolding any_below
 any_before test i e = or_no (any_below i test) (test i) (rw (add-one i) at e)
 
-module _ (s : Settings) (starts ends : List ℕ) (sizes features : List ℤ) (part_ends feature_ends : List ℕ) (part_sizes part_features : List ℤ) (links₀ keys₀ rows₀ reports₀ : List ℕ) where
+module _ (s : Settings) (table : Table) (part_ends feature_ends : List ℕ) (parts : Parts) (links₀ keys₀ rows₀ reports₀ : List ℕ) where
   abbrev whole : Several
-  whole = several_lent s starts ends sizes features part_ends feature_ends part_sizes part_features links₀ keys₀ rows₀ reports₀
+  whole = several_lent s table part_ends feature_ends parts links₀ keys₀ rows₀ reports₀
 
   abbrev own : ℕ → Call
   own i = own_call whole i
@@ -49,23 +51,23 @@ module _ (s : Settings) (starts ends : List ℕ) (sizes features : List ℤ) (pa
   -- i haplotypes are answered
   pub record Turned (v i : ℕ) (links keys rows reports : List ℕ) : Type 0 where
     pub accepted : several_fault whole ≡ 0
-    pub v_is : v ≡ length starts
+    pub v_is : v ≡ length table.starts.now
     pub few : i ≤ length part_ends
     pub links_kept : length links ≡ length links₀
     pub keys_kept : length keys ≡ length keys₀
-    pub rows_are : rows ≡ laid (length starts) each_rows i rows₀
+    pub rows_are : rows ≡ laid (length table.starts.now) each_rows i rows₀
     pub reports_are : reports ≡ laid 8 each_report i reports₀
     pub links_same : any_below i (λ j. searches (own j)) ≡ false → links ≡ links₀
     pub keys_same : any_below i (λ j. searches (own j)) ≡ false → keys ≡ keys₀
 
-  pub none_yet : {v : ℕ} → several_fault whole ≡ 0 → v ≡ length starts → Turned v 0 links₀ keys₀ rows₀ reports₀
+  pub none_yet : {v : ℕ} → 0 ≡ several_fault whole → v ≡ length table.starts.now → Turned v 0 links₀ keys₀ rows₀ reports₀
   none_yet e v_is = record {
-    accepted = e;
+    accepted = sym e;
     v_is = v_is;
     few = omega arith;
     links_kept = refl;
     keys_kept = refl;
-    rows_are = none_laid (length starts) each_rows rows₀;
+    rows_are = none_laid (length table.starts.now) each_rows rows₀;
     reports_are = none_laid 8 each_report reports₀;
     links_same = λ _. refl;
     keys_same = λ _. refl;
@@ -75,18 +77,18 @@ module _ (s : Settings) (starts ends : List ℕ) (sizes features : List ℤ) (pa
   nothing_laid : (width : ℕ) (each : ℕ → List ℕ) (buffer : List ℕ) → 0 ≡ answered whole → buffer ≡ laid width each (answered whole) buffer
   nothing_laid width each buffer n = none_laid width each buffer ∙ ap (λ (m : ℕ). laid width each m buffer) n
 
-  pub none_answered : {fault : ℕ} → fault ≡ several_fault whole → (fault ≡ 0 → ⊥)
+  pub none_answered : (fault : ℕ) → fault ≡ several_fault whole → (fault ≡ 0 → ⊥)
       → (rows₀ ≡ rows_after whole rows₀) × (reports₀ ≡ reports_after whole reports₀)
-  none_answered {fault = zero} e h = absurd (h refl)
-  none_answered {fault = suc fault} e h =
+  none_answered zero e h = absurd (h refl)
+  none_answered (suc fault) e h =
       let n : 0 ≡ answered whole = ap (λ (m : ℕ). answered_after m (length part_ends)) e in
       (nothing_laid _ _ rows₀ n, nothing_laid _ _ reports₀ n)
 
-module _ {s : Settings} {starts ends : List ℕ} {sizes features : List ℤ} {part_ends feature_ends : List ℕ} {part_sizes part_features : List ℤ} {links₀ keys₀ rows₀ reports₀ : List ℕ}
+module _ {s : Settings} {table : Table} {part_ends feature_ends : List ℕ} {parts : Parts} {links₀ keys₀ rows₀ reports₀ : List ℕ}
     {v i : ℕ} {links keys rows reports : List ℕ}
-    (h : Turned s starts ends sizes features part_ends feature_ends part_sizes part_features links₀ keys₀ rows₀ reports₀ v i links keys rows reports) where
+    (h : Turned s table part_ends feature_ends parts links₀ keys₀ rows₀ reports₀ v i links keys rows reports) where
   abbrev call : Several
-  call = whole s starts ends sizes features part_ends feature_ends part_sizes part_features links₀ keys₀ rows₀ reports₀
+  call = whole s table part_ends feature_ends parts links₀ keys₀ rows₀ reports₀
 
   abbrev own_at : ℕ → Call
   own_at j = own_call call j
@@ -98,7 +100,7 @@ module _ {s : Settings} {starts ends : List ℕ} {sizes features : List ℤ} {pa
   report_of_lem j = report_words (answer_of (own_at j))
 
   pub rows_kept : length rows ≡ length rows₀
-  rows_kept = ap length h.rows_are ∙ laid_length (length starts) rows_of_lem rows₀ i
+  rows_kept = ap length h.rows_are ∙ laid_length (length table.starts.now) rows_of_lem rows₀ i
 
   pub reports_kept : length reports ≡ length reports₀
   reports_kept = ap length h.reports_are ∙ laid_length 8 report_of_lem reports₀ i
@@ -110,7 +112,7 @@ module _ {s : Settings} {starts ends : List ℕ} {sizes features : List ℤ} {pa
   module _ (l : i < length part_ends) where
     pub few_rows : i * v + v ≤ 1024
     few_rows =
-        let checked = accepted (call_of s (table_of starts ends sizes features) (parts_of [] []) (queue_room links₀ keys₀) (length starts)) (table_accepted call h.accepted) in
+        let checked = accepted (call_of s (table_held table) (parts_of [] []) (queue_room links₀ keys₀) (length table.starts.now)) (table_accepted call h.accepted) in
         let v_few : v ≤ 64 = omega (arith, h.v_is, checked.sized.few, checked.sizes_are) in
         let i-few : suc i ≤ 16 = omega (arith, few_haplotypes) in
         omega (arith, suc-mul i v, mul-le-mul i-few v_few)
@@ -119,19 +121,23 @@ module _ {s : Settings} {starts ends : List ℕ} {sizes features : List ℤ} {pa
     rows_room =
         let all = rows_suffice call h.accepted in
         let stands : suc i * v ≤ length part_ends * v = mul-le-mul_right v l in
-        let turned : length part_ends * v ≡ length starts * length part_ends = ap (λ (n : ℕ). length part_ends * n) h.v_is ∙ mul_comm (length part_ends) (length starts) in
+        let turned : length part_ends * v ≡ length table.starts.now * length part_ends = ap (λ (n : ℕ). length part_ends * n) h.v_is ∙ mul_comm (length part_ends) (length table.starts.now) in
         omega (arith, all, stands, turned, suc-mul i v, rows_kept)
 
     pub reports_room : i * 8 + 8 ≤ length reports
     reports_room = let all = reports_suffice call h.accepted in omega (arith, all, reports_kept)
 
     -- the haplotype's own call, by the stretches that were lent
-    abbrev lent : ℕ → ℕ → List ℕ → Call
-    lent part feature stretch =
-        call_lent s starts ends sizes features (take (get_or part_ends i 0 - part) (drop part part_sizes)) (take (get_or feature_ends i 0 - feature) (drop feature part_features)) links keys stretch
+    as_own : (own : Parts) (stretch : List ℕ) → own.sizes.now ≡ stretch_of part_ends parts.sizes.now i → own.features.now ≡ stretch_of feature_ends parts.features.now i → length stretch ≡ v
+        → call_lent s table own links keys stretch ≡ own_at i
+    as_own own stretch p f e = rw (h.links_kept, h.keys_kept, e ∙ h.v_is, p, f) refl
 
-    as_own : {part feature : ℕ} (stretch : List ℕ) → part ≡ begin_of part_ends i → feature ≡ begin_of feature_ends i → length stretch ≡ v → lent part feature stretch ≡ own_at i
-    as_own stretch p f e = rw (h.links_kept, h.keys_kept, e ∙ h.v_is, p, f) refl
+    -- its stretches lie within what is lent
+    pub parts_lie : (i < length part_ends) × (begin_of part_ends i ≤ get_or part_ends i 0) × (get_or part_ends i 0 ≤ length parts.sizes.now)
+    parts_lie = let w = parts_within call h.accepted i l in (l, w.0, w.1)
+
+    pub features_lie : (i < length feature_ends) × (begin_of feature_ends i ≤ get_or feature_ends i 0) × (get_or feature_ends i 0 ≤ length parts.features.now)
+    features_lie = let w = features_within call h.accepted i l in (omega (arith, as_many_ends call h.accepted), w.0, w.1)
 
     abbrev stretch_at_lem : List ℕ
     stretch_at_lem = take (i * v + v - i * v) (drop (i * v) rows)
@@ -146,20 +152,20 @@ module _ {s : Settings} {starts ends : List ℕ} {sizes features : List ℤ} {pa
     words_length = let z : i * 8 + 8 - i * 8 ≡ 8 = omega arith in rw z (lent_length (i * 8) 8 reports reports_room)
 
     -- the table is accepted with these slices too
-    pub still_accepted : first_fault (call_lent s starts ends sizes features [] [] links keys stretch_at_lem) ≡ 0
+    pub still_accepted : first_fault (call_of s (table_held table) (parts_of [] []) (queue_room links keys) (length stretch_at_lem)) ≡ 0
     still_accepted = rw (h.links_kept, h.keys_kept, stretch_length ∙ h.v_is) (table_accepted call h.accepted)
 
     -- the next haplotype is answered in its stretches
-    pub next : {part feature : ℕ} → part ≡ begin_of part_ends i → feature ≡ begin_of feature_ends i
+    pub next : (own : Parts) → own.sizes.now ≡ stretch_of part_ends parts.sizes.now i → own.features.now ≡ stretch_of feature_ends parts.features.now i
         → {links' keys' stretch' words' : List ℕ} {answer : Answer}
-        → ApplyHaplotypePromise s starts ends sizes features (take (get_or part_ends i 0 - part) (drop part part_sizes)) (take (get_or feature_ends i 0 - feature) (drop feature part_features))
+        → ApplyHaplotypePromise s table own
         links keys stretch_at_lem links' keys' stretch' answer
         → length links' ≡ length links → length keys' ≡ length keys → length stretch' ≡ length stretch_at_lem
         → words' ≡ report_words answer
-        → Turned s starts ends sizes features part_ends feature_ends part_sizes part_features links₀ keys₀ rows₀ reports₀ v (i + 1) links' keys'
+        → Turned s table part_ends feature_ends parts links₀ keys₀ rows₀ reports₀ v (i + 1) links' keys'
         (put_mid (i * v) (i * v + v - i * v) rows stretch') (put_mid (i * 8) (i * 8 + 8 - i * 8) reports words')
-    next {part} {feature} p f {links'} {keys'} {stretch'} {words'} {answer} promise lk kk sk w =
-        let is = as_own stretch_at_lem p f stretch_length in
+    next own p f {links'} {keys'} {stretch'} {words'} {answer} promise lk kk sk w =
+        let is = as_own own stretch_at_lem p f stretch_length in
         let zv : i * v + v - i * v ≡ v = omega arith in
         let z8 : i * 8 + 8 - i * 8 ≡ 8 = omega arith in
         let rows-stored : put_mid (i * v) v rows stretch' ≡ sets rows (i * v) (rows_of (own_at i)) =
@@ -176,7 +182,7 @@ module _ {s : Settings} {starts ends : List ℕ} {sizes features : List ℤ} {pa
           few = omega arith;
           links_kept = lk ∙ h.links_kept;
           keys_kept = kk ∙ h.keys_kept;
-          rows_are = rw zv (rows-stored ∙ (ap (λ (n : ℕ). sets rows (i * n) (rows_of (own_at i))) h.v_is ∙ one_more (length starts) rows_of_lem rows₀ i h.rows_are));
+          rows_are = rw zv (rows-stored ∙ (ap (λ (n : ℕ). sets rows (i * n) (rows_of (own_at i))) h.v_is ∙ one_more (length table.starts.now) rows_of_lem rows₀ i h.rows_are));
           reports_are = rw z8 (words-stored ∙ one_more 8 report_of_lem reports₀ i h.reports_are);
           links_same = λ e. promise.1.1.0 (ap searches is ∙ (before e).1) ∙ h.links_same (before e).0;
           keys_same = λ e. promise.1.1.1 (ap searches is ∙ (before e).1) ∙ h.keys_same (before e).0;
@@ -187,7 +193,7 @@ module _ {s : Settings} {starts ends : List ℕ} {sizes features : List ℤ} {pa
       → (rows ≡ rows_after call rows₀) × ((reports ≡ reports_after call reports₀) × (SeveralQueueKept call links₀ links × SeveralQueueKept call keys₀ keys))
   all_done l =
       let n : i ≡ answered call = omega (arith, h.few) ∙ sym (ap (λ (fault : ℕ). answered_after fault (length part_ends)) h.accepted) in (
-        h.rows_are ∙ ap (λ (m : ℕ). laid (length starts) rows_of_lem m rows₀) n,
+        h.rows_are ∙ ap (λ (m : ℕ). laid (length table.starts.now) rows_of_lem m rows₀) n,
         (
           h.reports_are ∙ ap (λ (m : ℕ). laid 8 report_of_lem m reports₀) n,
           (λ e. h.links_same (ap (λ (m : ℕ). any_below m (λ j. searches (own_at j))) n ∙ e), λ e. h.keys_same (ap (λ (m : ℕ). any_below m (λ j. searches (own_at j))) n ∙ e)),

@@ -18,7 +18,7 @@ use mir.Val.{to_z, of_z}
 use Rattle.metrics.specs.Similarity.{whole, sizesim_value, magnitude_sum, part_d, sum_d}
 use Rattle.metrics.proofs.Rows.{sum_le, d_le}
 use Rattle.params.specs.Checked.{Checked}
-use Rattle.params.specs.Numbers.{Table, Parts, table_of}
+use Rattle.params.specs.Numbers.{Table, Parts}
 use Rattle.kplib.specs.Parts.{whole_of}
 use Rattle.kplib.specs.Sums.{zeros, size_of, features_of, Total}
 use Rattle.kplib.specs.Score.{sign, gap_of, score_value, seqsim_of_rows, list_score, greater_of, after_list, start, scores_of}
@@ -207,9 +207,9 @@ alone_same plan p es em et er node =
     let z : length p.sizes - length p.sizes ≡ 0 = omega arith in
     rw (es, em, et, er, whole_length (length p.sizes), z)
 
--- what an accepted job gives one-to-one, wherever its rows stand
-pub tables_of : {s : Settings} {t : Table} {p : Parts} (starts ends : List ℕ) → Checked s t p → Tables s (table_of starts ends t.sizes t.features) p
-tables_of starts ends c = record { minkfreq = c.minkfreq; sized = c.sized; rows = c.rows; part_sized = c.part_sized; part_rows = c.part_rows }
+-- what an accepted job gives one-to-one
+pub tables_of : {s : Settings} {t : Table} {p : Parts} → Checked s t p → Tables s t p
+tables_of c = record { minkfreq = c.minkfreq; sized = c.sized; rows = c.rows; part_sized = c.part_sized; part_rows = c.part_rows }
 
 module _ {s : Settings} {t : Table} {p : Parts} (y : Tables s t p) where
   abbrev whole_plan : Plan

@@ -217,7 +217,7 @@ module _ (s : Settings) (t : Table) (p : Parts) (o : Proposal) (e : 0 ≡ propos
       (sym (member (length p.sizes) s.fnmax s.pileupmax o.positions) ∙ sym k ∙ l)).1 in
       record {
         k_high = sound.k_high;
-        tables = tables_of t.starts t.ends sound;
+        tables = tables_of sound;
         within = rw sound.sizes_are (sent_below _ (length t.starts) o.rows (sym f ∙ g));
         few = rows_few s t p o (sym e);
         positions_within = rising_below (length p.sizes) 0 o.positions rises;

@@ -1,12 +1,13 @@
 -- The promise of each public function, said once: the function's `ensures` and `Unique` (crates/audit) cite it by name.
--- Its arguments are the function's own, in their order, a lent slice by what it holds at entry; then what each `&mut` holds at exit; then the result r.
-use Rattle.std.specs.Prelude.{ℕ, ◌≡◌, Bool, false, List, ℤ, Float, length, Result}
+-- Its arguments are the function's own, in their order, what is lent by what it holds at entry; then what each `&mut` holds at exit; then the result r.
+use Rattle.std.specs.Prelude.{ℕ, ◌≡◌, Bool, false, List, Float, length, Result}
 use Rattle.metrics.specs.declared.refusals.Refusal.{Refusal}
+use Rattle.metrics.specs.Refusals.{told}
 use Rattle.params.specs.declared.Settings.{Settings}
 use Rattle.params.specs.declared.Table.{Table}
 use Rattle.params.specs.declared.Parts.{Parts}
 use Rattle.params.specs.Held.{table_held, parts_held}
-use Rattle.params.specs.Numbers.{Call, table_of, parts_of, call_of}
+use Rattle.params.specs.Numbers.{Call, call_of}
 use Rattle.params.specs.Several.{Several, several_fault}
 use Rattle.kplib.specs.Graph.{capped_count}
 use Rattle.kplib.specs.Answer.{answer_of, rows_of, queue_room, searches}
@@ -20,18 +21,16 @@ abbrev pub CountChainsPromise : List ℕ → List ℕ → Bool → ℕ → Resul
 CountChainsPromise starts ends full cap r = r ≡ capped_count starts ends full cap
 
 -- the call that the settings and the lent slices make
-abbrev pub call_lent : Settings → List ℕ → List ℕ → List ℤ → List ℤ → List ℤ → List ℤ → List ℕ → List ℕ → List ℕ → Call
-call_lent s starts ends sizes features part_sizes part_features links keys rows =
-    call_of s (table_of starts ends sizes features) (parts_of part_sizes part_features) (queue_room links keys) (length rows)
+abbrev pub call_lent : Settings → Table → Parts → List ℕ → List ℕ → List ℕ → Call
+call_lent s table parts links keys rows = call_of s (table_held table) (parts_held parts) (queue_room links keys) (length rows)
 
 -- a slice of the queue, which only a search may write
 abbrev pub QueueKept : Call → List ℕ → List ℕ → Type 0
 QueueKept c old new = searches c ≡ false → new ≡ old
 
-abbrev pub ApplyHaplotypePromise : Settings → List ℕ → List ℕ → List ℤ → List ℤ → List ℤ → List ℤ → List ℕ → List ℕ → List ℕ
-    → List ℕ → List ℕ → List ℕ → Answer → Type 0
-ApplyHaplotypePromise s starts ends sizes features part_sizes part_features links keys rows links' keys' rows' r =
-    let c = call_lent s starts ends sizes features part_sizes part_features links keys rows in
+abbrev pub ApplyHaplotypePromise : Settings → Table → Parts → List ℕ → List ℕ → List ℕ → List ℕ → List ℕ → List ℕ → Answer → Type 0
+ApplyHaplotypePromise s table parts links keys rows links' keys' rows' r =
+    let c = call_lent s table parts links keys rows in
     (r ≡ answer_of c)
     × ((rows' ≡ placed rows (rows_of c))
     × (QueueKept c links links'
@@ -41,11 +40,11 @@ abbrev pub PutReportPromise : Answer → List ℕ → List ℕ → Type 0
 PutReportPromise answer report report' = report' ≡ report_of answer
 
 -- the call of several haplotypes that the settings and the lent slices make
-abbrev pub several_lent : Settings → List ℕ → List ℕ → List ℤ → List ℤ → List ℕ → List ℕ → List ℤ → List ℤ → List ℕ → List ℕ → List ℕ → List ℕ → Several
-several_lent s starts ends sizes features part_ends feature_ends part_sizes part_features links keys rows reports = record {
+abbrev pub several_lent : Settings → Table → List ℕ → List ℕ → Parts → List ℕ → List ℕ → List ℕ → List ℕ → Several
+several_lent s table part_ends feature_ends parts links keys rows reports = record {
   settings = s;
-  table = table_of starts ends sizes features;
-  parts = parts_of part_sizes part_features;
+  table = table_held table;
+  parts = parts_held parts;
   part_ends = part_ends;
   feature_ends = feature_ends;
   queue_room = queue_room links keys;
@@ -57,11 +56,11 @@ several_lent s starts ends sizes features part_ends feature_ends part_sizes part
 abbrev pub SeveralQueueKept : Several → List ℕ → List ℕ → Type 0
 SeveralQueueKept c old new = several_searches c ≡ false → new ≡ old
 
-abbrev pub ApplyHaplotypesPromise : Settings → List ℕ → List ℕ → List ℤ → List ℤ → List ℕ → List ℕ → List ℤ → List ℤ → List ℕ → List ℕ → List ℕ → List ℕ
-    → List ℕ → List ℕ → List ℕ → List ℕ → ℕ → Type 0
-ApplyHaplotypesPromise s starts ends sizes features part_ends feature_ends part_sizes part_features links keys rows reports links' keys' rows' reports' r =
-    let c = several_lent s starts ends sizes features part_ends feature_ends part_sizes part_features links keys rows reports in
-    (r ≡ several_fault c)
+abbrev pub ApplyHaplotypesPromise : Settings → Table → List ℕ → List ℕ → Parts → List ℕ → List ℕ → List ℕ → List ℕ
+    → List ℕ → List ℕ → List ℕ → List ℕ → Result Unit Refusal → Type 0
+ApplyHaplotypesPromise s table part_ends feature_ends parts links keys rows reports links' keys' rows' reports' r =
+    let c = several_lent s table part_ends feature_ends parts links keys rows reports in
+    (told r ≡ several_fault c)
     × ((rows' ≡ rows_after c rows)
     × ((reports' ≡ reports_after c reports)
     × (SeveralQueueKept c links links'

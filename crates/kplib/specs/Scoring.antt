@@ -5,7 +5,7 @@ use Rattle.std.specs.Float.Ieee.{lt, le}
 use Rattle.metrics.specs.Similarity.{whole, sizesim_value, magnitude_sum}
 use Rattle.paths.specs.Best.{All}
 use Rattle.params.specs.Checked.{Flat, Sized}
-use Rattle.params.specs.Numbers.{Table, Parts, table_of, row_at}
+use Rattle.params.specs.Numbers.{Table, Parts, row_at}
 use Rattle.kplib.specs.Parts.{positions_from, whole_of, choices, falling_lists, part_lists}
 use Rattle.kplib.specs.Sums.{size_of, features_of, Total}
 use Rattle.kplib.specs.Score.{sign, gap_of, score_value, start, list_score, greater_of, scores_of}
@@ -20,10 +20,6 @@ use Rattle.kplib.specs.declared.pathscore.Terms.{Terms}
 use Rattle.kplib.specs.declared.pathscore.Tested.{Tested}
 use Rattle.kplib.specs.declared.onetoone.Lone.{Lone}
 use Rattle.kplib.specs.declared.plan.Plan.{Plan}
-
--- a table whose rows stand nowhere: a score, and one-to-one, ask only for sizes and features
-abbrev pub unplaced : List ℤ → List ℤ → Table
-unplaced sizes features = table_of [] [] sizes features
 
 -- what the checks give of the two tables
 pub record Tables (s : Settings) (t : Table) (p : Parts) : Type 0 where

@@ -1,16 +1,16 @@
 // The one-to-one match: each row alone against the whole haplotype (traverse.rs, one_to_one).
 ghost use Rattle.std.specs.Prelude.{◌≡◌, ◌≤◌};
-ghost use Rattle.params.specs.Numbers.{parts_of};
+ghost use Rattle.params.specs.Held.{table_held, parts_held};
 ghost use Rattle.kplib.specs.Graph.{node_of};
 ghost use Rattle.kplib.specs.OneToOne.{latest_of, one_to_one};
-ghost use Rattle.kplib.specs.Scoring.{unplaced, best_alone, Matchable, Matching};
+ghost use Rattle.kplib.specs.Scoring.{best_alone, Matchable, Matching};
 
 use crate::haplotype::{all_positions, whole_size};
 use crate::pathscore::{Scored, Total, greater_of, list_score, nothing};
 use crate::plan::Plan;
 use crate::sums::sum_features;
 use crate::vargraph::Row;
-use params::Settings;
+use params::{Parts, Settings, Table};
 
 // The best node's row. Where its target is `Nothing` no node matched, and the row means nothing.
 #[derive(Clone, Copy)]
@@ -35,9 +35,9 @@ fn latest_of(best: Lone, row: Row, x: Scored) -> Lone
 }
 
 // Each row against the summed whole haplotype. Source and sink are left out: no anchor is ever chosen.
-fn match_rows(plan: Plan, sizes: &[i32], features: &[i32], whole_row: &[i32]) -> Lone
-    requires { Matching plan sizes.now features.now whole_row.now }
-    ensures { result ≡ best_alone plan sizes.now features.now whole_row.now }
+fn match_rows(plan: Plan, table: &Table, whole_row: &[i32]) -> Lone
+    requires { Matching plan table.now.sizes.now table.now.features.now whole_row.now }
+    ensures { result ≡ best_alone plan table.now.sizes.now table.now.features.now whole_row.now }
 {
     let none = nothing();
     let mut best = Lone {
@@ -46,11 +46,11 @@ fn match_rows(plan: Plan, sizes: &[i32], features: &[i32], whole_row: &[i32]) ->
     };
     let s = plan.s;
     let width = plan.width;
-    for (r, size) in sizes.iter().enumerate() {
+    for (r, size) in table.sizes.iter().enumerate() {
         let a = r * width;
         let node = Total {
             size: *size,
-            features: &features[a..a + width],
+            features: &table.features[a..a + width],
             count: 1,
         };
         let whole = Total {
@@ -67,24 +67,22 @@ fn match_rows(plan: Plan, sizes: &[i32], features: &[i32], whole_row: &[i32]) ->
 
 pub(crate) fn one_to_one(
     s: Settings,
-    sizes: &[i32],
-    features: &[i32],
-    part_sizes: &[i32],
-    part_features: &[i32],
+    table: &Table,
+    parts: &Parts,
     chosen: &mut [u32],
     whole_row: &mut [i32],
 ) -> Lone
-    requires { Matchable s (unplaced sizes.now features.now) (parts_of part_sizes.now part_features.now) chosen.old whole_row.old }
-    ensures { result ≡ one_to_one s (unplaced sizes.now features.now) (parts_of part_sizes.now part_features.now) }
+    requires { Matchable s (table_held table.now) (parts_held parts.now) chosen.old whole_row.old }
+    ensures { result ≡ one_to_one s (table_held table.now) (parts_held parts.now) }
 {
-    let m = part_sizes.len();
+    let m = parts.sizes.len();
     all_positions(m, chosen);
-    sum_features(part_features, &chosen[..m], whole_row);
+    sum_features(parts.features, &chosen[..m], whole_row);
     let plan = Plan {
         s,
         width: whole_row.len(),
         m,
-        target: whole_size(part_sizes),
+        target: whole_size(parts.sizes),
     };
-    match_rows(plan, sizes, features, whole_row)
+    match_rows(plan, table, whole_row)
 }

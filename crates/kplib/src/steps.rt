@@ -1,6 +1,6 @@
 // The search over the chains of a table, step by step (traverse.rs).
 ghost use Rattle.std.specs.Prelude.{◌≡◌, reverse, ◌+◌, ◌<◌, ◌≤◌, ◌^◌, length};
-ghost use Rattle.params.specs.Numbers.{table_of, parts_of};
+ghost use Rattle.params.specs.Held.{table_held, parts_held};
 ghost use Rattle.kplib.specs.Told.{told_held};
 ghost use Rattle.kplib.specs.SearchSteps.{chain_of, later_of, advanced, not_begun, Weighable, WeighedAs, Searchable, Going, Gone, Startable, Searched};
 
@@ -10,7 +10,7 @@ use crate::plan::{Laid, Plan, Told};
 use crate::queue::{key, queue_extensions, read_chain, rows_size, take_next};
 use crate::vargraph::pairs_together;
 use metrics::kmer::entries;
-use params::Settings;
+use params::{Parts, Settings, Table};
 
 // A chain's size and score.
 #[derive(Clone, Copy)]
@@ -129,37 +129,29 @@ fn not_begun() -> Progress
 }
 
 // The search, with the room that it asks: codes and sizes of at most 2,047 part lists and the flags of all pairs, laid down once, and a feature row.
-pub(crate) fn search<'t>(
+pub(crate) fn search(
     s: Settings,
-    starts: &[u64],
-    ends: &[u64],
-    sizes: &'t [i32],
-    features: &'t [i32],
-    part_sizes: &[i32],
-    part_features: &[i32],
+    table: &Table,
+    parts: &Parts,
     links: &mut [u32],
     keys: &mut [u64],
 ) -> Progress
-    requires { let t = table_of starts.now ends.now sizes.now features.now in
-        let p = parts_of part_sizes.now part_features.now in
-        Startable s t p (length links.old) (length keys.old) }
-    ensures { let t = table_of starts.now ends.now sizes.now features.now in
-        let p = parts_of part_sizes.now part_features.now in
-        Searched s t p links.new result }
+    requires { Startable s (table_held table.now) (parts_held parts.now) (length links.old) (length keys.old) }
+    ensures { Searched s (table_held table.now) (parts_held parts.now) links.new result }
 {
     let mut codes = [0u32; 2047];
     let mut list_sizes = [0i32; 2047];
     let mut scratch = [0i32; 4096];
     let width = entries(s.k);
-    let count = lay_lists(s, part_sizes, &mut codes, &mut list_sizes);
-    let target = whole_size(part_sizes);
+    let count = lay_lists(s, parts.sizes, &mut codes, &mut list_sizes);
+    let target = whole_size(parts.sizes);
     let plan = Plan {
         s,
         width,
-        m: part_sizes.len(),
+        m: parts.sizes.len(),
         target,
     };
-    let together = pairs_together(starts, ends);
+    let together = pairs_together(table.starts, table.ends);
     keys[0] = key(0, target, 0);
     let lists = Laid {
         codes: &codes[..count],
@@ -168,9 +160,9 @@ pub(crate) fn search<'t>(
     let told = Told {
         plan,
         together: &together,
-        sizes,
-        features,
-        part_features,
+        sizes: table.sizes,
+        features: table.features,
+        part_features: parts.features,
         lists,
     };
     run(&told, links, keys, &mut scratch[..width], not_begun())

@@ -1,11 +1,13 @@
 // The answer of a call: the search's, or the one-to-one match's (traverse.rs).
 ghost use Rattle.std.specs.Prelude.{◌≡◌, [], reverse, ◌≤◌, length};
 ghost use Rattle.paths.specs.Queue.{Walk};
-ghost use Rattle.params.specs.Numbers.{table_of, parts_of, first_fault};
+ghost use Rattle.metrics.specs.Refusals.{refusal_number};
+ghost use Rattle.params.specs.Held.{table_held, parts_held};
+ghost use Rattle.params.specs.Numbers.{parts_of, call_of, first_fault};
 ghost use Rattle.kplib.specs.OneToOne.{one_to_one, lone_rows_at};
-ghost use Rattle.kplib.specs.Scoring.{unplaced, Tables};
+ghost use Rattle.kplib.specs.Scoring.{Tables};
 ghost use Rattle.kplib.specs.Search.{rows_for};
-ghost use Rattle.kplib.specs.Answer.{searched, matched_alone, answer_with};
+ghost use Rattle.kplib.specs.Answer.{searched, matched_alone, none_found, answer_with, queue_room};
 ghost use Rattle.metrics.specs.Placed.{placed};
 ghost use Rattle.kplib.specs.SearchSteps.{parents_of, lasts_of, chain_of, answer_parts, matched_by, Startable};
 ghost use Rattle.kplib.specs.Promises.{call_lent, ApplyHaplotypePromise};
@@ -16,7 +18,7 @@ use crate::queue::read_chain;
 use crate::steps::search;
 use crate::vargraph::Row;
 use metrics::kmer::entries;
-use metrics::refusals::told;
+use metrics::refusals::{ACCEPTED, Refusal};
 use params::checks::{call_fault, parts_fault, queue_room};
 use params::graphparams::search_mode;
 use params::{Parts, Settings, Table};
@@ -97,199 +99,107 @@ fn answer_with(refusal: u32, rows: usize, x: Scored, count: usize, complete: boo
 // The answer of a search.
 fn answer_search(
     s: Settings,
-    starts: &[u64],
-    ends: &[u64],
-    sizes: &[i32],
-    features: &[i32],
-    part_sizes: &[i32],
-    part_features: &[i32],
+    table: &Table,
+    parts: &Parts,
     links: &mut [u32],
     keys: &mut [u64],
     rows: &mut [u32],
 ) -> Answer
-    requires { let t = table_of starts.now ends.now sizes.now features.now in
-        let p = parts_of part_sizes.now part_features.now in
-        (Startable s t p (length links.old) (length keys.old)) × (length starts.now ≤ length rows.old) }
-    ensures { let t = table_of starts.now ends.now sizes.now features.now in
-        let p = parts_of part_sizes.now part_features.now in
-        (result ≡ answer_with 0 (searched s t p)) × (rows.new ≡ placed rows.old (searched s t p).rows) }
+    requires { let t = table_held table.now in
+        (Startable s t (parts_held parts.now) (length links.old) (length keys.old)) × (length t.starts ≤ length rows.old) }
+    ensures { let found = searched s (table_held table.now) (parts_held parts.now) in
+        (result ≡ answer_with 0 found) × (rows.new ≡ placed rows.old found.rows) }
 {
-    let end = search(
-        s,
-        starts,
-        ends,
-        sizes,
-        features,
-        part_sizes,
-        part_features,
-        links,
-        keys,
-    );
+    let end = search(s, table, parts, links, keys);
     let scored = end.best.scored;
     let n = place_chain(links, end.best.entry, scored.target, rows);
-    answer_with(0, n, scored, end.count, end.queued == 0)
+    answer_with(ACCEPTED, n, scored, end.count, end.queued == 0)
 }
 
 // The one-to-one match, with the room that it asks.
-fn alone(
-    s: Settings,
-    sizes: &[i32],
-    features: &[i32],
-    part_sizes: &[i32],
-    part_features: &[i32],
-) -> Lone
-    requires { (1 ≤ s.k) × (s.k ≤ 6) × (Tables s (unplaced sizes.now features.now) (parts_of part_sizes.now part_features.now)) }
-    ensures { result ≡ one_to_one s (unplaced sizes.now features.now) (parts_of part_sizes.now part_features.now) }
+fn alone(s: Settings, table: &Table, parts: &Parts) -> Lone
+    requires { (1 ≤ s.k) × (s.k ≤ 6) × (Tables s (table_held table.now) (parts_held parts.now)) }
+    ensures { result ≡ one_to_one s (table_held table.now) (parts_held parts.now) }
 {
     let mut chosen = [0u32; 64];
     let mut whole_row = [0i32; 4096];
     let width = entries(s.k);
-    one_to_one(
-        s,
-        sizes,
-        features,
-        part_sizes,
-        part_features,
-        &mut chosen,
-        &mut whole_row[..width],
-    )
+    one_to_one(s, table, parts, &mut chosen, &mut whole_row[..width])
 }
 
 // The answer of the one-to-one match.
-fn answer_alone(
-    s: Settings,
-    starts: &[u64],
-    sizes: &[i32],
-    features: &[i32],
-    part_sizes: &[i32],
-    part_features: &[i32],
-    rows: &mut [u32],
-) -> Answer
-    requires le_k { (1 ≤ s.k) × (s.k ≤ 6) × (Tables s (unplaced sizes.now features.now) (parts_of part_sizes.now part_features.now)) }
-    requires starts_len_bound { (length starts.now ≤ 64) × (1 ≤ length rows.old) }
-    ensures { let t = table_of starts.now [] sizes.now features.now in
-        let p = parts_of part_sizes.now part_features.now in
-        (result ≡ answer_with 0 (matched_alone s t p)) × (rows.new ≡ placed rows.old (matched_alone s t p).rows) }
+fn answer_alone(s: Settings, table: &Table, parts: &Parts, rows: &mut [u32]) -> Answer
+    requires le_k { (1 ≤ s.k) × (s.k ≤ 6) × (Tables s (table_held table.now) (parts_held parts.now)) }
+    requires starts_len_bound { (length table.now.starts.now ≤ 64) × (1 ≤ length rows.old) }
+    ensures { let found = matched_alone s (table_held table.now) (parts_held parts.now) in
+        (result ≡ answer_with 0 found) × (rows.new ≡ placed rows.old found.rows) }
 {
-    let Lone { row, scored } = alone(s, sizes, features, part_sizes, part_features);
+    let Lone { row, scored } = alone(s, table, parts);
     let n = place_row(row, scored.target, rows);
-    answer_with(0, n, scored, starts.len() + 2, true)
+    answer_with(ACCEPTED, n, scored, table.starts.len() + 2, true)
 }
 
 // The answer of a call that the checks have accepted, by its mode.
 fn answer_accepted(
     s: Settings,
-    starts: &[u64],
-    ends: &[u64],
-    sizes: &[i32],
-    features: &[i32],
-    part_sizes: &[i32],
-    part_features: &[i32],
+    table: &Table,
+    parts: &Parts,
     links: &mut [u32],
     keys: &mut [u64],
     rows: &mut [u32],
 ) -> Answer
-    requires { first_fault (call_lent s starts.now ends.now sizes.now features.now part_sizes.now part_features.now links.old keys.old rows.old) ≡ 0 }
-    ensures { ApplyHaplotypePromise s starts.now ends.now sizes.now features.now part_sizes.now
-        part_features.now links.old keys.old rows.old links.new keys.new rows.new result }
+    requires { first_fault (call_lent s table.now parts.now links.old keys.old rows.old) ≡ 0 }
+    ensures { ApplyHaplotypePromise s table.now parts.now links.old keys.old rows.old
+        links.new keys.new rows.new result }
 {
-    if search_mode(s, starts.len()) {
-        return answer_search(
-            s,
-            starts,
-            ends,
-            sizes,
-            features,
-            part_sizes,
-            part_features,
-            links,
-            keys,
-            rows,
-        );
+    if search_mode(s, table.starts.len()) {
+        return answer_search(s, table, parts, links, keys, rows);
     }
-    answer_alone(s, starts, sizes, features, part_sizes, part_features, rows)
+    answer_alone(s, table, parts, rows)
+}
+
+// The answer of a call that is refused.
+fn answer_refused(refusal: Refusal) -> Answer
+    ensures { result ≡ answer_with (refusal_number refusal) none_found }
+{
+    answer_with(refusal.into(), 0, nothing(), 0, false)
 }
 
 // The same of a haplotype whose table was checked: what is left to ask is its parts.
 pub(crate) fn answer_haplotype(
     s: Settings,
-    starts: &[u64],
-    ends: &[u64],
-    sizes: &[i32],
-    features: &[i32],
-    part_sizes: &[i32],
-    part_features: &[i32],
+    table: &Table,
+    parts: &Parts,
     links: &mut [u32],
     keys: &mut [u64],
     rows: &mut [u32],
 ) -> Answer
-    requires { first_fault (call_lent s starts.now ends.now sizes.now features.now [] [] links.old keys.old rows.old) ≡ 0 }
-    ensures { ApplyHaplotypePromise s starts.now ends.now sizes.now features.now part_sizes.now
-        part_features.now links.old keys.old rows.old links.new keys.new rows.new result }
+    requires { let room = queue_room links.old keys.old in
+        first_fault (call_of s (table_held table.now) (parts_of [] []) room (length rows.old)) ≡ 0 }
+    ensures { ApplyHaplotypePromise s table.now parts.now links.old keys.old rows.old
+        links.new keys.new rows.new result }
 {
-    let parts = Parts {
-        sizes: part_sizes,
-        features: part_features,
-    };
-    let refusal = told(parts_fault(s.k, &parts));
-    if refusal != 0 {
-        return answer_with(refusal, 0, nothing(), 0, false);
+    if let Err(refusal) = parts_fault(s.k, parts) {
+        return answer_refused(refusal);
     }
-    answer_accepted(
-        s,
-        starts,
-        ends,
-        sizes,
-        features,
-        part_sizes,
-        part_features,
-        links,
-        keys,
-        rows,
-    )
+    answer_accepted(s, table, parts, links, keys, rows)
 }
 
 // The best chain of a table for a haplotype, or the best node alone. `links` and `keys` are the queue's room.
 pub fn apply_haplotype(
     s: Settings,
-    starts: &[u64],
-    ends: &[u64],
-    sizes: &[i32],
-    features: &[i32],
-    part_sizes: &[i32],
-    part_features: &[i32],
+    table: &Table,
+    parts: &Parts,
     links: &mut [u32],
     keys: &mut [u64],
     rows: &mut [u32],
 ) -> Answer
-    ensures { ApplyHaplotypePromise s starts.now ends.now sizes.now features.now part_sizes.now
-        part_features.now links.old keys.old rows.old links.new keys.new rows.new result }
+    ensures { ApplyHaplotypePromise s table.now parts.now links.old keys.old rows.old
+        links.new keys.new rows.new result }
 {
-    let table = Table {
-        starts,
-        ends,
-        sizes,
-        features,
-    };
-    let parts = Parts {
-        sizes: part_sizes,
-        features: part_features,
-    };
     let room = queue_room(links.len(), keys.len());
-    let refusal = told(call_fault(s, &table, &parts, room, rows.len()));
-    if refusal != 0 {
-        return answer_with(refusal, 0, nothing(), 0, false);
+    if let Err(refusal) = call_fault(s, table, parts, room, rows.len()) {
+        return answer_refused(refusal);
     }
-    answer_accepted(
-        s,
-        starts,
-        ends,
-        sizes,
-        features,
-        part_sizes,
-        part_features,
-        links,
-        keys,
-        rows,
-    )
+    answer_accepted(s, table, parts, links, keys, rows)
 }

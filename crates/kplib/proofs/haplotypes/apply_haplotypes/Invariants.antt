@@ -4,5 +4,5 @@ use Rattle.kplib.proofs.haplotypes.apply_haplotypes.Given as goal
 
 abbrev pub invariant-loop-i : goal.invariant-loop-i
 invariant-loop-i l =
-    Turned l.s l.starts l.ends l.sizes l.features l.part_ends l.feature_ends l.part_sizes l.part_features l.initial.links l.initial.keys l.initial.rows l.initial.reports l.v l.i l.links
+    Turned l.s l.table l.part_ends l.feature_ends l.parts l.initial.links l.initial.keys l.initial.rows l.initial.reports l.v l.i l.links
     l.keys l.rows l.reports

@@ -3,4 +3,4 @@ use Rattle.kplib.proofs.OneToOneLaws.{Matched}
 use Rattle.kplib.proofs.onetoone.match_rows.Given as goal
 
 abbrev pub invariant-loop-r : goal.invariant-loop-r
-invariant-loop-r l = Matched l.plan l.sizes l.features l.whole_row l.best l.r
+invariant-loop-r l = Matched l.plan l.table.sizes.now l.table.features.now l.whole_row l.best l.r

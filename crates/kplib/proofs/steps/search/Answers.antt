@@ -22,17 +22,17 @@ width_is c = c.entries-width.ensures ∙ power _ c.requires.checked.k_high
 width_few : (c : After-whole_size-target) → c.entries-width.result ≤ 4096
 width_few c = omega (arith, width_is c, c.requires.checked.rows.short)
 
-target_is : (c : After-whole_size-target) → to_z w32 (of_z w32 c.whole_size-target.result) ≡ haplotype_size c.args.part_sizes.now
+target_is : (c : After-whole_size-target) → to_z w32 (of_z w32 c.whole_size-target.result) ≡ haplotype_size c.args.parts.now.sizes.now
 target_is c = read_back _ c.whole_size-target.type_inv ∙ c.whole_size-target.ensures
 
 planned : (c : After-whole_size-target) → ◌≡◌ {A = Plan} (record {
   s = c.args.s;
   width = c.entries-width.result;
-  m = length c.args.part_sizes.now;
+  m = length c.args.parts.now.sizes.now;
   target = to_z w32
       (of_z w32 c.whole_size-target.result);
-}) (record { s = c.args.s; width = 4 ^ c.args.s.k; m = length c.args.part_sizes.now; target = haplotype_size c.args.part_sizes.now })
-planned c = plan_is c.args.s c.args.part_sizes.now (width_is c) (target_is c)
+}) (record { s = c.args.s; width = 4 ^ c.args.s.k; m = length c.args.parts.now.sizes.now; target = haplotype_size c.args.parts.now.sizes.now })
+planned c = plan_is c.args.s c.args.parts.now.sizes.now (width_is c) (target_is c)
 
 pub key-requires : goal.key-requires
 key-requires c =
