@@ -191,7 +191,8 @@ module _ {s : Settings} {t : Table} {p : Parts} {rows positions : List ℕ} (y :
         };
       })
 
-      pub pair_is : {r : Option Scores} → r ≡ list_score s (total size row (length rows)) (total size' row' (length positions)) (length p.sizes - length positions) → r ≡ pair_score s t p rows positions
+      pub pair_is : {r : Option Scores} → r ≡ list_score s (total size row (length rows)) (total size' row' (length positions)) (length p.sizes - length positions)
+          → r ≡ pair_score s t p rows positions
       unfolding pair_score
       pair_is h = rw (chain_row_is, list_row_is, z, z') at h
 

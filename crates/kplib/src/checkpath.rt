@@ -1,5 +1,5 @@
 // Whether a path that someone else proposes is one that the search could have found (document 02, P13). One list is scored against one chain, whatever V, m and fnmax are.
-ghost use Rattle.std.specs.Prelude.{◌≡◌, ◌&&◌, reverse, ◌^◌, ◌≤◌, ◌<◌, ltb, length};
+ghost use Rattle.std.specs.Prelude.{Float, ◌≡◌, ◌&&◌, reverse, ◌^◌, ◌≤◌, ◌<◌, ltb, length};
 ghost use Rattle.paths.specs.Chains.{first_after};
 ghost use Rattle.paths.specs.Count.{stands_with_all};
 ghost use Rattle.metrics.specs.Refusals.{told};
@@ -20,16 +20,15 @@ use metrics::refusals::Refusal;
 use params::checks::call_fault;
 use params::{Parts, Settings, Table};
 
-// 1 to 10 and 16, then 54. The rooms are as large as any call asks, so that neither 11 nor 12 is given.
+// 1 to 10 and 16, then 54, whatever the score is. The rooms are as large as any call asks, so that neither 11 nor 12 is given.
 fn proposal_fault(
     s: Settings,
     table: &Table,
     parts: &Parts,
     rows: &[u32],
     positions: &[u32],
-    score: f32,
 ) -> Result<(), Refusal>
-    ensures { told result ≡ proposal_fault s (table_held table.now) (parts_held parts.now) (proposal_of rows.now positions.now score) }
+    ensures { (score : Float) → told result ≡ proposal_fault s (table_held table.now) (parts_held parts.now) (proposal_of rows.now positions.now score) }
 {
     call_fault(s, table, parts, 262145, 64)?;
     if rows.len() > 64 || positions.len() > 64 {
@@ -194,7 +193,7 @@ pub fn check_path(
 ) -> Result<bool, Refusal>
     ensures { CheckPathPromise s table.now parts.now rows.now positions.now score result }
 {
-    proposal_fault(s, table, parts, rows, positions, score)?;
+    proposal_fault(s, table, parts, rows, positions)?;
     if !is_chain(table.starts, table.ends, s.full, rows) {
         return Ok(false);
     }

@@ -28,5 +28,6 @@ slice_bounds-pair_score-end-2 c = sym (length-take-le _ _ (omega (arith, width_f
 
 pub pair_score-requires : goal.pair_score-requires
 pair_score-requires c =
-    let l = width_few (goal.at.pair_score-requires c).After-entries-width in
-    (c.requires, length-take-le _ _ (omega (arith, l)) ∙ width_is (goal.at.pair_score-requires c).After-entries-width, length-take-le _ _ (omega (arith, l)) ∙ width_is (goal.at.pair_score-requires c).After-entries-width)
+    let w = (goal.at.pair_score-requires c).After-entries-width in
+    let l = width_few w in
+    (c.requires, length-take-le _ _ (omega (arith, l)) ∙ width_is w, length-take-le _ _ (omega (arith, l)) ∙ width_is w)
