@@ -15,7 +15,8 @@ use Rattle.metrics.specs.declared.refusals.Refusal.{Refusal}
 use Rattle.metrics.specs.Refusals.{refusal_number, refused_or}
 use Rattle.metrics.proofs.RefusalLaws.{never_zero, numbered_is}
 use Rattle.params.proofs.CheckLaws.{Passed, none_given, or_no}
-use Rattle.meta.specs.Meta.{bad_samples, count_fault, new_fault, made_unless, joined_first, left_else_right, sum_passes, combine_rules, combine_fault, combined_of, combined_unless, made_result, joined_result}
+use Rattle.meta.specs.Meta.{bad_samples, count_fault, new_fault, made_unless, joined_first, left_else_right, sum_passes, combine_rules, combine_fault}
+use Rattle.meta.specs.Meta.{combined_of, combined_unless, made_result, joined_result}
 use Rattle.meta.specs.declared.HaplotypeMeta.{HaplotypeMeta}
 
 -- ---- the count
