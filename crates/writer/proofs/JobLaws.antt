@@ -202,78 +202,7 @@ module _ (e : Edition) (numbers : List ℕ) (s : Settings) (t : Lent) where
             next = let k : length (job_bytes e numbers (job_from s t)) ≡ settings_size e + 1 + (length vs + length hs) = long_job in omega (arith, k, n, m, first-is, at-is);
           }
 
--- ---- the tests of lengths
-module _ (t : Lent) where
-  abbrev pub rows_agree : Bool
-  rows_agree = four_agree (length t.starts) (length t.ends) (length t.sizes) (length t.negatives) (length t.counts)
-
-  abbrev pub parts_agree : Bool
-  parts_agree = two_agree (length t.part_sizes) (length t.part_negatives) (length t.part_counts)
-
-  abbrev pub letters_agree : Bool
-  letters_agree = eqb (sum t.counts + sum t.part_counts) (length t.letters)
-
-  abbrev breaks_agree : Bool
-  breaks_agree = in_order (length t.part_sizes) 0 t.breaks
-
-  pub all_agree : rows_agree ≡ true → parts_agree ≡ true → letters_agree ≡ true → breaks_agree ≡ true → agree t ≡ true
-  all_agree f g h i = rw (f, g, h, i)
-
--- ---- what no room mends
-module _ (e : Edition) (numbers : List ℕ) (s : Settings) (t : Lent) where
-  abbrev pub counted : Bool
-  counted = numbers_agree e (length numbers) (length t.starts)
-
-  pub fault_many : 15 < length t.breaks → 27 ≡ writing_fault e numbers s t
-  unfolding writing_fault
-  fault_many h = sym (rw (lt-ltb _ _ h))
-
-  module _ (within : length t.breaks ≤ 15) where
-    six : (counted && agree t) ≡ false → 6 ≡ writing_fault e numbers s t
-    unfolding writing_fault
-    six h = sym (rw (le-ltb _ _ within, h))
-
-    pub fault_numbers : counted ≡ false → 6 ≡ writing_fault e numbers s t
-    fault_numbers h = six (rw h)
-
-    module _ (numbered : counted ≡ true) where
-      pub fault_rows : rows_agree t ≡ false → 6 ≡ writing_fault e numbers s t
-      fault_rows h = six (rw (numbered, h))
-
-      pub fault_parts : rows_agree t ≡ true → parts_agree t ≡ false → 6 ≡ writing_fault e numbers s t
-      fault_parts f h = six (rw (numbered, f, h))
-
-      pub fault_letters : rows_agree t ≡ true → parts_agree t ≡ true → letters_agree t ≡ false → 6 ≡ writing_fault e numbers s t
-      fault_letters f g h = six (rw (numbered, f, g, h))
-
-      pub fault_breaks : rows_agree t ≡ true → parts_agree t ≡ true → letters_agree t ≡ true → breaks_agree t ≡ false → 6 ≡ writing_fault e numbers s t
-      fault_breaks f g h i = six (rw (numbered, f, g, h, i))
-
-      module _ (agrees : agree t ≡ true) where
-        pub fault_flag : 1 < s.letters → 24 ≡ writing_fault e numbers s t
-        unfolding writing_fault
-        fault_flag h = sym (rw (le-ltb _ _ within, numbered, agrees, lt-ltb _ _ h))
-
-        module _ (flag : s.letters ≤ 1) where
-          pub fault_over : any_over t.counts ≡ true → 13 ≡ writing_fault e numbers s t
-          unfolding writing_fault
-          fault_over h = sym (rw (le-ltb _ _ within, numbered, agrees, le-ltb _ _ flag, h))
-
-          module _ (few : any_over t.counts ≡ false) where
-            pub fault_part_over : any_over t.part_counts ≡ true → 13 ≡ writing_fault e numbers s t
-            unfolding writing_fault
-            fault_part_over h = sym (rw (le-ltb _ _ within, numbered, agrees, le-ltb _ _ flag, few, h))
-
-            module _ (part_few : any_over t.part_counts ≡ false) where
-              pub fault_lost : letters_lost e s.letters ≡ true → 29 ≡ writing_fault e numbers s t
-              unfolding writing_fault
-              fault_lost h = sym (rw (le-ltb _ _ within, numbered, agrees, le-ltb _ _ flag, few, part_few, h))
-
-              pub fault_none : letters_lost e s.letters ≡ false → 0 ≡ writing_fault e numbers s t
-              unfolding writing_fault
-              fault_none h = sym (rw (le-ltb _ _ within, numbered, agrees, le-ltb _ _ flag, few, part_few, h))
-
--- ---- and the other way: what holds where there is no such fault
+-- ---- what holds where there is no fault
 pub record Sound (e : Edition) (numbers : List ℕ) (s : Settings) (t : Lent) : Type 0 where
   pub within : length t.breaks ≤ 15
   pub numbered : numbers_agree e (length numbers) (length t.starts) ≡ true
