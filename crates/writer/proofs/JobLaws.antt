@@ -9,6 +9,7 @@ use lib.Dec.{eqb, ltb}
 use lib.ListN.{length, get_or, drop, length-append, drop_of_length-le}
 use lib.Seq.{sets, slice, drop-cons, sets-eq}
 use borrow.Author.Tests.{lt-ltb, le-ltb, ltb-false, eqb-true, ne_eqb}
+use Rattle.std.proofs.lemmas.Grind.{common_steps}
 use Rattle.params.specs.declared.Settings.{Settings}
 use Rattle.std.specs.declared.option.Option.TheVariants.{None, Some}
 use Rattle.std.specs.Prelude.{Result, Ok, Err}
@@ -212,40 +213,17 @@ pub record Sound (e : Edition) (numbers : List ℕ) (s : Settings) (t : Lent) : 
   pub few_parts : any_over t.part_counts ≡ false
   pub kept : letters_lost e s.letters ≡ false
 
--- none of the tests on the way to 0 holds
-record Passed (a b c d f g h : Bool) : Type 0 where
-  first : a ≡ false
-  second : b ≡ true
-  third : c ≡ true
-  fourth : d ≡ false
-  fifth : f ≡ false
-  sixth : g ≡ false
-  seventh : h ≡ false
-
-passed : (a b c d f g h : Bool) → ◌≡◌ {A = ℕ} (cond a 27 (cond (not (b && c)) 6 (cond d 24 (cond (f || g) 13 (cond h 29 0))))) 0 → Passed a b c d f g h
-passed true b c d f g h z = let w : ⊥ = omega (arith, z) in absurd w
-passed false false c d f g h z = let w : ⊥ = omega (arith, z) in absurd w
-passed false true false d f g h z = let w : ⊥ = omega (arith, z) in absurd w
-passed false true true true f g h z = let w : ⊥ = omega (arith, z) in absurd w
-passed false true true false true g h z = let w : ⊥ = omega (arith, z) in absurd w
-passed false true true false false true h z = let w : ⊥ = omega (arith, z) in absurd w
-passed false true true false false false true z = let w : ⊥ = omega (arith, z) in absurd w
-passed false true true false false false false z = record { first = refl; second = refl; third = refl; fourth = refl; fifth = refl; sixth = refl; seventh = refl }
-
 pub sound : (e : Edition) (numbers : List ℕ) (s : Settings) (t : Lent) → writing_fault e numbers s t ≡ 0 → Sound e numbers s t
 unfolding writing_fault
-sound e numbers s t z =
-    let p = passed (ltb 15 (length t.breaks)) (numbers_agree e (length numbers) (length t.starts)) (agree t) (ltb 1 s.letters) (any_over t.counts) (any_over t.part_counts)
-    (letters_lost e s.letters) z in
-    record {
-      within = ltb-false 15 (length t.breaks) p.first;
-      numbered = p.second;
-      agrees = p.third;
-      flag = ltb-false 1 s.letters p.fourth;
-      few = p.fifth;
-      few_parts = p.sixth;
-      kept = p.seventh;
-    }
+sound e numbers s t z = record {
+  within = grind (arith, common_steps);
+  numbered = grind (arith, common_steps);
+  agrees = grind (arith, common_steps);
+  flag = grind (arith, common_steps);
+  few = grind (arith, common_steps);
+  few_parts = grind (arith, common_steps);
+  kept = grind (arith, common_steps);
+}
 
 -- ---- the answer
 module _ (e : Edition) (numbers : List ℕ) (s : Settings) (t : Lent) (out : List ℕ) where
