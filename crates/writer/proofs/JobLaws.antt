@@ -9,6 +9,7 @@ use lib.Dec.{eqb, ltb}
 use lib.ListN.{length, get_or, drop, length-append, drop_of_length-le}
 use lib.Seq.{sets, slice, drop-cons, sets-eq}
 use borrow.Author.Tests.{lt-ltb, le-ltb, ltb-false, eqb-true, ne_eqb}
+use Rattle.std.proofs.lemmas.Grind.{common_steps}
 use Rattle.params.specs.declared.Settings.{Settings}
 use Rattle.std.specs.declared.option.Option.TheVariants.{None, Some}
 use Rattle.std.specs.Prelude.{Result, Ok, Err}
@@ -202,78 +203,7 @@ module _ (e : Edition) (numbers : List ℕ) (s : Settings) (t : Lent) where
             next = let k : length (job_bytes e numbers (job_from s t)) ≡ settings_size e + 1 + (length vs + length hs) = long_job in omega (arith, k, n, m, first-is, at-is);
           }
 
--- ---- the tests of lengths
-module _ (t : Lent) where
-  abbrev pub rows_agree : Bool
-  rows_agree = four_agree (length t.starts) (length t.ends) (length t.sizes) (length t.negatives) (length t.counts)
-
-  abbrev pub parts_agree : Bool
-  parts_agree = two_agree (length t.part_sizes) (length t.part_negatives) (length t.part_counts)
-
-  abbrev pub letters_agree : Bool
-  letters_agree = eqb (sum t.counts + sum t.part_counts) (length t.letters)
-
-  abbrev breaks_agree : Bool
-  breaks_agree = in_order (length t.part_sizes) 0 t.breaks
-
-  pub all_agree : rows_agree ≡ true → parts_agree ≡ true → letters_agree ≡ true → breaks_agree ≡ true → agree t ≡ true
-  all_agree f g h i = rw (f, g, h, i)
-
--- ---- what no room mends
-module _ (e : Edition) (numbers : List ℕ) (s : Settings) (t : Lent) where
-  abbrev pub counted : Bool
-  counted = numbers_agree e (length numbers) (length t.starts)
-
-  pub fault_many : 15 < length t.breaks → 27 ≡ writing_fault e numbers s t
-  unfolding writing_fault
-  fault_many h = sym (rw (lt-ltb _ _ h))
-
-  module _ (within : length t.breaks ≤ 15) where
-    six : (counted && agree t) ≡ false → 6 ≡ writing_fault e numbers s t
-    unfolding writing_fault
-    six h = sym (rw (le-ltb _ _ within, h))
-
-    pub fault_numbers : counted ≡ false → 6 ≡ writing_fault e numbers s t
-    fault_numbers h = six (rw h)
-
-    module _ (numbered : counted ≡ true) where
-      pub fault_rows : rows_agree t ≡ false → 6 ≡ writing_fault e numbers s t
-      fault_rows h = six (rw (numbered, h))
-
-      pub fault_parts : rows_agree t ≡ true → parts_agree t ≡ false → 6 ≡ writing_fault e numbers s t
-      fault_parts f h = six (rw (numbered, f, h))
-
-      pub fault_letters : rows_agree t ≡ true → parts_agree t ≡ true → letters_agree t ≡ false → 6 ≡ writing_fault e numbers s t
-      fault_letters f g h = six (rw (numbered, f, g, h))
-
-      pub fault_breaks : rows_agree t ≡ true → parts_agree t ≡ true → letters_agree t ≡ true → breaks_agree t ≡ false → 6 ≡ writing_fault e numbers s t
-      fault_breaks f g h i = six (rw (numbered, f, g, h, i))
-
-      module _ (agrees : agree t ≡ true) where
-        pub fault_flag : 1 < s.letters → 24 ≡ writing_fault e numbers s t
-        unfolding writing_fault
-        fault_flag h = sym (rw (le-ltb _ _ within, numbered, agrees, lt-ltb _ _ h))
-
-        module _ (flag : s.letters ≤ 1) where
-          pub fault_over : any_over t.counts ≡ true → 13 ≡ writing_fault e numbers s t
-          unfolding writing_fault
-          fault_over h = sym (rw (le-ltb _ _ within, numbered, agrees, le-ltb _ _ flag, h))
-
-          module _ (few : any_over t.counts ≡ false) where
-            pub fault_part_over : any_over t.part_counts ≡ true → 13 ≡ writing_fault e numbers s t
-            unfolding writing_fault
-            fault_part_over h = sym (rw (le-ltb _ _ within, numbered, agrees, le-ltb _ _ flag, few, h))
-
-            module _ (part_few : any_over t.part_counts ≡ false) where
-              pub fault_lost : letters_lost e s.letters ≡ true → 29 ≡ writing_fault e numbers s t
-              unfolding writing_fault
-              fault_lost h = sym (rw (le-ltb _ _ within, numbered, agrees, le-ltb _ _ flag, few, part_few, h))
-
-              pub fault_none : letters_lost e s.letters ≡ false → 0 ≡ writing_fault e numbers s t
-              unfolding writing_fault
-              fault_none h = sym (rw (le-ltb _ _ within, numbered, agrees, le-ltb _ _ flag, few, part_few, h))
-
--- ---- and the other way: what holds where there is no such fault
+-- ---- what holds where there is no fault
 pub record Sound (e : Edition) (numbers : List ℕ) (s : Settings) (t : Lent) : Type 0 where
   pub within : length t.breaks ≤ 15
   pub numbered : numbers_agree e (length numbers) (length t.starts) ≡ true
@@ -283,40 +213,17 @@ pub record Sound (e : Edition) (numbers : List ℕ) (s : Settings) (t : Lent) : 
   pub few_parts : any_over t.part_counts ≡ false
   pub kept : letters_lost e s.letters ≡ false
 
--- none of the tests on the way to 0 holds
-record Passed (a b c d f g h : Bool) : Type 0 where
-  first : a ≡ false
-  second : b ≡ true
-  third : c ≡ true
-  fourth : d ≡ false
-  fifth : f ≡ false
-  sixth : g ≡ false
-  seventh : h ≡ false
-
-passed : (a b c d f g h : Bool) → ◌≡◌ {A = ℕ} (cond a 27 (cond (not (b && c)) 6 (cond d 24 (cond (f || g) 13 (cond h 29 0))))) 0 → Passed a b c d f g h
-passed true b c d f g h z = let w : ⊥ = omega (arith, z) in absurd w
-passed false false c d f g h z = let w : ⊥ = omega (arith, z) in absurd w
-passed false true false d f g h z = let w : ⊥ = omega (arith, z) in absurd w
-passed false true true true f g h z = let w : ⊥ = omega (arith, z) in absurd w
-passed false true true false true g h z = let w : ⊥ = omega (arith, z) in absurd w
-passed false true true false false true h z = let w : ⊥ = omega (arith, z) in absurd w
-passed false true true false false false true z = let w : ⊥ = omega (arith, z) in absurd w
-passed false true true false false false false z = record { first = refl; second = refl; third = refl; fourth = refl; fifth = refl; sixth = refl; seventh = refl }
-
 pub sound : (e : Edition) (numbers : List ℕ) (s : Settings) (t : Lent) → writing_fault e numbers s t ≡ 0 → Sound e numbers s t
 unfolding writing_fault
-sound e numbers s t z =
-    let p = passed (ltb 15 (length t.breaks)) (numbers_agree e (length numbers) (length t.starts)) (agree t) (ltb 1 s.letters) (any_over t.counts) (any_over t.part_counts)
-    (letters_lost e s.letters) z in
-    record {
-      within = ltb-false 15 (length t.breaks) p.first;
-      numbered = p.second;
-      agrees = p.third;
-      flag = ltb-false 1 s.letters p.fourth;
-      few = p.fifth;
-      few_parts = p.sixth;
-      kept = p.seventh;
-    }
+sound e numbers s t z = record {
+  within = grind (arith, common_steps);
+  numbered = grind (arith, common_steps);
+  agrees = grind (arith, common_steps);
+  flag = grind (arith, common_steps);
+  few = grind (arith, common_steps);
+  few_parts = grind (arith, common_steps);
+  kept = grind (arith, common_steps);
+}
 
 -- ---- the answer
 module _ (e : Edition) (numbers : List ℕ) (s : Settings) (t : Lent) (out : List ℕ) where

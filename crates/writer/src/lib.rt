@@ -8,7 +8,7 @@ ghost use Rattle.metrics.specs.Refusals.{told};
 ghost use Rattle.form.specs.Form.{most_breaks, part_kind, letters_kind, part_len, letters_len};
 ghost use Rattle.form.specs.Job.{padded, records_for, sequence_bytes, part_body, settings_record, variant_record, variants_bytes, parts_bytes, haplotypes_bytes, job_bytes};
 ghost use Rattle.form.specs.Lent.{sum};
-ghost use Rattle.writer.specs.Writing.{any_over, four_agree, two_agree, in_order, numbers_agree, letters_lost, writing_fault, variants_from, parts_from, cut_at, job_from};
+ghost use Rattle.writer.specs.Writing.{any_over, agree, four_agree, two_agree, in_order, numbers_agree, letters_lost, writing_fault, variants_from, parts_from, cut_at, job_from};
 ghost use Rattle.writer.specs.Steps.{held, variant_kind_by, settings_size, variant_size, number_tail, cost_of, total, left_of, VariantsFit, PartsFit, HaplotypesFit, Put, JobFits};
 ghost use Rattle.writer.specs.Promises.{WrittenBy, WriteJobPromise, WriteNumberedJobPromise};
 
@@ -423,7 +423,26 @@ fn lay_job(
     at + 1
 }
 
+// Whether the rows, the letters and the breaks agree.
+fn agrees(job: &Lent) -> bool
+    ensures { result ≡ agree (held job.now) }
+{
+    rows_agree(
+        job.starts.len(),
+        job.ends.len(),
+        job.sizes.len(),
+        job.negatives.len(),
+        job.letter_counts.len(),
+    ) && parts_agree(
+        job.part_sizes.len(),
+        job.part_negatives.len(),
+        job.part_letter_counts.len(),
+    ) && letters_agree(job.letter_counts, job.part_letter_counts, job.letters.len())
+        && breaks_agree(job.part_sizes.len(), job.breaks)
+}
+
 // What no room mends: 27, 6, 24, 13 or 29.
+#[tactic(auto, unfolding(crate::specs::Writing::writing_fault))]
 fn writing_fault(
     edition: Edition,
     settings: Settings,
@@ -435,38 +454,13 @@ fn writing_fault(
     if MOST_BREAKS < job.breaks.len() {
         return Err(Refusal::TooManyHaplotypes);
     }
-    if !numbers_agree(edition, numbers.len(), job.starts.len()) {
-        return Err(Refusal::BadLengths);
-    }
-    if !rows_agree(
-        job.starts.len(),
-        job.ends.len(),
-        job.sizes.len(),
-        job.negatives.len(),
-        job.letter_counts.len(),
-    ) {
-        return Err(Refusal::BadLengths);
-    }
-    if !parts_agree(
-        job.part_sizes.len(),
-        job.part_negatives.len(),
-        job.part_letter_counts.len(),
-    ) {
-        return Err(Refusal::BadLengths);
-    }
-    if !letters_agree(job.letter_counts, job.part_letter_counts, job.letters.len()) {
-        return Err(Refusal::BadLengths);
-    }
-    if !breaks_agree(job.part_sizes.len(), job.breaks) {
+    if !(numbers_agree(edition, numbers.len(), job.starts.len()) && agrees(job)) {
         return Err(Refusal::BadLengths);
     }
     if 1 < settings.letters {
         return Err(Refusal::BadFlag);
     }
-    if any_over(job.letter_counts) {
-        return Err(Refusal::TooManyLetters);
-    }
-    if any_over(job.part_letter_counts) {
+    if any_over(job.letter_counts) || any_over(job.part_letter_counts) {
         return Err(Refusal::TooManyLetters);
     }
     if letters_lost(edition, settings.letters) {
