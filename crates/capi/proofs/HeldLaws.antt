@@ -12,8 +12,9 @@ use Rattle.params.specs.Several.{haplotypes}
 use Rattle.params.specs.declared.Settings.{Settings}
 use Rattle.params.proofs.CheckLaws.{k_high}
 use Rattle.kplib.specs.Answer.{found_after}
-use Rattle.kplib.specs.Proposal.{Proposal, proposal_fault, check_of, is_good, check_case}
-use Rattle.kplib.specs.declared.checkpath.PathCheck.TheVariants.{Refused}
+use Rattle.kplib.specs.Proposal.{Proposal, proposal_fault, check_of, is_good}
+use Rattle.std.specs.Prelude.{Err}
+use Rattle.metrics.specs.Refusals.{refusal_of, refused_or}
 use Rattle.kplib.specs.Haplotypes.{laid, answered_after}
 use Rattle.dive.specs.Numbered.{Numbered, numbered_fault, numbered_answer, numbered_rows, records_at, records_of, numbered_searches}
 use Rattle.dive.specs.NumberedSeveral.{NumberedSeveral, own_numbered, numbered_several_fault, numbered_answered, numbered_rows_after, records_after, numbered_reports_after, numbered_several_searches}
@@ -161,9 +162,9 @@ module _ (s : Settings) (t : Table) (p : Parts) (part_ends feature_ends : List �
 
 -- ---- the same of a proposal
 module _ (s : Settings) (t : Table) (p : Parts) (o : Proposal) where
-  refused_check : (made : Settings) (n : ℕ) → first_of (settings_rules made) ≡ suc n → check_of made t p o ≡ Refused (suc n)
+  refused_check : (made : Settings) (n : ℕ) → first_of (settings_rules made) ≡ suc n → check_of made t p o ≡ Err (refusal_of (suc n))
   unfolding check_of proposal_fault
-  refused_check made n e = ap (λ (fault : ℕ). check_case fault (is_good made t p o)) (by_settings made n _ e)
+  refused_check made n e = ap (λ (fault : ℕ). refused_or fault (is_good made t p o)) (by_settings made n _ e)
 
   check_kept : Kept s → check_of (settings_held s) t p o ≡ check_of s t p o
   check_kept (same e) = ap (λ (made : Settings). check_of made t p o) e

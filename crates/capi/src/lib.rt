@@ -8,7 +8,6 @@ ghost use Rattle.capi.specs.Promises.{NdCompanionsAddPromise, NdCompanionsRemove
 ghost use Rattle.capi.specs.Promises.{NdMetaNewPromise, NdMetaBlankPromise, NdMetaCombinePromise};
 ghost use Rattle.capi.specs.Promises.{NdBookSavePromise, NdBookReadPromise, NdBookRestorePromise};
 ghost use Rattle.capi.specs.Promises.{NdMoveJobPromise};
-
 ghost use Rattle.std.specs.Prelude.{◌≡◌};
 ghost use Rattle.metrics.specs.Refusals.{told};
 ghost use Rattle.std.specs.Result.{result_unwrap_or};
@@ -60,7 +59,11 @@ pub fn nd_sizesim(a: u64, b: u64, place: &mut f32) -> u32
 pub fn nd_count_chains(starts: &[u64], ends: &[u64], full: bool, cap: u32, count: &mut u32) -> u32
     ensures { NdCountChainsPromise starts.now ends.now full cap count.old count.new result }
 {
-    told_at(kplib::vargraph::count_chains(starts, ends, full, cap), count, 0)
+    told_at(
+        kplib::vargraph::count_chains(starts, ends, full, cap),
+        count,
+        0,
+    )
 }
 
 // The program's answer to a job's bytes, at the front of `text`. Returns how long it is.

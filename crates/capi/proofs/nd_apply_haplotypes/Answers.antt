@@ -9,7 +9,7 @@ returns c =
     let alike = several_alike _ _ _ _ _ _ _ _ _ _ c.settings_of_words-s.ensures in
     let written = promised.1 in
     let queue = written.1.1.1 in (
-      promised.0 ∙ alike.fault,
+      c.told.ensures ∙ promised.0 ∙ alike.fault,
       (
         written.0 ∙ alike.rows _,
         (written.1.0 ∙ alike.records _, (written.1.1.0 ∙ alike.reports _, (λ h. queue.0 (alike.search ∙ h), λ h. queue.1 (alike.search ∙ h)))),

@@ -1,12 +1,5 @@
--- The answer's number and value, case by case, are those of the metrics call's own promise.
-use mathlib.Core.Path.{refl}
-use Rattle.metrics.proofs.Casts.{zero_is}
+-- What the call came to, at its place and as a number.
 use Rattle.capi.proofs.nd_sizesim.Goals as goal
 
--- src/lib.rt:39:1
-pub returns-in-Value : goal.returns-in-Value
-returns-in-Value c = rw (← c.sizesim-sim.ensures, c.in-Value.is) (refl, refl)
-
--- src/lib.rt:39:1
-pub returns-in-Refused : goal.returns-in-Refused
-returns-in-Refused c = rw (← c.sizesim-sim.ensures, c.in-Refused.is) (refl, zero_is)
+pub returns : goal.returns
+returns c = ?
