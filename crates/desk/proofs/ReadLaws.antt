@@ -138,14 +138,16 @@ module _ (input : List ℕ) (short : length input ≤ 32768) (t : Lent) (room : 
         let n : ⊥ = omega arith in
         absurd n
 
-    declined_held : (refusal : Refusal) (fits : Bool) → has_room (job_counts job) t ≡ fits → ◌≡◌ {A = Result (Settings × Counts) Refusal} (Err refusal) (cond fits (Ok (job.settings, job_counts job)) (Err LittleRoom))
+    declined_held : (refusal : Refusal) (fits : Bool) → has_room (job_counts job) t ≡ fits
+        → ◌≡◌ {A = Result (Settings × Counts) Refusal} (Err refusal) (cond fits (Ok (job.settings, job_counts job)) (Err LittleRoom))
         → refused_text (told_as (refusal_number refusal)) ≡ cond (too_large job) (refused_text 26) (job_text (numbers_of input) job)
     declined_held refusal true r e = let z : ◌≡◌ {A = ℕ} 0 1 = cc in let w : ⊥ = omega arith in absurd w
     declined_held refusal false r e =
         let m : refusal ≡ LittleRoom = cc in
         rw (← told_room (refusal_number refusal) (ap refusal_number m), large (too_large job) refl r)
 
-    given_held : (s : Settings) (c : Counts) (fits : Bool) → has_room (job_counts job) t ≡ fits → ◌≡◌ {A = Result (Settings × Counts) Refusal} (Ok (s, c)) (cond fits (Ok (job.settings, job_counts job)) (Err LittleRoom)) → JobRead s c
+    given_held : (s : Settings) (c : Counts) (fits : Bool) → has_room (job_counts job) t ≡ fits
+        → ◌≡◌ {A = Result (Settings × Counts) Refusal} (Ok (s, c)) (cond fits (Ok (job.settings, job_counts job)) (Err LittleRoom)) → JobRead s c
     given_held s c true r e =
         let same : ◌≡◌ {A = Settings × Counts} (s, c) (job.settings, job_counts job) = cc in
         record { job = job; held = held; enough = r; settings_are = ap (λ (x : Settings × Counts). x.0) same; counts_are = ap (λ (x : Settings × Counts). x.1) same }
