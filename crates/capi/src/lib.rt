@@ -179,8 +179,16 @@ pub fn nd_read_bed(
     ensures { NdReadBedPromise text.now starts.old ends.old name.old counts.old
         starts.new ends.new name.new counts.new result }
 {
-    let read = bed::read_bed(text, starts, ends, name);
-    told_at(read.map(|found| [found.rows, found.width]), counts, [0, 0])
+    match bed::read_bed(text, starts, ends, name) {
+        Ok(found) => {
+            *counts = [found.rows, found.width];
+            ACCEPTED
+        }
+        Err(refusal) => {
+            *counts = [0, 0];
+            refusal.into()
+        }
+    }
 }
 
 // How many bytes are written; 0 on a refusal.

@@ -1,5 +1,9 @@
--- What the call came to, at its place and as a number.
+-- The number, and the value or 0.0 at its place.
+use Rattle.std.proofs.Common.{ap, ◌∙◌}
+use Rattle.metrics.specs.Refusals.{told}
+use Rattle.metrics.specs.Similarity.{value}
+use Rattle.capi.proofs.ValueLaws.{value_is}
 use Rattle.capi.proofs.nd_sizesim.Goals as goal
 
 pub returns : goal.returns
-returns c = ?
+returns c = (c.told_at.ensures.number ∙ ap told c.sizesim.ensures, c.told_at.ensures.value ∙ value_is c.sizesim.result ∙ ap value c.sizesim.ensures)
