@@ -28,7 +28,7 @@ module _ (c : Call) (zeroFault : first_fault c ≡ 0) where
   checked = accepted c zeroFault
 
   tables : Tables s t p
-  tables = tables_of t.starts t.ends checked
+  tables = tables_of checked
 
   source_is : node_total (4 ^ s.k) t.sizes t.features 0 ≡ anchor_total (4 ^ s.k)
   unfolding node_total
