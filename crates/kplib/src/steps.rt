@@ -1,5 +1,5 @@
 // The search over the chains of a table, step by step (traverse.rs).
-ghost use Rattle.std.specs.Prelude.{◌≡◌, reverse, ◌+◌, ◌<◌, ◌≤◌, ◌^◌, length};
+ghost use Rattle.std.specs.Prelude.{◌≡◌, reverse, ◌+◌, ◌<◌, ◌≤◌, length};
 ghost use Rattle.params.specs.Held.{table_held, parts_held};
 ghost use Rattle.kplib.specs.Told.{told_held};
 ghost use Rattle.kplib.specs.SearchSteps.{chain_of, later_of, advanced, not_begun, Weighable, WeighedAs, Searchable, Going, Gone, Startable, Searched};
