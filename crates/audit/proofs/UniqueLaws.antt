@@ -75,7 +75,8 @@ told_agree : {B : Type 0} {searching : Bool} {links keys rows : List ℕ} {b : B
 told_agree x y p q = agree x y (recorded x.says (refl, p.1)) (recorded y.says (told_one _ _ q.0 p.0, q.1))
 
 told_agree_both : {A B : Type 0} {searching : Bool} {links keys rows : List ℕ} {a : A} {b : B} {n : ℕ}
-    → Agree (A × (B × Result Unit Refusal)) searching (λ x. (told x.says.1.1 ≡ n) × ((x.rows ≡ rows) × ((x.says.0 ≡ a) × ((x.says.1.0 ≡ b) × (Kept searching links x.links × Kept searching keys x.keys)))))
+    → Agree (A × (B × Result Unit Refusal)) searching (λ x. (told x.says.1.1 ≡ n) × ((x.rows ≡ rows) × ((x.says.0 ≡ a)
+    × ((x.says.1.0 ≡ b) × (Kept searching links x.links × Kept searching keys x.keys)))))
 told_agree_both x y p q = agree x y (recorded_both x.says (refl, p.1)) (recorded_both y.says (told_one _ _ q.0 p.0, q.1))
 
 -- three slices, each by an equation of its own

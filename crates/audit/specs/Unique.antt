@@ -8,7 +8,8 @@ use Rattle.metrics.specs.Promises.{SeqToKmerPromise, ClearRowPromise, EntriesPro
 use Rattle.params.specs.declared.Settings.{Settings}
 use Rattle.params.specs.declared.Table.{Table}
 use Rattle.params.specs.declared.Parts.{Parts}
-use Rattle.params.specs.Promises.{SearchModePromise, SettingsFaultPromise, QueueRoomPromise, CallFaultPromise, PartsFaultPromise, CountFaultPromise, SeveralFaultPromise, EarlierPromise, FirstInTablePromise}
+use Rattle.params.specs.Promises.{SearchModePromise, SettingsFaultPromise, QueueRoomPromise, CallFaultPromise, PartsFaultPromise, CountFaultPromise, SeveralFaultPromise, EarlierPromise}
+use Rattle.params.specs.Promises.{FirstInTablePromise}
 use Rattle.kplib.specs.Answer.{searches}
 use Rattle.kplib.specs.declared.traverse.Answer.{Answer}
 use Rattle.kplib.specs.Haplotypes.{several_searches}

@@ -8,7 +8,8 @@ use Rattle.std.specs.Prelude.{Result, Ok, Err}
 use Rattle.metrics.specs.declared.refusals.Refusal.{Refusal}
 use Rattle.metrics.specs.Refusals.{refusal_number, told}
 use Rattle.params.specs.Numbers.{first_of, rule}
-use Rattle.meta.specs.Meta.{Combined, blank_of, new_of, bad_samples, sum_passes, new_fault, count_fault, combine_fault, made_unless, new_made, blank_made, combined_unless, combined_two, made_result, combined_result, or_blank}
+use Rattle.meta.specs.Meta.{Combined, blank_of, new_of, bad_samples, sum_passes, new_fault, count_fault, combine_fault, made_unless, new_made, blank_made, combined_unless, combined_two}
+use Rattle.meta.specs.Meta.{made_result, combined_result, or_blank}
 use Rattle.meta.specs.Words.{meta_of_words, words_of_meta}
 use Rattle.meta.specs.declared.HaplotypeMeta.{HaplotypeMeta}
 use Rattle.meta.specs.declared.Combined as declared

@@ -93,7 +93,8 @@ module _ {q : Told} {chain : List ℕ} {chainSize : ℤ} {code : ℕ} {size : �
       gap_few = te.2;
     }
 
-    pub attempt_scored : {t : Bool} → t ≡ may_win q.plan.s (tested_of (to_z w32 (of_z w32 chainSize)) (length chain) (to_z w32 (of_z w32 size)) (code / 65536) (q.plan.m - code / 65536)) floor best.score
+    pub attempt_scored : {t : Bool}
+        → t ≡ may_win q.plan.s (tested_of (to_z w32 (of_z w32 chainSize)) (length chain) (to_z w32 (of_z w32 size)) (code / 65536) (q.plan.m - code / 65536)) floor best.score
         → t ≡ true → {scored : Scored} {v : Option Scores}
         → Judged q.plan.s terms (seqsim_of_rows q.plan.s.minkfreq chainRow (features_of (length chainRow) q.part_features list')) v → scored ≡ greater_of best (q.plan.m - code / 65536) v
         → Attempted q chain chainSize code size floor best (record { scored = scored; weight = Some w }) chainRow

@@ -2,7 +2,11 @@
 use Rattle.std.proofs.Common.{◌≡◌, ℕ, refl, ap, sym, ◌∙◌, arith}
 use Rattle.std.specs.Prelude.{Result, Ok, Err}
 use Rattle.metrics.specs.declared.refusals.Refusal.{Refusal}
-use Rattle.metrics.specs.declared.refusals.Refusal.TheVariants.{BadK, BadFloat, BadNumber, NoVariants, TooMany, BadLengths, StartAfterEnd, FallingStart, BadSize, BadRow, QueueRoom, AnswerRoom, TooManyLetters, RepeatedNumber, EmptyRow, UnknownKind, CutShort, OutOfPlace, BadPadding, BadFlag, BytesAfterEnd, TooLarge, TooManyHaplotypes, NumberNotRow, LettersOne, LittleRoom, BadLine, SecondName, TooManyLines, LittleTextRoom, MissingRow, MissingVersion, VersionsUsed, LittleBookRoom, BrokenBook, NotItsSheet, BadSamples, NoSuchSample, UnequalSamples, CoverageOverflow, LongProposal}
+use Rattle.metrics.specs.declared.refusals.Refusal.TheVariants.{BadK, BadFloat, BadNumber, NoVariants, TooMany, BadLengths, StartAfterEnd, FallingStart, BadSize, BadRow, QueueRoom}
+use Rattle.metrics.specs.declared.refusals.Refusal.TheVariants.{AnswerRoom, TooManyLetters, RepeatedNumber, EmptyRow, UnknownKind, CutShort, OutOfPlace, BadPadding, BadFlag, BytesAfterEnd}
+use Rattle.metrics.specs.declared.refusals.Refusal.TheVariants.{TooLarge, TooManyHaplotypes, NumberNotRow, LettersOne, LittleRoom, BadLine, SecondName, TooManyLines, LittleTextRoom}
+use Rattle.metrics.specs.declared.refusals.Refusal.TheVariants.{MissingRow, MissingVersion, VersionsUsed, LittleBookRoom, BrokenBook, NotItsSheet, BadSamples, NoSuchSample, UnequalSamples}
+use Rattle.metrics.specs.declared.refusals.Refusal.TheVariants.{CoverageOverflow, LongProposal}
 use Rattle.metrics.specs.Refusals.{refusal_number, refusal_of, told}
 
 pub never_zero : (refusal : Refusal) → refusal_number refusal ≡ 0 → ⊥

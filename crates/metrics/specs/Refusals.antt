@@ -1,7 +1,11 @@
 -- The numbers of documents 01 and 02 for the refusals. 0 is an accepted call.
 use Rattle.std.specs.Prelude.{ℕ, zero, suc, cond, ◌==◌, Result, Ok, Err}
 use Rattle.metrics.specs.declared.refusals.Refusal.{Refusal}
-use Rattle.metrics.specs.declared.refusals.Refusal.TheVariants.{BadK, BadFloat, BadNumber, NoVariants, TooMany, BadLengths, StartAfterEnd, FallingStart, BadSize, BadRow, QueueRoom, AnswerRoom, TooManyLetters, RepeatedNumber, EmptyRow, UnknownKind, CutShort, OutOfPlace, BadPadding, BadFlag, BytesAfterEnd, TooLarge, TooManyHaplotypes, NumberNotRow, LettersOne, LittleRoom, BadLine, SecondName, TooManyLines, LittleTextRoom, MissingRow, MissingVersion, VersionsUsed, LittleBookRoom, BrokenBook, NotItsSheet, BadSamples, NoSuchSample, UnequalSamples, CoverageOverflow, LongProposal}
+use Rattle.metrics.specs.declared.refusals.Refusal.TheVariants.{BadK, BadFloat, BadNumber, NoVariants, TooMany, BadLengths, StartAfterEnd, FallingStart, BadSize, BadRow, QueueRoom}
+use Rattle.metrics.specs.declared.refusals.Refusal.TheVariants.{AnswerRoom, TooManyLetters, RepeatedNumber, EmptyRow, UnknownKind, CutShort, OutOfPlace, BadPadding, BadFlag, BytesAfterEnd}
+use Rattle.metrics.specs.declared.refusals.Refusal.TheVariants.{TooLarge, TooManyHaplotypes, NumberNotRow, LettersOne, LittleRoom, BadLine, SecondName, TooManyLines, LittleTextRoom}
+use Rattle.metrics.specs.declared.refusals.Refusal.TheVariants.{MissingRow, MissingVersion, VersionsUsed, LittleBookRoom, BrokenBook, NotItsSheet, BadSamples, NoSuchSample, UnequalSamples}
+use Rattle.metrics.specs.declared.refusals.Refusal.TheVariants.{CoverageOverflow, LongProposal}
 
 abbrev pub refusal_number : Refusal → ℕ
 refusal_number BadK = 1

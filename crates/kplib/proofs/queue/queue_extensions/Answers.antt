@@ -12,7 +12,8 @@ use Rattle.kplib.proofs.queue.queue_extensions.Goals.{In-loop-r, Then-may-r}
 use Rattle.kplib.proofs.queue.queue_extensions.Goals as goal
 
 -- a row's flag tells whether it extends the chain
-flag : (c : In-loop-r) → extends (follows_by c.args.told.now.plan c.args.told.now.together.now) (chain_of c.args.links.now c.args.entry) (c.loop-r.r - 1) ≡ get_or c.followers-may.result (c.loop-r.r - 1) false
+flag : (c : In-loop-r) → extends (follows_by c.args.told.now.plan c.args.told.now.together.now) (chain_of c.args.links.now c.args.entry) (c.loop-r.r - 1)
+    ≡ get_or c.followers-may.result (c.loop-r.r - 1) false
 flag c = let h = c.requires in found h c.followers-may.ensures (c.loop-r.r - 1) (omega (arith, end_is h c.end_node-first.ensures)) (omega (arith, h.sized.few))
 
 extending : (c : Then-may-r) → extends (follows_by c.args.told.now.plan c.args.told.now.together.now) (chain_of c.args.links.now c.args.entry) (c.loop-r.r - 1) ≡ true

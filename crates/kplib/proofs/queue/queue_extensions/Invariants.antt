@@ -8,5 +8,7 @@ use Rattle.kplib.proofs.queue.queue_extensions.Given as goal
 
 abbrev pub invariant-loop-r : goal.invariant-loop-r
 invariant-loop-r l =
-    (l.first ≤ l.r) × Queueing (follows_by l.told.plan l.told.together.now) (length l.told.sizes.now) (distance_to l.told.sizes.now l.told.plan.target) l.used l.queued l.entry (parents_of l.initial.links) (lasts_of l.initial.links)
+    (l.first ≤ l.r)
+    × Queueing (follows_by l.told.plan l.told.together.now) (length l.told.sizes.now) (distance_to l.told.sizes.now l.told.plan.target) l.used l.queued l.entry
+    (parents_of l.initial.links) (lasts_of l.initial.links)
     l.initial.keys (parents_of l.links) (lasts_of l.links) l.keys l.added l.r
