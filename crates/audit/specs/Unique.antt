@@ -21,6 +21,8 @@ use Rattle.dive.specs.Promises.{ApplyWithMetaPromise, ApplyHaplotypesWithMetaPro
 use Rattle.dive.specs.declared.told.Told.{Told}
 use Rattle.dive.specs.declared.told.ToldSeveral.{ToldSeveral}
 use Rattle.meta.specs.declared.HaplotypeMeta.{HaplotypeMeta}
+use Rattle.meta.specs.declared.NotMade.{NotMade}
+use Rattle.meta.specs.declared.NotCombined.{NotCombined}
 use Rattle.meta.specs.declared.Combined.{Combined}
 use Rattle.meta.specs.Promises.{NewPromise, NewBlankPromise, CombinePromise, OrBlankPromise, MetaOfWordsPromise, WordsOfMetaPromise, CombineAllPromise}
 use Rattle.form.specs.declared.records.Edition.{Edition}
@@ -125,13 +127,13 @@ pub record Unique : Type 0 where
       (numbered_several_lent s table numbers part_ends feature_ends parts links keys rows records reports))
       (λ x. ApplyNumberedHaplotypesPromise s table numbers part_ends feature_ends parts links keys rows records reports
       x.links x.keys x.rows x.says.0 x.says.1.0 x.says.1.1)
-  pub new : (index samples : ℕ) → One (Result HaplotypeMeta Refusal) (NewPromise index samples)
-  pub new_blank : (samples : ℕ) → One (Result HaplotypeMeta Refusal) (NewBlankPromise samples)
-  pub combine : (left right : HaplotypeMeta) → One (Result Combined Refusal) (CombinePromise left right)
+  pub new : (index samples : ℕ) → One (Result HaplotypeMeta NotMade) (NewPromise index samples)
+  pub new_blank : (samples : ℕ) → One (Result HaplotypeMeta NotMade) (NewBlankPromise samples)
+  pub combine : (left right : HaplotypeMeta) → One (Result Combined NotCombined) (CombinePromise left right)
   pub or_blank : (made : Result HaplotypeMeta Refusal) → One HaplotypeMeta (OrBlankPromise made)
   pub meta_of_words : (words : List ℕ) → One HaplotypeMeta (MetaOfWordsPromise words)
   pub words_of_meta : (meta : HaplotypeMeta) → One (List ℕ) (WordsOfMetaPromise meta)
-  pub combine_all : (metas : List ℕ) → One (Result HaplotypeMeta Refusal) (CombineAllPromise metas)
+  pub combine_all : (metas : List ℕ) → One (Result HaplotypeMeta NotMade) (CombineAllPromise metas)
   pub apply_with_meta : (s : Settings) (table : Table) (numbers : List ℕ) (parts : Parts) (meta : HaplotypeMeta)
       (links keys rows records : List ℕ)
       → Agree (List ℕ × Told) (numbered_searches (numbered_lent s table numbers parts links keys rows records))

@@ -1,4 +1,5 @@
 pub mod Words
 pub mod Held
+pub mod Made
 pub mod Moved
 pub mod Promises

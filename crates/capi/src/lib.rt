@@ -11,11 +11,13 @@ ghost use Rattle.capi.specs.Promises.{NdMoveJobPromise};
 ghost use Rattle.std.specs.Prelude.{◌≡◌};
 ghost use Rattle.metrics.specs.Refusals.{told};
 ghost use Rattle.std.specs.Result.{result_unwrap_or};
+ghost use Rattle.meta.specs.Words.{words_of_meta};
+ghost use Rattle.capi.specs.Made.{made_data, made_number};
 
-use crate::words::{length_word, settings_of_words};
+use crate::words::{length_word, settings_of_words, word_of_flag};
 use kplib::report::put_report;
-use meta::or_blank;
 use meta::words::{meta_of_words, words_of_meta};
+use meta::{HaplotypeMeta, NotMade};
 use metrics::refusals::{ACCEPTED, Refusal, told};
 use params::{Parts, Table};
 
@@ -247,7 +249,7 @@ pub fn nd_companions_together(
     ensures { NdCompanionsTogetherPromise starts.now ends.now sheet.now rows a b yes.old yes.new result }
 {
     let paired = companions::together(starts, ends, sheet, rows, a, b);
-    told_at(paired.map(|may| may as u32), yes, 0)
+    told_at(paired.map(|may| word_of_flag(may)), yes, 0)
 }
 
 // How many later companions a row has; 0 on a refusal.
@@ -264,22 +266,35 @@ pub fn nd_companions_count(
     told_at(companions::count(starts, ends, sheet, rows, row), count, 0)
 }
 
+// What was made, or a blank of one sample in its place, as words; and the call's number.
+fn put_made(made: Result<HaplotypeMeta, NotMade>, meta: &mut [u64; 28]) -> u32
+    ensures number { result ≡ made_number made }
+    ensures words { meta.new ≡ words_of_meta (made_data made) }
+{
+    match made {
+        Ok(one) => {
+            *meta = words_of_meta(one);
+            ACCEPTED
+        }
+        Err(not_made) => {
+            *meta = words_of_meta(not_made.meta);
+            not_made.refusal.into()
+        }
+    }
+}
+
 // One read of one sample, as 28 words; a blank of one sample on a refusal.
 pub fn nd_meta_new(index: u64, samples: u64, meta: &mut [u64; 28]) -> u32
     ensures { NdMetaNewPromise index samples meta.old meta.new result }
 {
-    let made = meta::new(index, samples);
-    *meta = words_of_meta(or_blank(made));
-    told(made.map(|_| ()))
+    put_made(meta::new(index, samples), meta)
 }
 
 // No read of any sample; a blank of one sample on a refusal.
 pub fn nd_meta_blank(samples: u64, meta: &mut [u64; 28]) -> u32
     ensures { NdMetaBlankPromise samples meta.old meta.new result }
 {
-    let made = meta::new_blank(samples);
-    *meta = words_of_meta(or_blank(made));
-    told(made.map(|_| ()))
+    put_made(meta::new_blank(samples), meta)
 }
 
 // The two combined, on the left, which a refusal leaves as it was.
@@ -291,7 +306,7 @@ pub fn nd_meta_combine(left: &mut [u64; 28], right: &[u64; 28]) -> u32
             *left = words_of_meta(combined.left);
             ACCEPTED
         }
-        Err(refusal) => refusal.into(),
+        Err(not_combined) => not_combined.refusal.into(),
     }
 }
 

@@ -16,8 +16,9 @@ use Rattle.metrics.specs.Refusals.{refusal_number, refused_or}
 use Rattle.metrics.proofs.RefusalLaws.{never_zero, numbered_is}
 use Rattle.params.proofs.CheckLaws.{Passed, none_given, or_no}
 use Rattle.meta.specs.Meta.{bad_samples, count_fault, new_fault, made_unless, joined_first, left_else_right, sum_passes, combine_rules, combine_fault}
-use Rattle.meta.specs.Meta.{combined_of, combined_unless, made_result, joined_result}
+use Rattle.meta.specs.Meta.{combined_of, combined_unless, not_made, made_result, joined_result}
 use Rattle.meta.specs.declared.HaplotypeMeta.{HaplotypeMeta}
+use Rattle.meta.specs.declared.NotMade.{NotMade}
 
 -- ---- the count
 module _ (n : ℕ) where
@@ -74,19 +75,16 @@ pub flag_fits : (i : ℕ) → i < 8 → (1 * 2 ^ i) % 18446744073709551616 ≡ 2
 flag_fits i h = shl_exact 1 i 64 (lit< tt) (omega arith) ∙ one-mul (2 ^ i)
 
 -- what was made or combined, as the code gives it: by its fault alone
-pub made_by : (fault : ℕ) (m : HaplotypeMeta) → refused_or fault m ≡ made_result (made_unless fault m)
-made_by zero m = refl
-made_by (suc f) m = refl
-
 pub combined_by : (fault : ℕ) (a b : HaplotypeMeta) → refused_or fault (combined_of a b) ≡ joined_result (combined_unless fault a b)
 combined_by zero a b = refl
 combined_by (suc f) a b = refl
 
-pub refused_by : (fault : ℕ) (refusal : Refusal) (m : HaplotypeMeta) → refusal_number refusal ≡ fault → ◌≡◌ {A = Result HaplotypeMeta Refusal} (Err refusal) (refused_or fault m)
+pub refused_by : (fault : ℕ) (refusal : Refusal) (m : HaplotypeMeta) → refusal_number refusal ≡ fault
+    → ◌≡◌ {A = Result HaplotypeMeta NotMade} (Err (not_made refusal)) (made_result (made_unless fault m))
 refused_by zero refusal m e = absurd (never_zero refusal e)
-refused_by (suc f) refusal m e = ap (λ (r : Refusal). Err r) (numbered_is refusal (suc f) e)
+refused_by (suc f) refusal m e = ap (λ (r : Refusal). Err (not_made r)) (numbered_is refusal (suc f) e)
 
-pub accepted : {fault : ℕ} {one m : HaplotypeMeta} → 0 ≡ fault → one ≡ m → ◌≡◌ {A = Result HaplotypeMeta Refusal} (Ok one) (refused_or fault m)
+pub accepted : {fault : ℕ} {one m : HaplotypeMeta} → 0 ≡ fault → one ≡ m → ◌≡◌ {A = Result HaplotypeMeta NotMade} (Ok one) (made_result (made_unless fault m))
 accepted e k = rw (sym e) (ap (λ (x : HaplotypeMeta). Ok x) k)
 
 -- ---- combining

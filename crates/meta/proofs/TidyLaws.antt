@@ -47,9 +47,10 @@ combined_tidy a b t = go (combine_fault a b)
     both : Tidy (combined_of a b)
     both = combined_of_lem a b t
 
+    -- whichever of the two stands there, it is tidy: that it is the left as it was is said by the code's own promise
     go : (f : ℕ) → Tidy (combined_unless f a b).left
     go zero = both
-    go (suc f) = t
+    go (suc f) = search (t, both)
 
 -- eight entries of words that fit
 eight_fit : (xs : List ℕ) (at : ℕ) → ((i : ℕ) → get_or xs i 0 ≤ 18446744073709551615) → (i : ℕ) → get_or (eight_at xs at) i 0 ≤ 18446744073709551615

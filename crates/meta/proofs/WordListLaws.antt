@@ -14,10 +14,11 @@ use Rattle.metrics.specs.declared.refusals.Refusal.{Refusal}
 use Rattle.metrics.specs.declared.refusals.Refusal.TheVariants.{BadLengths, BadSamples}
 use Rattle.metrics.specs.Refusals.{refusal_number}
 use Rattle.metrics.proofs.RefusalLaws.{never_zero}
-use Rattle.meta.specs.Meta.{Made, blank_of, count_fault, made_unless, combine_fault, combined_of, combined_unless, combined_two, made_result, joined_result}
+use Rattle.meta.specs.Meta.{Made, blank_of, count_fault, made_unless, combine_fault, combined_of, combined_unless, combined_two, not_made, made_result, joined_result}
 use Rattle.meta.specs.Words.{meta_of_words}
 use Rattle.meta.specs.Grouping.{next_unless, all_from, all_made, metas_in, all_in_words}
 use Rattle.meta.specs.declared.HaplotypeMeta.{HaplotypeMeta}
+use Rattle.meta.specs.declared.NotMade.{NotMade}
 use Rattle.meta.proofs.FaultLaws.{refused_by}
 
 -- how many there are
@@ -49,15 +50,20 @@ refused_stays f m (b ∷ rest) = refused_stays f m rest
 
 -- the first is refused by its count
 pub first_refused : (fault : ℕ) (refusal : Refusal) (m : HaplotypeMeta) (rest : List HaplotypeMeta) → refusal_number refusal ≡ fault
-    → ◌≡◌ {A = Result HaplotypeMeta Refusal} (Err refusal) (made_result (all_from (made_unless fault m) rest))
+    → ◌≡◌ {A = Result HaplotypeMeta NotMade} (Err (not_made refusal)) (made_result (all_from (made_unless fault m) rest))
 first_refused zero refusal m rest e = absurd (never_zero refusal e)
 first_refused (suc f) refusal m rest e = refused_by (suc f) refusal m e ∙ sym (ap made_result (refused_stays f m rest))
 
+-- what one more was refused by, as the list is
+abbrev list_refused : Result HaplotypeMeta Refusal → Result HaplotypeMeta NotMade
+list_refused (Ok m) = Ok m
+list_refused (Err refusal) = Err (not_made refusal)
+
 -- one more is refused with those before it
 next_refused : (fault : ℕ) (refusal : Refusal) (a b : HaplotypeMeta) (rest : List HaplotypeMeta) → Err refusal ≡ joined_result (combined_unless fault a b)
-    → ◌≡◌ {A = Result HaplotypeMeta Refusal} (Err refusal) (made_result (all_from (made_unless fault (combined_of a b)) rest))
+    → ◌≡◌ {A = Result HaplotypeMeta NotMade} (Err (not_made refusal)) (made_result (all_from (made_unless fault (combined_of a b)) rest))
 next_refused zero refusal a b rest e = cc
-next_refused (suc f) refusal a b rest e = e ∙ sym (ap made_result (refused_stays f (combined_of a b) rest))
+next_refused (suc f) refusal a b rest e = ap list_refused e ∙ sym (ap made_result (refused_stays f (combined_of a b) rest))
 
 abbrev data_of : Result HaplotypeMeta Refusal → HaplotypeMeta
 data_of (Ok m) = m
@@ -131,7 +137,7 @@ module _ (w : List ℕ) where
   unfolding all_made metas_in
   no_metas n z = rw z
 
-  pub odd_length : (length w % 28 ≡ 0 → ⊥) → Err BadLengths ≡ made_result (all_in_words w)
+  pub odd_length : (length w % 28 ≡ 0 → ⊥) → Err (not_made BadLengths) ≡ made_result (all_in_words w)
   unfolding all_in_words
   odd_length h = rw (ne_eqb (length w % 28) 0 h)
 
@@ -140,17 +146,17 @@ module _ (w : List ℕ) where
     unfolding all_in_words
     even_length = rw (eq-eqb (length w % 28) 0 even)
 
-    pub no_list : length w / 28 ≡ 0 → Err BadSamples ≡ made_result (all_in_words w)
+    pub no_list : length w / 28 ≡ 0 → Err (not_made BadSamples) ≡ made_result (all_in_words w)
     no_list z = ap made_result (no_metas (length w / 28) z ∙ even_length)
 
     pub refused_at_first : (refusal : Refusal) {first : HaplotypeMeta} → (length w / 28 ≡ 0 → ⊥) → first ≡ meta_of_words (take 28 w) → refusal_number refusal ≡ count_fault first.samples
-        → Err refusal ≡ made_result (all_in_words w)
+        → Err (not_made refusal) ≡ made_result (all_in_words w)
     refused_at_first refusal {first} h e f =
         first_refused (count_fault first.samples) refusal first (later (length w / 28) 1) f ∙ ap made_result (begun (length w / 28) h e ∙ even_length)
 
     pub refused_at : (refusal : Refusal) (i k : ℕ) (all : HaplotypeMeta) {other : HaplotypeMeta} → i < length w / 28 → k ≡ 28 → other ≡ meta_of_words (take k (drop (28 * i) w))
         → Err refusal ≡ joined_result (combined_two all other) → all_from (made_unless 0 all) (later (length w / 28) i) ≡ all_made (metas_in (length w / 28) w)
-        → Err refusal ≡ made_result (all_in_words w)
+        → Err (not_made refusal) ≡ made_result (all_in_words w)
     refused_at refusal i k all {other} h q o m e =
         next_refused (combine_fault all other) refusal all other (later (length w / 28) (i + 1)) m
         ∙ ap made_result (following (length w / 28) i k all h q o e ∙ even_length)

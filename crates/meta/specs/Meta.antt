@@ -3,9 +3,11 @@ use Rattle.std.specs.Prelude.{ℕ, zero, suc, ◌+◌, ◌^◌, Bool, not, cond,
 use Rattle.std.specs.Int.Bits.{bit_or}
 use Rattle.meta.specs.declared
 use Rattle.metrics.specs.declared.refusals.Refusal.{Refusal}
-use Rattle.metrics.specs.Refusals.{refused_or}
+use Rattle.metrics.specs.Refusals.{refusal_of, refused_or}
 use Rattle.params.specs.Numbers.{Rule, rule, first_of, any_below}
 use Rattle.meta.specs.declared.HaplotypeMeta.{HaplotypeMeta}
+use Rattle.meta.specs.declared.NotMade.{NotMade}
+use Rattle.meta.specs.declared.NotCombined.{NotCombined}
 
 -- 50: a sample count not 1 to 8
 abbrev pub bad_samples : ℕ → Bool
@@ -97,14 +99,28 @@ combined_two a b = combined_unless (combine_fault a b) a b
 
 -- ---- what the code gives of it
 
-abbrev pub made_result : Made → Result HaplotypeMeta Refusal
-made_result r = refused_or r.refusal r.meta
+-- a refusal, and a blank of one sample
+abbrev pub not_made : Refusal → NotMade
+not_made refusal = record { refusal = refusal; meta = blank_of 1 }
+
+-- what was made, or the refusal beside what stands in its place
+abbrev pub made_case : ℕ → HaplotypeMeta → Result HaplotypeMeta NotMade
+made_case zero m = Ok m
+made_case (suc f) m = Err (record { refusal = refusal_of (suc f); meta = m })
+
+abbrev pub made_result : Made → Result HaplotypeMeta NotMade
+made_result r = made_case r.refusal r.meta
 
 abbrev pub joined_result : Combined → Result HaplotypeMeta Refusal
 joined_result r = refused_or r.refusal r.left
 
-abbrev pub combined_result : Combined → Result declared.Combined.Combined Refusal
-combined_result r = refused_or r.refusal (record { left = r.left; right = r.right })
+-- the two, the left as one with the right; or the refusal beside both as they were
+abbrev pub combined_case : ℕ → HaplotypeMeta → HaplotypeMeta → Result declared.Combined.Combined NotCombined
+combined_case zero a b = Ok (record { left = a; right = b })
+combined_case (suc f) a b = Err (record { refusal = refusal_of (suc f); left = a; right = b })
+
+abbrev pub combined_result : Combined → Result declared.Combined.Combined NotCombined
+combined_result r = combined_case r.refusal r.left r.right
 
 -- what was made, or on a refusal a blank of one sample
 abbrev pub or_blank : Result HaplotypeMeta Refusal → HaplotypeMeta

@@ -7,7 +7,7 @@ pub mod lists;
 pub mod words;
 
 ghost use Rattle.std.specs.Prelude.{◌≡◌};
-ghost use Rattle.meta.specs.Meta.{blank_of, combine_fault, combined_of, combined_two, joined_result};
+ghost use Rattle.meta.specs.Meta.{blank_of, combine_fault, combined_of, combined_two, joined_result, not_made};
 ghost use Rattle.meta.specs.Promises.{NewPromise, NewBlankPromise, CombinePromise, OrBlankPromise};
 
 use crate::arrays::{joined_first, left_else_right};
@@ -25,6 +25,24 @@ pub struct HaplotypeMeta {
     pub hp: [u64; 8],
 }
 
+// Why nothing was made, and in its place a blank of one sample.
+#[derive(Clone, Copy)]
+pub struct NotMade {
+    pub refusal: Refusal,
+    pub meta: HaplotypeMeta,
+}
+
+impl From<Refusal> for NotMade {
+    ghost from_gives = { λ refusal n. n ≡ not_made refusal };
+
+    fn from(refusal: Refusal) -> NotMade {
+        NotMade {
+            refusal,
+            meta: blank(1),
+        }
+    }
+}
+
 // Data that belongs to nobody.
 pub(crate) fn blank(samples: u64) -> HaplotypeMeta
     ensures { result ≡ blank_of samples }
@@ -39,8 +57,8 @@ pub(crate) fn blank(samples: u64) -> HaplotypeMeta
     }
 }
 
-// One read of one sample.
-pub fn new(sample_idx: u64, num_samples: u64) -> Result<HaplotypeMeta, Refusal>
+// One read of one sample; or the refusal and a blank of one sample.
+pub fn new(sample_idx: u64, num_samples: u64) -> Result<HaplotypeMeta, NotMade>
     ensures { NewPromise sample_idx num_samples result }
 {
     new_fault(sample_idx, num_samples)?;
@@ -53,8 +71,8 @@ pub fn new(sample_idx: u64, num_samples: u64) -> Result<HaplotypeMeta, Refusal>
     })
 }
 
-// No read of any sample.
-pub fn new_blank(num_samples: u64) -> Result<HaplotypeMeta, Refusal>
+// No read of any sample; or the refusal and a blank of one sample.
+pub fn new_blank(num_samples: u64) -> Result<HaplotypeMeta, NotMade>
     ensures { NewBlankPromise num_samples result }
 {
     count_fault(num_samples)?;
@@ -94,14 +112,26 @@ pub struct Combined {
     pub right: HaplotypeMeta,
 }
 
+// Why the two were not combined, and both as they were.
+#[derive(Clone, Copy)]
+pub struct NotCombined {
+    pub refusal: Refusal,
+    pub left: HaplotypeMeta,
+    pub right: HaplotypeMeta,
+}
+
 // Coverage is added, a tag of the left stays and else the right's is taken, the flags are joined, and the id is the left's.
-pub fn combine(left: HaplotypeMeta, right: HaplotypeMeta) -> Result<Combined, Refusal>
+pub fn combine(left: HaplotypeMeta, right: HaplotypeMeta) -> Result<Combined, NotCombined>
     ensures { CombinePromise left right result }
 {
-    Ok(Combined {
-        left: joined(left, right)?,
-        right,
-    })
+    match joined(left, right) {
+        Ok(both) => Ok(Combined { left: both, right }),
+        Err(refusal) => Err(NotCombined {
+            refusal,
+            left,
+            right,
+        }),
+    }
 }
 
 // What was made, or a blank of one sample where it was refused.

@@ -1,10 +1,10 @@
 -- One read of the sample: its flag fits, since its index is below eight. Assumes nothing.
 use native.Mathlib.Omega.{arith}
-use mathlib.Core.Path.{sym, ap, ◌∙◌}
+use mathlib.Core.Path.{sym, ap}
 use Prim.Native.Nat.{ℕ, ◌<◌}
 use lib.ListN.{set, replicate}
 use Rattle.meta.specs.declared.HaplotypeMeta.{HaplotypeMeta}
-use Rattle.meta.proofs.FaultLaws.{new_inside, flag_fits, made_by, accepted}
+use Rattle.meta.proofs.FaultLaws.{new_inside, flag_fits, accepted}
 use Rattle.meta.proofs.new.Goals.{In_ok-new_fault}
 use Rattle.meta.proofs.new.Goals as goal
 
@@ -24,7 +24,7 @@ pub returns : goal.returns
 returns c =
     let a = c.args in
     let below = inside (goal.at.returns c).In_ok-new_fault in
-    rw c.blank.ensures (accepted c.in_ok-new_fault.ensures (ap (λ (flag : ℕ). flagged a.sample_idx a.num_samples flag) (flag_fits _ below)) ∙ made_by _ _)
+    rw c.blank.ensures (accepted c.in_ok-new_fault.ensures (ap (λ (flag : ℕ). flagged a.sample_idx a.num_samples flag) (flag_fits _ below)))
   where
     flagged : ℕ → ℕ → ℕ → HaplotypeMeta
     flagged i n flag = record { id = 0; samples = n; samples_flag = flag; coverage = set (replicate 8 0) i 1; ps = replicate 8 0; hp = replicate 8 0 }
