@@ -1,6 +1,6 @@
 // The sums of a row and of two, in a form that the compiler turns into vector instructions: no early exit, no sum wider than its entries.
 // The sums wrap where a row is over its limit; such a row is refused anyway.
-ghost use Rattle.std.specs.Prelude.{◌≡◌, ◌+◌, ◌*◌, ◌<◌, ◌≤◌, true, length, pos, if◌then◌else◌, nat_le, nat_lt};
+ghost use Rattle.std.specs.Prelude.{◌≡◌, ◌+◌, ◌*◌, ◌<◌, ◌≤◌, true, length, pos, ◌-ℤ◌, if◌then◌else◌, nat_le, nat_lt, unsigned_abs};
 ghost use Rattle.metrics.specs.Lanes.{Added, Summed, RowSummed};
 ghost use Rattle.metrics.specs.Similarity.{magnitude_sum};
 ghost use Rattle.metrics.specs.Promises.{MagnitudePromise, RowOverPromise};
@@ -10,6 +10,13 @@ pub fn magnitude(x: i32) -> u32
     ensures { MagnitudePromise x result }
 {
     x.unsigned_abs()
+}
+
+// How far two entries are apart, where neither is large: the magnitude of the wrapped difference takes fewer vector instructions than `abs_diff`.
+fn apart(x: i32, y: i32) -> u32
+    ensures { unsigned_abs x + unsigned_abs y < 2147483648 → result ≡ unsigned_abs (x -ℤ y) }
+{
+    magnitude(x.wrapping_sub(y))
 }
 
 // The same bits, read as a signed number: vectors of signed numbers are compared with one instruction less.
@@ -67,7 +74,7 @@ pub(crate) fn sum_rows(a: &[i32], b: &[i32], minkfreq: u32) -> Sums
     };
     for (i, x) in a.iter().enumerate() {
         let y = b[i];
-        s = add_pair(s, magnitude(*x), magnitude(y), x.abs_diff(y), minkfreq);
+        s = add_pair(s, magnitude(*x), magnitude(y), apart(*x, y), minkfreq);
     }
     s
 }

@@ -16,7 +16,7 @@ loop-i-preserved c =
     let bx = read_back (get_or g.a.now i (pos 0)) c.magnitude-arg-1.given in
     let by = read_back (get_or g.b.now i (pos 0)) c.y-1.given in
     next g.minkfreq g.a.now g.b.now i _ _ _ c.loop-i.s c.add_pair-s.result c.loop-i.invariant ia ib (rw bx at c.magnitude.ensures)
-    (rw by at c.magnitude-in-loop-i.ensures) (λ low. rw (bx, by) at c.abs_diff.ensures) c.add_pair-s.ensures
+    (rw by at c.magnitude-in-loop-i.ensures) (rw (bx, by) at c.apart.ensures) c.add_pair-s.ensures
 
 pub returns : goal.returns
 returns c = ended _ _ _ _ _ c.loop-i.invariant (omega arith) c.requires.0
