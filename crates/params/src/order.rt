@@ -3,7 +3,7 @@ ghost use Rattle.std.specs.Prelude.{◌≡◌};
 ghost use Rattle.params.specs.TableOrder.{right_before, place_of};
 ghost use Rattle.params.specs.Promises.{EarlierPromise, FirstInTablePromise};
 
-use metrics::refusals::{ACCEPTED, Refusal};
+use metrics::refusals::{ACCEPTED, Refusal, told};
 
 // Where a number stands in the table: each has a place, and right before it is one more, in which 27, 14 and 16 stand.
 fn right_before(n: u32) -> u64
@@ -49,10 +49,7 @@ pub fn first_in_table(other: Result<(), Refusal>, own: Result<(), Refusal>) -> R
     let Err(refusal) = own else {
         return other;
     };
-    let Err(found) = other else {
-        return own;
-    };
-    if place_of(found.into()) < place_of(refusal.into()) {
+    if earlier(told(other), refusal.into()) == told(other) {
         other
     } else {
         own

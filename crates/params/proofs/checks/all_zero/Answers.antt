@@ -1,14 +1,31 @@
-use Rattle.std.proofs.Common.{rules, tests, refl, ◌∙◌, ◌&&◌}
-use Rattle.std.specs.List.{list_all}
-use Rattle.std.proofs.lemmas.Iterator.{YieldsList-from_slice}
-use Rattle.std.proofs.lemmas.Iterator.Search.{all_from_yields_List}
-use Rattle.std.proofs.lemmas.List.Recursion.{same_from_clauses}
+-- What is left from the entry at hand on decides the row: an entry that is not 0 ends it, one that is leaves it to the rest, and at the end
+-- nothing is left. Assumes nothing.
+use Rattle.std.proofs.Common.{rules, tests, ◌≡◌, ◌+◌, ◌<◌, ◌&&◌, List, ℤ, ℕ, pos, true, false, length, drop, get_or, refl, sym, ◌∙◌}
+use Rattle.std.proofs.lemmas.List.{at_drop_more, at_drop_all}
 use Rattle.params.specs.Numbers.{all_zero, is_zero}
 use Rattle.params.proofs.checks.all_zero.Goals as goal
 
+step : (row : List ℤ) (i : ℕ) → i < length row → all_zero (drop i row) ≡ (is_zero (get_or row i (pos 0)) && all_zero (drop (i + 1) row))
+unfolding all_zero
+step row i h = at_drop_more all_zero row i (pos 0) h
+
+pub loop-entry-init : goal.loop-entry-init
+loop-entry-init c = refl
+
+pub returns-then-entry-ne0 : goal.returns-then-entry-ne0
+returns-then-entry-ne0 c =
+    let row = c.args.row.now in
+    let i = c.loop-entry.entry-index in
+    let here : is_zero (get_or row i (pos 0)) ≡ false = search (rules, tests) in
+    sym (rw here at (step row i c.loop-entry-test.true)) ∙ c.loop-entry.invariant
+
+pub loop-entry-preserved : goal.loop-entry-preserved
+loop-entry-preserved c =
+    let row = c.args.row.now in
+    let i = c.loop-entry.entry-index in
+    let here : is_zero (get_or row i (pos 0)) ≡ true = search (rules, tests) in
+    sym (rw here at (step row i c.loop-entry-test.true)) ∙ c.loop-entry.invariant
+
 pub returns : goal.returns
 unfolding all_zero
-returns c =
-    let row = c.args.row.now in
-    all_from_yields_List is_zero _ _ _ c.all.ensures.ran (YieldsList-from_slice row cc) (λ x b q k. search (rules, tests))
-    ∙ same_from_clauses (list_all is_zero) all_zero (λ x rest. is_zero x && rest) refl (λ _ _. refl) (λ _ _. refl) row
+returns c = sym (at_drop_all all_zero c.args.row.now c.loop-entry.entry-index c.loop-entry-test.false) ∙ c.loop-entry.invariant
