@@ -94,11 +94,11 @@ pub record LaidBefore (joins : ℕ → ℕ → Bool) (v r : ℕ) (t : List Bool)
   pub flags : (i : ℕ) → i < r → (s : ℕ) → i < s → s < v → flag_of t i s ≡ joins i s
   pub others : SetFrom (64 * r) t
 
-pub pairs_begin : (joins : ℕ → ℕ → Bool) (v : ℕ) → LaidBefore joins v 0 (replicate 4096 true)
-pairs_begin joins v = record {
-  flags = λ i l s q m. absurd (omega arith);
-  others = record { long = length-replicate 4096 true; are_set = λ j l m. get_or-replicate 4096 j true false m };
-}
+pub pairs_begin : (joins : ℕ → ℕ → Bool) (v : ℕ) {t : List Bool} → SetFrom 0 t → LaidBefore joins v 0 t
+pairs_begin joins v all = record { flags = λ i l s q m. absurd (omega arith); others = all }
+
+pub all_set : SetFrom 0 (replicate 4096 true)
+all_set = record { long = length-replicate 4096 true; are_set = λ j l m. get_or-replicate 4096 j true false m }
 
 -- ---- what is left of other flags beside them: the first s have both, and the others are as they were
 pub record BothTo (p : ℕ → Bool) (old new : List Bool) (s : ℕ) : Type 0 where

@@ -23,30 +23,31 @@ fn plus_part(size: i32, part_sizes: &[i32], p: usize) -> i32
     size + part_sizes[p]
 }
 
-// A part list begun: the positions of `bits`, `count` of them and all before `next`, whose bit is `bit`, and the sum of their sizes.
+// A part list begun: the positions of `bits`, `count` of them and all before the next, whose bit is `bit`, and the sum of their sizes.
+// Four words and no more, so that it is passed in registers.
 #[derive(Clone, Copy)]
 struct Begun {
-    next: usize,
     bit: u32,
     bits: u32,
     count: u32,
     size: i32,
 }
 
-// Lays down the lists that are begun so and go on with n positions: those that take the next one, then those that do not.
+// Lays down the lists that are begun so and go on with n positions from `next` on: those that take it, then those that do not.
 // Returns the end.
 fn lay_choices(
     sizes: &[i32],
+    next: usize,
     begun: Begun,
     n: usize,
     at: usize,
     codes: &mut [u32],
     totals: &mut [i32],
 ) -> usize
-    requires { Choosing begun.next n begun.count begun.bits begun.bit at begun.size sizes.now codes.old totals.old }
-    ensures { Chosen begun.next n begun.bits at sizes.now codes.old codes.new totals.old totals.new result }
+    requires { Choosing next n begun.count begun.bits begun.bit at begun.size sizes.now codes.old totals.old }
+    ensures { Chosen next n begun.bits at sizes.now codes.old codes.new totals.old totals.new result }
 {
-    if sizes.len() - begun.next < n {
+    if sizes.len() - next < n {
         return at;
     }
     if n == 0 {
@@ -55,18 +56,17 @@ fn lay_choices(
         return at + 1;
     }
     let passed = Begun {
-        next: begun.next + 1,
         bit: begun.bit * 2,
         ..begun
     };
     let taken = Begun {
         bits: begun.bits + begun.bit,
         count: begun.count + 1,
-        size: plus_part(begun.size, sizes, begun.next),
+        size: plus_part(begun.size, sizes, next),
         ..passed
     };
-    let mid = lay_choices(sizes, taken, n - 1, at, codes, totals);
-    lay_choices(sizes, passed, n, mid, codes, totals)
+    let mid = lay_choices(sizes, next + 1, taken, n - 1, at, codes, totals);
+    lay_choices(sizes, next + 1, passed, n, mid, codes, totals)
 }
 
 // Lays down the lists of m parts, then of m - 1, for so many lengths. Returns their number.
@@ -83,13 +83,12 @@ fn lay_lengths(
     let mut at: usize = 0;
     for i in 0..lengths {
         let none = Begun {
-            next: 0,
             bit: 1,
             bits: 0,
             count: 0,
             size: 0,
         };
-        at = lay_choices(part_sizes, none, m - i, at, codes, list_sizes);
+        at = lay_choices(part_sizes, 0, none, m - i, at, codes, list_sizes);
     }
     at
 }

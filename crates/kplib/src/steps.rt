@@ -8,7 +8,7 @@ use crate::haplotype::{lay_lists, whole_size};
 use crate::pathscore::{Chain, Scored, nothing, score_chain};
 use crate::plan::{Laid, Plan, Told};
 use crate::queue::{key, queue_extensions, read_chain, rows_size, take_next};
-use crate::vargraph::pairs_together;
+use crate::vargraph::lay_pairs;
 use metrics::kmer::entries;
 use params::{Parts, Settings, Table};
 
@@ -151,7 +151,9 @@ pub(crate) fn search(
         m: parts.sizes.len(),
         target,
     };
-    let together = pairs_together(table.starts, table.ends);
+    // laid where it stands: a copy of it would cost each search 4 KiB of stack
+    let mut together = [true; 4096];
+    lay_pairs(table.starts, table.ends, &mut together);
     keys[0] = key(0, target, 0);
     let lists = Laid {
         codes: &codes[..count],

@@ -46,15 +46,23 @@ fn lay_row(starts: &[u64], ends: &[u64], r: usize, together: &mut [bool; 4096])
     }
 }
 
-// Which pairs of rows may stand together: the flag of rows r and s, the later last, at 64 r + s.
-pub(crate) fn pairs_together(starts: &[u64], ends: &[u64]) -> [bool; 4096]
+// Which pairs of rows may stand together: the flag of rows r and s, the later last, at 64 r + s. All flags are set before.
+pub(crate) fn lay_pairs(starts: &[u64], ends: &[u64], together: &mut [bool; 4096])
+    requires { (length ends.now ≡ length starts.now) × (length starts.now ≤ 64) × (falling_start starts.now ≡ false) × SetFrom 0 together.old }
+    ensures { Together (edge starts.now ends.now) (length starts.now) together.new }
+{
+    for r in 0..starts.len() {
+        lay_row(starts, ends, r, together);
+    }
+}
+
+// The same in memory of its own.
+fn pairs_together(starts: &[u64], ends: &[u64]) -> [bool; 4096]
     requires { (length ends.now ≡ length starts.now) × (length starts.now ≤ 64) × (falling_start starts.now ≡ false) }
     ensures { Together (edge starts.now ends.now) (length starts.now) result }
 {
     let mut together = [true; 4096];
-    for r in 0..starts.len() {
-        lay_row(starts, ends, r, &mut together);
-    }
+    lay_pairs(starts, ends, &mut together);
     together
 }
 

@@ -10,6 +10,7 @@ use Rattle.metrics.proofs.Ints.{read_back}
 use Rattle.kplib.specs.Search.{haplotype_size}
 use Rattle.kplib.specs.declared.plan.Plan.{Plan}
 use Rattle.kplib.proofs.StepLaws.{going_first}
+use Rattle.kplib.proofs.TogetherLaws.{all_set}
 use Rattle.kplib.proofs.SearchedLaws.{haplotype_small, plan_is, searchable_first, searched_as}
 use Rattle.metrics.proofs.Entries.{power}
 use Rattle.kplib.proofs.steps.search.Goals.{After-whole_size-target}
@@ -34,6 +35,9 @@ planned : (c : After-whole_size-target) → ◌≡◌ {A = Plan} (record {
 }) (record { s = c.args.s; width = 4 ^ c.args.s.k; m = length c.args.parts.now.sizes.now; target = haplotype_size c.args.parts.now.sizes.now })
 planned c = plan_is c.args.s c.args.parts.now.sizes.now (width_is c) (target_is c)
 
+pub lay_pairs-requires : goal.lay_pairs-requires
+lay_pairs-requires c = (c.requires.checked.ends_are, omega (arith, c.requires.checked.sizes_are, c.requires.checked.rows.few), c.requires.rising, all_set)
+
 pub key-requires : goal.key-requires
 key-requires c =
     (omega arith, rw (target_is (goal.at.key-requires c).After-whole_size-target) (haplotype_small _ c.requires.checked.part_sized), omega arith)
@@ -53,4 +57,4 @@ run-requires c = (
 
 pub returns : goal.returns
 returns c =
-    searched_as c.requires (planned (goal.at.returns c).After-whole_size-target) c.lay_lists-count.ensures c.pairs_together-together.ensures c.run.ensures
+    searched_as c.requires (planned (goal.at.returns c).After-whole_size-target) c.lay_lists-count.ensures c.lay_pairs.ensures c.run.ensures

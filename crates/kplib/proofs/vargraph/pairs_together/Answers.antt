@@ -1,6 +1,6 @@
--- Row by row: the flags of the rows passed are laid. Assumes nothing.
-use Rattle.kplib.proofs.TogetherLaws.{pairs_begin}
+-- All flags are set before they are laid. Assumes nothing.
+use Rattle.kplib.proofs.TogetherLaws.{all_set}
 use Rattle.kplib.proofs.vargraph.pairs_together.Goals as goal
 
-pub loop-r-init : goal.loop-r-init
-loop-r-init c = pairs_begin _ _
+pub lay_pairs-requires : goal.lay_pairs-requires
+lay_pairs-requires c = (c.requires.0, c.requires.1, c.requires.2, all_set)

@@ -2,7 +2,7 @@
 use lib.ListN.{length}
 use Rattle.kplib.specs.Graph.{edge}
 use Rattle.kplib.proofs.TogetherLaws.{LaidBefore}
-use Rattle.kplib.proofs.vargraph.pairs_together.Given as goal
+use Rattle.kplib.proofs.vargraph.lay_pairs.Given as goal
 
 abbrev pub invariant-loop-r : goal.invariant-loop-r
 invariant-loop-r l = LaidBefore (edge l.starts l.ends) (length l.starts) l.r l.together
