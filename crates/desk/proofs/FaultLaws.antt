@@ -1,12 +1,12 @@
--- No fault of the form has the number 30: a reader that gives it has found the form good and its room too small. A form in good order has 1 to 16 haplotypes.
-use Prim.Native.Nat.{ℕ, zero, suc, ◌+◌, ◌≤◌}
+-- The faults of the form have numbers below 30, each that of a refusal: a reader that gives it has found the form good and its room too small. A form in good order has 1 to 16 haplotypes.
+use Prim.Native.Nat.{ℕ, zero, suc, ◌+◌, ◌≤◌, ◌<◌}
 use native.Mathlib.Omega.{arith}
-use mathlib.Core.Path.{◌≡◌, refl, sym, ap, subst, ◌∙◌}
+use mathlib.Core.Path.{◌≡◌, refl, sym, ap, subst}
 use mathlib.Core.Bool.{Bool, true, false, cond, not, ◌&&◌}
 use mathlib.Core.List.{List, [], ◌∷◌}
 use lib.Dec.{ltb, leb, eqb}
 use lib.ListN.{length}
-use borrow.Author.Tests.{eqb-true, leb-false}
+use borrow.Author.Tests.{eqb-true, eqb-false, leb-false}
 use Rattle.form.specs.declared.records.State.{State}
 use Rattle.form.specs.declared.records.Counts.{Counts}
 use Rattle.std.specs.Prelude.{Result, Ok, Err}
@@ -21,36 +21,39 @@ use Rattle.form.proofs.NumberLaws.{held_good, held_job}
 use Rattle.form.proofs.HaplotypeLaws.{some_haplotype}
 
 abbrev Low : Result Counts Refusal → Type 0
-Low (Err refusal) = refusal_number refusal ≡ 30 → ⊥
+Low (Err refusal) = refusal_number refusal < 30
 Low (Ok c) = c.breaks ≤ 15
 
--- the number of a refusal, and of another one than 30
+-- the number of a refusal, and below 30
 abbrev LowRead : Read → Type 0
-LowRead (Faulty n) = (refusal_number (refusal_of n) ≡ n) × (n ≡ 30 → ⊥)
+LowRead (Faulty n) = (refusal_number (refusal_of n) ≡ n) × (n < 30)
 LowRead (Held job) = Unit {0}
 
--- the refusal of this number is another one than 30
+-- the refusal of this number, if it is one, has a number below 30
 record Fine (n : ℕ) : Type 0 where
-  other : refusal_number (refusal_of n) ≡ 30 → ⊥
+  below : (n ≡ 0 → ⊥) → refusal_number (refusal_of n) < 30
 
 either : (t : Bool) {a b : ℕ} → Fine a → Fine b → Fine (cond t a b)
 either true p q = p
 either false p q = q
 
-fine : (n : ℕ) {m : ℕ} → refusal_number (refusal_of n) ≡ m → (m ≡ 30 → ⊥) → Fine n
-fine n is h = record { other = λ e. h (sym is ∙ e) }
+fine : (n : ℕ) {m : ℕ} → refusal_number (refusal_of n) ≡ m → m < 30 → Fine n
+fine n is h = record { below = λ some. subst (λ (m : ℕ). m < 30) (sym is) h }
+
+no_fault : Fine 0
+no_fault = record { below = λ some. absurd (some refl) }
 
 fault_low : (st : State) (kind : Kind) (b : List ℕ) → Fine (fault_of st kind b)
 unfolding fault_of
 fault_low st kind b =
-    either (is_unknown kind) (fine 20 {m = 20} refl (λ e. omega arith))
-    (either (ltb (length b) (body_len kind)) (fine 21 {m = 21} refl (λ e. omega arith))
-    (either (not (in_place st kind)) (fine 22 {m = 22} refl (λ e. omega arith))
-    (either (too_many st kind) (fine 27 {m = 27} refl (λ e. omega arith))
-    (either (not (flags_ok kind b)) (fine 24 {m = 24} refl (λ e. omega arith))
-    (either (ltb 131072 (count_of kind b)) (fine 13 {m = 13} refl (λ e. omega arith))
-    (either (not (pad_ok st kind b)) (fine 23 {m = 23} refl (λ e. omega arith))
-    (either (is_end kind && ltb 0 (length b)) (fine 25 {m = 25} refl (λ e. omega arith)) (fine 0 {m = 54} refl (λ e. omega arith)))))))))
+    either (is_unknown kind) (fine 20 {m = 20} refl (omega arith))
+    (either (ltb (length b) (body_len kind)) (fine 21 {m = 21} refl (omega arith))
+    (either (not (in_place st kind)) (fine 22 {m = 22} refl (omega arith))
+    (either (too_many st kind) (fine 27 {m = 27} refl (omega arith))
+    (either (not (flags_ok kind b)) (fine 24 {m = 24} refl (omega arith))
+    (either (ltb 131072 (count_of kind b)) (fine 13 {m = 13} refl (omega arith))
+    (either (not (pad_ok st kind b)) (fine 23 {m = 23} refl (omega arith))
+    (either (is_end kind && ltb 0 (length b)) (fine 25 {m = 25} refl (omega arith)) no_fault)))))))
 
 -- a record without a fault is not the sixteenth break
 not_late : (a b c d : Bool) (rest : ℕ) → ◌≡◌ {A = ℕ} (cond a 20 (cond b 21 (cond c 22 (cond d 27 rest)))) 0 → d ≡ false
@@ -76,11 +79,11 @@ judge_low f kind st rest h few low = go (eqb f 0) (is_end kind) refl
     go : (none last : Bool) → eqb f 0 ≡ none → Low (cond none (cond last (Ok (counted st)) rest) (Err (refusal_of f)))
     go true true e = few
     go true false e = low (eqb-true f 0 e)
-    go false last e = h.other
+    go false last e = h.below (eqb-false f 0 e)
 
 run_low : (s : List ℕ) (n : ℕ) (st : State) → st.breaks ≤ 15 → Low (run s n st)
 unfolding run
-run_low [] n st few = λ e. omega arith
+run_low [] n st few = omega arith
 run_low (k ∷ b) (suc n) st few = run_low b n st few
 run_low (k ∷ b) zero st few =
     judge_low (fault_of st (kind_of k) b) (kind_of k) st (run b (body_len (kind_of k)) (after st (kind_of k) b)) (fault_low st (kind_of k) b) few
@@ -94,7 +97,7 @@ job_low : (input : List ℕ) → LowRead (read_job input)
 unfolding read_job
 job_low input = read_low (run input 0 outset) (job_of input) (run_low input 0 outset (omega arith))
 
-pub form_fault : (input : List ℕ) (n : ℕ) → read_job input ≡ Faulty n → (refusal_number (refusal_of n) ≡ n) × (n ≡ 30 → ⊥)
+pub form_fault : (input : List ℕ) (n : ℕ) → read_job input ≡ Faulty n → (refusal_number (refusal_of n) ≡ n) × (n < 30)
 form_fault input n e = subst LowRead e (job_low input)
 
 module _ (input : List ℕ) (job : Job) (held : read_job input ≡ Held job) where

@@ -1,6 +1,6 @@
 -- What reading into the program's arrays answers. A form of at most 32,768 bytes has fewer letters, and 16 haplotypes of at most 8 parts have at most 128, so
 -- the room is too small only for over 16 variants or over 8 parts in a haplotype: the reader's 30 is the program's 26. Any other job is read whole, and the fronts of the arrays are its lists.
-use Prim.Native.Nat.{ℕ, ◌^◌, ◌≤◌}
+use Prim.Native.Nat.{ℕ, ◌^◌, ◌≤◌, ◌<◌}
 use native.Mathlib.Omega.{arith}
 use mathlib.Core.Path.{◌≡◌, refl, sym, ap, subst, ◌∙◌}
 use mathlib.Core.Bool.{Bool, true, false, cond}
@@ -158,7 +158,8 @@ module _ (input : List ℕ) (short : length input ≤ 32768) (t : Lent) (room : 
   declined_as (Faulty m) r refusal e =
       let z : refusal ≡ refusal_of m = cc in
       let h = form_fault input m r in
-      rw (ap refusal_number z ∙ h.0) (ap refused_text (sym (told_other m h.1)))
+      let below : m < 30 = h.1 in
+      rw (ap refusal_number z ∙ h.0) (ap refused_text (sym (told_other m (λ e. omega arith))))
   declined_as (Held job) r refusal e = declined_held job r refusal (has_room (job_counts job) t) refl e
 
   given_as : (q : Read) → read_job input ≡ q → (s : Settings) (c : Counts) → Ok (s, c) ≡ reading_of q t → JobRead s c
