@@ -1,14 +1,14 @@
 -- What the two walks do at each record: the rest from here and what is done come to the whole. Assumes nothing.
 use Prim.Native.Nat.{ℕ, suc, ◌+◌, ◌-◌, ◌%◌, ◌/◌, ◌≤◌, ◌<◌, min}
 use native.Mathlib.Omega.{arith}
+use native.Mathlib.Numerals.{add-one}
 use mathlib.Core.Path.{◌≡◌, refl, sym, ap, ◌∙◌}
 use mathlib.Core.Bool.{Bool, true, false, cond, not, ◌&&◌, ◌||◌}
-use mathlib.Core.List.{List, [], ◌∷◌, ◌++◌, append_assoc}
+use mathlib.Core.List.{List, [], ◌∷◌, ◌++◌}
 use mathlib.Core.Logic.{⊎_elim}
 use lib.Dec.{ltb, leb, eqb}
 use lib.ListN.{length, get_or, take, drop, set, length-append, length-take, drop_of_length-le}
-use lib.Seq.{sets, sets-eq, drop-cons, drop-drop, take_all}
-use borrow.Rule.Slice.PartMut.{put_mid}
+use lib.Seq.{sets, sets-eq, drop-cons, drop-drop, get_or-take, length-take-le, take_all}
 use borrow.Author.Tests.{le-ltb, lt-ltb, leb-true, leb-false}
 use Rattle.fields.specs.Fields.{le4, bytes2, bytes4}
 use Rattle.fields.proofs.FieldLaws.{sets_append}
@@ -97,12 +97,23 @@ module _ (s : List ℕ) (at row : ℕ) where
         → off_row next (gather number_here (drop here.next s) 0) ≡ off_row row (gather number_here (drop at s) 0)
     off_more next h e = sym (off_here ∙ rw (h, sym e))
 
--- ---- a stretch that now holds other bytes, as many
-pub part_stored : (at k : ℕ) (old : List ℕ) {part xs : List ℕ} → at + k ≤ length old → length xs ≡ k → part ≡ xs → put_mid at k old part ≡ sets old at xs
-part_stored at k old {part} {xs} room n e =
-    ap (λ (m : List ℕ). take at old ++ (m ++ drop k (drop at old))) e
-    ∙ (ap (λ (m : List ℕ). take at old ++ (xs ++ m)) (drop-drop k at old ∙ ap (λ (j : ℕ). drop (at + j) old) (sym n))
-    ∙ (sym (append_assoc (take at old) xs (drop (at + length xs) old)) ∙ sym (sets-eq xs old at (omega arith))))
+-- ---- bytes copied one by one
+module _ (b : List ℕ) (n at : ℕ) (out : List ℕ) where
+  pub copy_start : sets out (at + 0) (drop 0 (take n b)) ≡ sets out at (take n b)
+  copy_start = let h : at + 0 ≡ at = omega arith in rw h
+
+  pub copy_more : (i : ℕ) → i < n → n ≤ length b
+      → sets (set out (at + i) (get_or b i 0)) (at + (i + 1)) (drop (i + 1) (take n b)) ≡ sets out (at + i) (drop i (take n b))
+  copy_more i h l =
+      let f : at + suc i ≡ suc (at + i) = omega arith in
+      let inside : i < length (take n b) = rw (length-take-le n b l) h in
+      rw (add-one i, f) (sym (ap (λ (q : List ℕ). sets out (at + i) q) (drop-cons (take n b) i 0 inside) ∙ rw (get_or-take n b i 0 h)))
+
+  pub copy_done : (i : ℕ) → n ≤ i → n ≤ length b → sets out (at + i) (drop i (take n b)) ≡ out
+  copy_done i h l = let g : length (take n b) ≤ i = rw (length-take-le n b l) h in rw (drop_of_length-le (take n b) {i = i} g)
+
+pub copy_next : (b : List ℕ) (n at : ℕ) → n ≤ length b → at + n ≡ at + length (take n b)
+copy_next b n at l = rw (length-take-le n b l)
 
 -- as many bytes as there are
 pub take_smaller : (m : ℕ) (b : List ℕ) → take (min m (length b)) b ≡ take m b

@@ -106,12 +106,14 @@ pub(crate) fn off_row(s: &[u8]) -> bool
     false
 }
 
-// The first n bytes of b, from position `at` on. Returns the position behind them.
+// The first n bytes of b, from position `at` on. Returns the position behind them. One by one: copy_from_slice would need memmove from outside the archive.
 fn copy(b: &[u8], n: usize, out: &mut [u8], at: usize) -> usize
     requires { (n ≤ length b.now) × (at + n ≤ length out.old) }
     ensures { Put out.old out.new at result (take n b.now) }
 {
-    out[at..at + n].copy_from_slice(&b[..n]);
+    for i in 0..n {
+        out[at + i] = b[i];
+    }
     at + n
 }
 
